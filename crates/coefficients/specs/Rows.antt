@@ -1,0 +1,147 @@
+-- The coefficients of a stage's row: orthogonal.rs, and `run_rkc` of chebyshev.rs, operations in the Rust's order. Document 01, "RKL and RKG rows".
+use Prim.Native.Nat.{ℕ, zero, suc, _+_, _-_, _*_, _/_}
+use mathlib.Core.Bool.{cond}
+use lib.Dec.{leb}
+use lib.Ieee.{Float, neg}
+use Rattle.ieee.specs.Double.{_⊕_, _⊖_, _⊗_, _⊘_, double, square, nought, one, two, three, four, six, thirteen}
+use Rattle.family.specs.Family.{Family, RKC, RKL1, RKL2, RKG1, RKG2}
+use Rattle.coefficients.specs.Table.{omega}
+use Rattle.coefficients.specs.declared.Coefficients.{Coefficients}
+use Rattle.coefficients.specs.declared.Recurrence.{Recurrence}
+use Rattle.coefficients.specs.declared.Polynomials.{Polynomials}
+
+-- ---- omega_zero and omega_one
+
+unfoldable pub omega-zero : ℕ → Float
+omega-zero s = one ⊕ two ⊘ thirteen ⊘ square (double s)
+
+unfoldable pub omega-one-of : Family → ℕ → Float
+omega-one-of RKC s = omega s
+omega-one-of RKL1 s = two ⊘ (square (double s) ⊕ double s)
+omega-one-of RKL2 s = four ⊘ (square (double s) ⊕ double s ⊖ two)
+omega-one-of RKG1 s = four ⊘ (double s ⊗ (double s ⊕ three))
+omega-one-of RKG2 s = six ⊘ ((double s ⊕ four) ⊗ (double s ⊖ one))
+
+unfoldable pub b-first : ℕ → Float
+b-first s = one ⊘ square (two ⊗ omega-zero s)
+
+unfoldable pub first-mu-tilde : Family → ℕ → Float
+first-mu-tilde RKC s = omega s ⊗ b-first s
+first-mu-tilde RKL1 s = omega-one-of RKL1 s
+first-mu-tilde RKL2 s = omega-one-of RKL2 s ⊘ three
+first-mu-tilde RKG1 s = omega-one-of RKG1 s
+first-mu-tilde RKG2 s = omega-one-of RKG2 s
+
+unfoldable pub first-polynomials : ℕ → Polynomials
+first-polynomials s = record {
+  «b_previous» = b-first s;
+  «b_previous_two» = b-first s;
+  «value_previous» = omega-zero s;
+  «value_previous_two» = one;
+  «first_previous» = one;
+  «first_previous_two» = nought;
+  «second_previous» = nought;
+  «second_previous_two» = nought;
+}
+
+-- before stage 2
+unfoldable pub recurrence : Family → ℕ → Recurrence
+recurrence f s = record { «theta_previous» = first-mu-tilde f s; «theta_previous_two» = nought; polynomials = first-polynomials s }
+
+-- ---- b
+
+unfoldable pub legendre-two-b : ℕ → Float
+legendre-two-b j = let x = double j in
+    cond (leb j 2) (one ⊘ three) ((x ⊗ x ⊕ x ⊖ two) ⊘ (two ⊗ x ⊗ (x ⊕ one)))
+
+unfoldable pub gegenbauer-one-b : ℕ → Float
+gegenbauer-one-b j = two ⊘ double ((j + 1) * (j + 2))
+
+unfoldable pub gegenbauer-two-b : ℕ → Float
+gegenbauer-two-b zero = one
+gegenbauer-two-b (suc zero) = one ⊘ three
+gegenbauer-two-b (suc (suc i)) = let x = double (suc (suc i)) in
+    four ⊗ (x ⊖ one) ⊗ (x ⊕ four) ⊘ (three ⊗ x ⊗ (x ⊕ one) ⊗ (x ⊕ two) ⊗ (x ⊕ three))
+
+-- ---- the row of stage j
+
+-- theta, where the derivatives stand apart: RKL and RKG
+unfoldable pub with-theta : Recurrence → Float → Float → Float → Float → Coefficients
+with-theta c mu nu mu~ gamma~ = let theta = mu ⊗ c .«theta_previous» ⊕ nu ⊗ c .«theta_previous_two» ⊕ mu~ ⊕ gamma~ in
+    record { mu = mu; nu = nu; «mu_tilde» = mu~; «gamma_tilde» = gamma~; theta = theta }
+
+unfoldable pub legendre-one : Float → ℕ → Recurrence → Coefficients
+legendre-one w j c = let x = double j in let mu = (two ⊗ x ⊖ one) ⊘ x in
+    with-theta c mu (neg (x ⊖ one) ⊘ x) (mu ⊗ w) (nought)
+
+unfoldable pub legendre-two : Float → ℕ → Recurrence → Coefficients
+legendre-two w j c = let x = double j in let b = legendre-two-b j in
+    let mu = (two ⊗ x ⊖ one) ⊘ x ⊗ b ⊘ legendre-two-b (j - 1) in
+    let mu~ = mu ⊗ w in
+    with-theta c mu (neg (x ⊖ one) ⊘ x ⊗ b ⊘ legendre-two-b (j - 2)) mu~ (neg (one ⊖ legendre-two-b (j - 1)) ⊗ mu~)
+
+unfoldable pub gegenbauer-one : Float → ℕ → Recurrence → Coefficients
+gegenbauer-one w j c = let x = double j in let b = gegenbauer-one-b j in
+    let mu = (two ⊗ x ⊕ one) ⊘ x ⊗ b ⊘ gegenbauer-one-b (j - 1) in
+    with-theta c mu (neg (x ⊕ one) ⊘ x ⊗ b ⊘ gegenbauer-one-b (j - 2)) (mu ⊗ w) (nought)
+
+unfoldable pub gegenbauer-two : Float → ℕ → Recurrence → Coefficients
+gegenbauer-two w j c = let x = double j in let b = gegenbauer-two-b j in
+    let mu = (two ⊗ x ⊕ one) ⊘ x ⊗ b ⊘ gegenbauer-two-b (j - 1) in
+    let mu~ = mu ⊗ w in
+    with-theta c mu (neg (x ⊕ one) ⊘ x ⊗ b ⊘ gegenbauer-two-b (j - 2)) mu~ (neg mu~ ⊗ (one ⊖ double (j * (j + 1) / 2) ⊗ gegenbauer-two-b (j - 1)))
+
+-- RKC: the polynomial of this stage, its derivatives, and b
+unfoldable pub value-of : Float → Polynomials → Float
+value-of w p = two ⊗ w ⊗ p .«value_previous» ⊖ p .«value_previous_two»
+
+unfoldable pub first-of : Float → Polynomials → Float
+first-of w p = two ⊗ w ⊗ p .«first_previous» ⊖ p .«first_previous_two» ⊕ two ⊗ p .«value_previous»
+
+unfoldable pub second-of : Float → Polynomials → Float
+second-of w p = two ⊗ w ⊗ p .«second_previous» ⊖ p .«second_previous_two» ⊕ four ⊗ p .«first_previous»
+
+unfoldable pub b-of : Float → Polynomials → Float
+b-of w p = second-of w p ⊘ square (first-of w p)
+
+unfoldable pub chebyshev : ℕ → Recurrence → Coefficients
+chebyshev s c = let w = omega-zero s in
+    let p = c .polynomials in
+    let b = b-of w p in
+    let nu~ = one ⊖ p .«value_previous» ⊗ p .«b_previous» in
+    let mu = two ⊗ w ⊗ b ⊘ p .«b_previous» in
+    let nu = neg b ⊘ p .«b_previous_two» in
+    let mu~ = mu ⊗ omega s ⊘ w in
+    let theta = mu ⊗ c .«theta_previous» ⊕ nu ⊗ c .«theta_previous_two» ⊕ mu~ ⊗ (one ⊖ nu~) in
+    record { mu = mu; nu = nu; «mu_tilde» = mu~; «gamma_tilde» = nu~; theta = theta }
+
+unfoldable pub coefficients : Family → ℕ → ℕ → Recurrence → Coefficients
+coefficients RKC s j c = chebyshev s c
+coefficients RKL1 s j c = legendre-one (omega-one-of RKL1 s) j c
+coefficients RKL2 s j c = legendre-two (omega-one-of RKL2 s) j c
+coefficients RKG1 s j c = gegenbauer-one (omega-one-of RKG1 s) j c
+coefficients RKG2 s j c = gegenbauer-two (omega-one-of RKG2 s) j c
+
+-- ---- on to the next stage
+
+unfoldable pub polynomials-on : Float → Polynomials → Polynomials
+polynomials-on w p = record {
+  «b_previous» = b-of w p;
+  «b_previous_two» = p .«b_previous»;
+  «value_previous» = value-of w p;
+  «value_previous_two» = p .«value_previous»;
+  «first_previous» = first-of w p;
+  «first_previous_two» = p .«first_previous»;
+  «second_previous» = second-of w p;
+  «second_previous_two» = p .«second_previous»;
+}
+
+unfoldable pub next-polynomials : Family → ℕ → Polynomials → Polynomials
+next-polynomials RKC s p = polynomials-on (omega-zero s) p
+next-polynomials RKL1 s p = p
+next-polynomials RKL2 s p = p
+next-polynomials RKG1 s p = p
+next-polynomials RKG2 s p = p
+
+unfoldable pub next : Family → ℕ → Recurrence → Coefficients → Recurrence
+next f s c row = record { «theta_previous» = row .theta; «theta_previous_two» = c .«theta_previous»; polynomials = next-polynomials f s (c .polynomials) }

@@ -1,0 +1,1 @@
+// family.rs: the families, their permitted stage counts and their stage rules.

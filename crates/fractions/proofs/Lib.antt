@@ -1,0 +1,6 @@
+pub mod Int
+pub mod Ring
+pub mod FracLaws
+pub mod Combine
+pub mod NatRing
+pub mod Order

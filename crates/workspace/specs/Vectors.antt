@@ -1,0 +1,85 @@
+-- The area's vectors by name: workspace.rs's nine in its order, then a copy of the state, then the candidate. Document 01, "one lent area".
+use Prim.Native.Nat.{ℕ, zero, suc, _*_}
+use mathlib.Core.Bool.{Bool, true, cond, _&&_}
+use mathlib.Core.List.{List, [], _∷_, _++_, foldl}
+use lib.Dec.{eqb}
+use lib.ListN.{take, drop, getD}
+use lib.Ieee.{Float, nan}
+use lib.Ieee.Scale.{finite}
+use Rattle.ieee.specs.Double.{_⊕_, _⊘_, nought, one, square}
+use Rattle.ieee.specs.Sqrt.{sqrt}
+use Rattle.family.specs.Family.{Family, RKC, RKL1, RKL2, RKG1, RKG2}
+
+pub data Vector : Type 0 where
+  first-derivative last-derivative derivative previous-two previous-one next-stage : Vector
+  eigenvector perturbed-state perturbed-derivative state candidate : Vector
+
+abbrev pub number : Vector → ℕ
+number first-derivative = 0
+number last-derivative = 1
+number derivative = 2
+number previous-two = 3
+number previous-one = 4
+number next-stage = 5
+number eigenvector = 6
+number perturbed-state = 7
+number perturbed-derivative = 8
+number state = 9
+number candidate = 10
+
+-- how many vectors the area of a family has
+unfoldable pub vector-count : Family → ℕ
+vector-count RKC = 11
+vector-count RKL1 = 11
+vector-count RKL2 = 11
+vector-count RKG1 = 11
+vector-count RKG2 = 11
+
+abbrev pub Vectors : Type 0
+Vectors = Vector → List Float
+
+-- one vector written, the others left
+infixl 10 _with_≔_
+abbrev pub _with_≔_ : Vectors → Vector → List Float → Vectors
+(v with a ≔ x) b = cond (eqb (number a) (number b)) x (v b)
+
+-- the area: the vectors one after the other, each n long
+unfoldable pub unpack : ℕ → List Float → Vectors
+unpack n area a = take n (drop (number a * n) area)
+
+abbrev pub in-order : Vectors → List (List Float)
+in-order v =
+    v first-derivative ∷ v last-derivative ∷ v derivative ∷ v previous-two ∷ v previous-one ∷ v next-stage
+    ∷ v eigenvector ∷ v perturbed-state ∷ v perturbed-derivative ∷ v state ∷ v candidate ∷ []
+
+abbrev pub join : List (List Float) → List Float
+join [] = []
+join (x ∷ xs) = x ++ join xs
+
+unfoldable pub pack : Vectors → List Float
+pack v = join (in-order v)
+
+-- f i, f (i + 1), .., n of them
+abbrev pub tabulate : (ℕ → Float) → ℕ → ℕ → List Float
+tabulate f i zero = []
+tabulate f i (suc n) = f i ∷ tabulate f (suc i) n
+
+-- a vector worked out index by index: f is handed the column, the vectors' elements at one index
+unfoldable pub each : ℕ → Vectors → ((Vector → Float) → Float) → List Float
+each n v f = tabulate (λ i. f (λ a. getD (v a) i nan)) 0 n
+
+-- sums run in index order, from +0.0
+unfoldable pub sum-of-squares : List Float → Float
+sum-of-squares xs = foldl (λ t x. t ⊕ square x) nought xs
+
+-- the root of the sum of squares, over a divisor
+unfoldable pub root-of-squares : Float → List Float → Float
+root-of-squares divisor xs = sqrt (sum-of-squares xs ⊘ divisor)
+
+-- `vector_norm` (x / 1 is x, for every double)
+unfoldable pub vector-norm : List Float → Float
+vector-norm xs = root-of-squares one xs
+
+unfoldable pub all-finite : List Float → Bool
+all-finite [] = true
+all-finite (x ∷ xs) = finite x && all-finite xs
