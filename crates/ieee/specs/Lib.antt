@@ -1,3 +1,4 @@
 pub mod Double
 pub mod Sqrt
 pub mod Whole
+pub mod Close
