@@ -1,0 +1,349 @@
+-- The calls, one after another: what each answers, and what it leaves of record, counters and area. Document 01, "driver.rs: the calls" and "When a call is turned away".
+use Prim.Native.Nat.{ℕ, suc, _+_, _-_, _*_, _^_}
+use mathlib.Core.Bool.{Bool, true, false, cond, not, _&&_, _||_}
+use mathlib.Core.List.{List}
+use lib.Dec.{leb, ltb, eqb}
+use lib.ListN.{length, replicate}
+use lib.Ieee.{Float, eq, lt}
+use lib.Ieee.Scale.{finite}
+use Rattle.ieee.specs.Double.{_⊕_, _⊗_, nought}
+use Rattle.family.specs.Family.{Family, known, family-of, stage-count, permitted}
+use Rattle.coefficients.specs.declared.Recurrence.{Recurrence}
+use Rattle.coefficients.specs.Rows.{recurrence, coefficients, next}
+use Rattle.workspace.specs.declared.Arguments.{Arguments}
+use Rattle.workspace.specs.Vectors.{Vector, Vectors, _with_≔_, number, vector-count, unpack, pack, all-finite, first-derivative, last-derivative, previous-one, eigenvector, perturbed-state, state, candidate}
+use Rattle.workspace.specs.Kernel.{with-direction, perturbation-of, perturbed, turned, radius-of, ended, scaled, first-stage, with-row, exchanged, with-candidate, with-last, error-norm}
+use Rattle.driver.specs.declared.Phase.{Phase}
+use Rattle.driver.specs.declared.Phase.the-variants as P
+use Rattle.driver.specs.declared.Iteration.{Iteration}
+use Rattle.driver.specs.declared.Staging.{Staging}
+use Rattle.driver.specs.declared.Record.{Record}
+use Rattle.driver.specs.declared.Counters.{Counters}
+use Rattle.driver.specs.declared.Need.{Need}
+use Rattle.driver.specs.declared.Need.the-variants.{Met, Unmet}
+use Rattle.driver.specs.declared.Answer.{Answer}
+use Rattle.driver.specs.declared.Answer.the-variants.{Evaluate, Finished, Ready, Refused, Empty}
+
+-- what the caller holds between two calls
+pub record Held : Type 0 where
+  pub kept : Record
+  pub counters : Counters
+  pub area : List Float
+
+pub record Called : Type 0 where
+  pub answer : Answer
+  pub held : Held
+
+-- ---- the record in another phase, and further on
+
+unfoldable pub in-phase : Phase → Record → Record
+in-phase p r = record { family = r .family; n = r .n; phase = p; arguments = r .arguments; iteration = r .iteration; staging = r .staging }
+
+unfoldable pub at-time : Float → Arguments → Arguments
+at-time t a = record { time = t; step = a .step; «absolute_tolerance» = a .«absolute_tolerance»; «relative_tolerance» = a .«relative_tolerance»; adaptive = a .adaptive }
+
+-- waiting for the derivative of a state that is kept at this time
+unfoldable pub first-at : Phase → ℕ → ℕ → Float → Record → Record
+first-at p f n t r = record { family = f; n = n; phase = p; arguments = at-time t (r .arguments); iteration = r .iteration; staging = r .staging }
+
+unfoldable pub at-pass : Arguments → ℕ → Float → Float → Record → Record
+at-pass a k perturbation previous r = let i : Iteration = record { pass = k; perturbation = perturbation; «previous_radius» = previous; «scaled_radius» = nought } in
+    record { family = r .family; n = r .n; phase = P.Pass; arguments = a; iteration = i; staging = r .staging }
+
+-- the iteration has found the scaled radius
+unfoldable pub with-radius : Float → Record → Record
+with-radius radius r = let i : Iteration = record { pass = r .iteration .pass; perturbation = r .iteration .perturbation; «previous_radius» = r .iteration .«previous_radius»; «scaled_radius» = radius } in
+    record { family = r .family; n = r .n; phase = r .phase; arguments = r .arguments; iteration = i; staging = r .staging }
+
+unfoldable pub at-stage : ℕ → ℕ → Recurrence → Record → Record
+at-stage s j c r = let g : Staging = record { stages = s; stage = j; recurrence = c } in
+    record { family = r .family; n = r .n; phase = P.Stage; arguments = r .arguments; iteration = r .iteration; staging = g }
+
+-- ---- a reply that is not turned away: by the phase, what comes next
+
+-- an answer, the record and the vectors
+pub record Step : Type 0 where
+  pub answer : Answer
+  pub kept : Record
+  pub vectors : Vectors
+
+abbrev pub step-to : Answer → Record → Vectors → Step
+step-to a r v = record { answer = a; kept = r; vectors = v }
+
+-- the derivative d of the kept state
+unfoldable pub take-first : Record → Vectors → List Float → Step
+take-first r v d = step-to Ready (in-phase P.Ready r) (v with first-derivative ≔ d)
+
+unfoldable pub take-callback : Record → Vectors → List Float → Step
+take-callback r v d = step-to Ready (in-phase P.Ready r) (v with first-derivative ≔ d with eigenvector ≔ replicate (r .n) nought)
+
+unfoldable pub ask-pass : Record → Vectors → Step
+ask-pass r v = step-to (Evaluate (r .arguments .time) (number perturbed-state)) r (perturbed (r .n) (r .iteration .perturbation) v)
+
+unfoldable pub ask-stage : Record → Vectors → Step
+ask-stage r v = let a = r .arguments in
+    step-to (Evaluate (a .time ⊕ a .step ⊗ r .staging .recurrence .«theta_previous») (number previous-one)) r v
+
+-- how many stages this scaled radius takes (here every need is met)
+unfoldable pub stage-need : Family → Float → Need
+stage-need f radius = Met (stage-count f radius)
+
+-- the stages begin; or the need is refused: the iteration's work is kept, the phase is empty and all else stands
+unfoldable pub by-need : Need → Record → Vectors → Float → Step
+by-need (Met s) r v radius = let c = recurrence (family-of (r .family)) s in
+    ask-stage (at-stage s 2 c (with-radius radius r)) (first-stage (r .n) (r .arguments .step) (c .«theta_previous») v)
+by-need (Unmet i) r v radius = step-to (Refused i) (in-phase P.Empty r) v
+
+unfoldable pub begin-stages : Record → Vectors → Float → Step
+begin-stages r v radius = by-need (stage-need (family-of (r .family)) radius) r v radius
+
+unfoldable pub take-pass : Record → Vectors → List Float → Step
+take-pass r v d = let w = turned (r .n) v d in
+    let i = r .iteration in
+    let radius = radius-of (i .perturbation) w in
+    cond (ended (i .pass) (i .«previous_radius») radius || eqb (i .pass) 12)
+    (begin-stages r w (scaled (r .arguments .step) radius))
+    (ask-pass (at-pass (r .arguments) (i .pass + 1) (i .perturbation) radius r) w)
+
+unfoldable pub ask-candidate : Record → Vectors → Step
+ask-candidate r v = let a = r .arguments in
+    cond (all-finite (v candidate))
+    (step-to (Evaluate (a .time ⊕ a .step) (number candidate)) (in-phase P.Candidate r) v)
+    (step-to (Refused 10) (in-phase P.Empty r) v)
+
+unfoldable pub take-stage : Record → Vectors → List Float → Step
+take-stage r v d = let f = family-of (r .family) in
+    let s = r .staging .stages in
+    let j = r .staging .stage in
+    let row = coefficients f s j (r .staging .recurrence) in
+    let w = with-row f (r .n) (r .arguments .step) row v d in
+    cond (ltb j s)
+    (ask-stage (at-stage s (j + 1) (next f s (r .staging .recurrence) row) r) (exchanged w))
+    (ask-candidate r (with-candidate w))
+
+unfoldable pub take-candidate : Record → Vectors → List Float → Step
+take-candidate r v d = let f = family-of (r .family) in
+    let w = with-last f (r .n) (r .arguments) v d in
+    step-to (Finished (error-norm f (r .n) (r .staging .stages) (r .arguments) w)) (in-phase P.Finished r) w
+
+-- (the phases with no evaluation pending are turned away before)
+unfoldable pub replied : Phase → Record → Vectors → List Float → Step
+replied P.Empty = take-first
+replied P.First = take-first
+replied P.Ready = take-first
+replied P.Pass = take-pass
+replied P.Stage = take-stage
+replied P.Candidate = take-candidate
+replied P.Finished = take-first
+replied P.Callback = take-callback
+
+-- ---- the tests, by number: 1 family, 2 n, 3 lengths, 4 phase and position, 5 state, 6 time and step, 7 tolerances, 8 counters, 9 derivative, 10 candidate
+
+unfoldable pub sized : ℕ → Bool
+sized n = leb 1 n && leb n 512
+
+unfoldable pub whole-area : ℕ → ℕ → List Float → Bool
+whole-area f n area = eqb (length area) (vector-count (family-of f) * n)
+
+unfoldable pub as-long : ℕ → List Float → Bool
+as-long n v = eqb (length v) n
+
+unfoldable pub pending : Phase → Bool
+pending P.Empty = false
+pending P.First = true
+pending P.Ready = false
+pending P.Pass = true
+pending P.Stage = true
+pending P.Candidate = true
+pending P.Finished = false
+pending P.Callback = true
+
+-- what a phase uses of the record is in range: the pass, s, the stage
+unfoldable pub in-range : Phase → Record → Bool
+in-range P.Empty r = true
+in-range P.First r = true
+in-range P.Ready r = true
+in-range P.Pass r = leb 1 (r .iteration .pass) && leb (r .iteration .pass) 12
+in-range P.Stage r = permitted (family-of (r .family)) (r .staging .stages) && (leb 2 (r .staging .stage) && leb (r .staging .stage) (r .staging .stages))
+in-range P.Candidate r = permitted (family-of (r .family)) (r .staging .stages)
+in-range P.Finished r = true
+in-range P.Callback r = true
+
+unfoldable pub awaiting : Record → Bool
+awaiting r = pending (r .phase) && in-range (r .phase) r
+
+unfoldable pub may-attempt : Phase → Bool
+may-attempt P.Empty = false
+may-attempt P.First = false
+may-attempt P.Ready = true
+may-attempt P.Pass = false
+may-attempt P.Stage = false
+may-attempt P.Candidate = false
+may-attempt P.Finished = true
+may-attempt P.Callback = false
+
+unfoldable pub may-accept : Phase → Bool
+may-accept P.Empty = false
+may-accept P.First = false
+may-accept P.Ready = false
+may-accept P.Pass = false
+may-accept P.Stage = false
+may-accept P.Candidate = false
+may-accept P.Finished = true
+may-accept P.Callback = false
+
+unfoldable pub good-times : Arguments → Bool
+good-times a = finite (a .time) && (finite (a .step) && not (eq (a .step) nought))
+
+unfoldable pub good-tolerance : Float → Bool
+good-tolerance x = finite x && lt nought x
+
+unfoldable pub good-tolerances : Arguments → Bool
+good-tolerances a = good-tolerance (a .«absolute_tolerance») && good-tolerance (a .«relative_tolerance»)
+
+-- room in a 64 bit counter
+unfoldable pub room : ℕ → Bool
+room count = ltb count (2 ^ 64 - 1)
+
+-- a reply to the candidate's evaluation also needs room for a finished attempt
+unfoldable pub finishes : Phase → Bool
+finishes P.Empty = false
+finishes P.First = false
+finishes P.Ready = false
+finishes P.Pass = false
+finishes P.Stage = false
+finishes P.Candidate = true
+finishes P.Finished = false
+finishes P.Callback = false
+
+unfoldable pub has-room : Phase → Counters → Bool
+has-room p c = room (c .evaluations) && (not (finishes p) || room (c .«finished_attempts»))
+
+-- turned away with this number, everything left as it was, unless the test passes
+unfoldable pub check : Held → ℕ → Bool → Called → Called
+check h i test go = cond test go (record { answer = Refused i; held = h })
+
+-- ---- the calls
+
+-- allowed in every phase; what it does not bring stands in the record too
+unfoldable pub start : Held → ℕ → ℕ → List Float → Float → Called
+start h f n y t =
+    check h 1 (known f)
+    (check h 2 (sized n)
+    (check h 3 (whole-area f n (h .area) && as-long n y)
+    (check h 5 (all-finite y)
+    (check h 6 (finite t)
+    (record {
+      answer = Evaluate t (number state);
+      held = record {
+        kept = first-at P.First f n t (h .kept);
+        counters = h .counters;
+        area = pack (unpack n (h .area) with state ≔ y with eigenvector ≔ replicate n nought);
+      };
+    })))))
+
+-- what follows, the counters being c
+unfoldable pub going-on : Counters → Step → Called
+going-on c x = record { answer = x .answer; held = record { kept = x .kept; counters = c; area = pack (x .vectors) } }
+
+unfoldable pub attempted : Held → Arguments → Step
+attempted h a = let r = h .kept in
+    let v = unpack (r .n) (h .area) in
+    ask-pass (at-pass a 1 (perturbation-of v) nought r) (with-direction (r .n) v)
+
+unfoldable pub attempt : Held → Arguments → Called
+attempt h a = let r = h .kept in
+    check h 1 (known (r .family))
+    (check h 2 (sized (r .n))
+    (check h 3 (whole-area (r .family) (r .n) (h .area))
+    (check h 4 (may-attempt (r .phase))
+    (check h 6 (good-times a)
+    (check h 7 (good-tolerances a)
+    (going-on (h .counters) (attempted h a)))))))
+
+-- a reply counts as an evaluation, and the one that finishes an attempt as that too
+unfoldable pub counted : Answer → Counters → Counters
+counted (Evaluate t a) c = record { evaluations = c .evaluations + 1; «finished_attempts» = c .«finished_attempts» }
+counted (Finished e) c = record { evaluations = c .evaluations + 1; «finished_attempts» = c .«finished_attempts» + 1 }
+counted Ready c = record { evaluations = c .evaluations + 1; «finished_attempts» = c .«finished_attempts» }
+counted (Refused i) c = record { evaluations = c .evaluations + 1; «finished_attempts» = c .«finished_attempts» }
+counted Empty c = record { evaluations = c .evaluations + 1; «finished_attempts» = c .«finished_attempts» }
+
+-- the derivative is not finite: it is counted and not written
+unfoldable pub spoiled : Held → Called
+spoiled h = record { answer = Refused 9; held = record { kept = in-phase P.Empty (h .kept); counters = counted (Refused 9) (h .counters); area = h .area } }
+
+unfoldable pub settled : Counters → Step → Called
+settled c x = going-on (counted (x .answer) c) x
+
+unfoldable pub reply : Held → List Float → Called
+reply h d = let r = h .kept in
+    check h 1 (known (r .family))
+    (check h 2 (sized (r .n))
+    (check h 3 (whole-area (r .family) (r .n) (h .area) && as-long (r .n) d)
+    (check h 4 (awaiting r)
+    (check h 8 (has-room (r .phase) (h .counters))
+    (cond (all-finite d)
+    (settled (h .counters) (replied (r .phase) r (unpack (r .n) (h .area)) d))
+    (spoiled h))))))
+
+-- the last derivative becomes the first, the candidate the kept state; the record's time stands
+unfoldable pub accepted : Record → Vectors → Step
+accepted r v = step-to Ready (in-phase P.Ready r) (v with first-derivative ≔ v last-derivative with state ≔ v candidate)
+
+unfoldable pub accept : Held → Called
+accept h = let r = h .kept in
+    check h 1 (known (r .family))
+    (check h 2 (sized (r .n))
+    (check h 3 (whole-area (r .family) (r .n) (h .area))
+    (check h 4 (may-accept (r .phase))
+    (going-on (h .counters) (accepted r (unpack (r .n) (h .area)))))))
+
+-- a new state is kept and evaluated
+unfoldable pub called-back : Record → List Float → Float → Vectors → Step
+called-back r y t v = step-to (Evaluate t (number state)) (first-at P.Callback (r .family) (r .n) t r) (v with state ≔ y)
+
+unfoldable pub accept-with-callback : Held → List Float → Float → Called
+accept-with-callback h y t = let r = h .kept in
+    check h 1 (known (r .family))
+    (check h 2 (sized (r .n))
+    (check h 3 (whole-area (r .family) (r .n) (h .area) && as-long (r .n) y)
+    (check h 4 (may-accept (r .phase))
+    (check h 5 (all-finite y)
+    (check h 6 (finite t)
+    (going-on (h .counters) (called-back r y t (unpack (r .n) (h .area)))))))))
+
+-- the pending evaluation ends uncounted
+unfoldable pub abandon : Held → Called
+abandon h = let r = h .kept in
+    check h 1 (known (r .family))
+    (check h 2 (sized (r .n))
+    (check h 3 (whole-area (r .family) (r .n) (h .area))
+    (check h 4 (awaiting r)
+    (record { answer = Empty; held = record { kept = in-phase P.Empty r; counters = h .counters; area = h .area } }))))
+
+-- ---- any of them
+
+pub data Call : Type 0 where
+  Start : ℕ → ℕ → List Float → Float → Call
+  Attempt : Arguments → Call
+  Reply : List Float → Call
+  Accept : Call
+  Accept-with-callback : List Float → Float → Call
+  Abandon : Call
+
+unfoldable pub made : Held → Call → Called
+made h (Start f n y t) = start h f n y t
+made h (Attempt a) = attempt h a
+made h (Reply d) = reply h d
+made h Accept = accept h
+made h (Accept-with-callback y t) = accept-with-callback h y t
+made h Abandon = abandon h
+
+-- turned away with 1 to 8, or not
+unfoldable pub taken : Answer → Bool
+taken (Evaluate t b) = true
+taken (Finished e) = true
+taken Ready = true
+taken (Refused i) = not (leb 1 i && leb i 8)
+taken Empty = true
