@@ -4,3 +4,4 @@ pub mod FracLaws
 pub mod Combine
 pub mod NatRing
 pub mod Order
+pub mod Values
