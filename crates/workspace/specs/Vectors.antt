@@ -27,6 +27,20 @@ number perturbed-derivative = 8
 number state = 9
 number candidate = 10
 
+-- and the name of a number below 11
+abbrev pub named : ℕ → Vector
+named zero = first-derivative
+named (suc zero) = last-derivative
+named (suc (suc zero)) = derivative
+named (suc (suc (suc zero))) = previous-two
+named (suc (suc (suc (suc zero)))) = previous-one
+named (suc (suc (suc (suc (suc zero))))) = next-stage
+named (suc (suc (suc (suc (suc (suc zero)))))) = eigenvector
+named (suc (suc (suc (suc (suc (suc (suc zero))))))) = perturbed-state
+named (suc (suc (suc (suc (suc (suc (suc (suc zero)))))))) = perturbed-derivative
+named (suc (suc (suc (suc (suc (suc (suc (suc (suc zero))))))))) = state
+named (suc (suc (suc (suc (suc (suc (suc (suc (suc (suc k)))))))))) = candidate
+
 -- how many vectors the area of a family has
 unfoldable pub vector-count : Family → ℕ
 vector-count RKC = 11

@@ -1,0 +1,225 @@
+-- The vectors and the area are got back from each other, and every step of the kernel keeps the vectors' length.
+use mathlib.Core.Path.{_≡_, refl, sym, ap, _∙_, fun-ext}
+use mathlib.Core.Bool.{Bool, true, false, cond}
+use mathlib.Core.List.{List, [], _∷_, _++_}
+use Prim.Native.Nat.{ℕ, zero, suc, _+_, _-_, _*_, _≤_, _<_}
+use native.Mathlib.Nat.{mul-le-mul-right, suc-mul, zero-mul, not-suc-le-zero, le-of-suc-le-suc}
+use native.Mathlib.Omega.{arith}
+use lib.Dec.{eqb}
+use lib.ListN.{length, take, drop, getD, replicate, length-append, length-drop, length-replicate}
+use lib.Seq.{take-append-seam, drop-append-add, drop-drop, take-add, take-all, length-take-le}
+use lib.Ieee.{Float, nan, le}
+use Rattle.ieee.specs.Double.{one, min-positive}
+use Rattle.family.specs.Family.{Family, RKC, RKL1, RKL2, RKG1, RKG2}
+use Rattle.coefficients.specs.declared.Coefficients.{Coefficients}
+use Rattle.workspace.specs.declared.Arguments.{Arguments}
+use Rattle.workspace.specs.Vectors.{Vector, Vectors, _with_≔_, number, named, vector-count, unpack, pack, join, in-order, tabulate, each, vector-norm, first-derivative, last-derivative, derivative, previous-two, previous-one, next-stage, eigenvector, perturbed-state, perturbed-derivative, state, candidate}
+use Rattle.workspace.specs.Kernel.{with-direction, perturbed, turned, first-stage, with-row, entry, exchanged, with-candidate, with-last, error}
+
+-- every vector is n long
+abbrev pub Long : ℕ → Vectors → Type 0
+Long n v = (b : Vector) → length (v b) ≡ n
+
+-- ---- numbers and names
+
+pub number-below : (b : Vector) → number b < 11
+number-below first-derivative = omega arith
+number-below last-derivative = omega arith
+number-below derivative = omega arith
+number-below previous-two = omega arith
+number-below previous-one = omega arith
+number-below next-stage = omega arith
+number-below eigenvector = omega arith
+number-below perturbed-state = omega arith
+number-below perturbed-derivative = omega arith
+number-below state = omega arith
+number-below candidate = omega arith
+
+pub number-named : (k : ℕ) → k < 11 → number (named k) ≡ k
+number-named zero h = refl
+number-named (suc zero) h = refl
+number-named (suc (suc zero)) h = refl
+number-named (suc (suc (suc zero))) h = refl
+number-named (suc (suc (suc (suc zero)))) h = refl
+number-named (suc (suc (suc (suc (suc zero))))) h = refl
+number-named (suc (suc (suc (suc (suc (suc zero)))))) h = refl
+number-named (suc (suc (suc (suc (suc (suc (suc zero))))))) h = refl
+number-named (suc (suc (suc (suc (suc (suc (suc (suc zero)))))))) h = refl
+number-named (suc (suc (suc (suc (suc (suc (suc (suc (suc zero))))))))) h = refl
+number-named (suc (suc (suc (suc (suc (suc (suc (suc (suc (suc zero)))))))))) h = refl
+number-named (suc (suc (suc (suc (suc (suc (suc (suc (suc (suc (suc k))))))))))) h = absurd (omega (arith, h))
+
+-- vector k lies within the first m of n doubles each
+pub room : (m k n : ℕ) → k < m → k * n + n ≤ m * n
+room m k n h = omega (arith, mul-le-mul-right n h, suc-mul k n)
+
+-- ---- the vectors of an area
+
+-- an area of eleven vectors, or more, has them all whole
+pub long-unpack : (n : ℕ) (area : List Float) → 11 * n ≤ length area → Long n (unpack n area)
+unfolding unpack
+long-unpack n area h b =
+    length-take-le n (drop (number b * n) area) (omega (arith, length-drop (number b * n) area, room 11 (number b) n (number-below b)))
+
+-- so has every family's
+pub whole : (f : Family) (n : ℕ) (area : List Float) → length area ≡ vector-count f * n → 11 * n ≤ length area
+unfolding vector-count
+whole RKC n area h = omega arith
+whole RKL1 n area h = omega arith
+whole RKL2 n area h = omega arith
+whole RKG1 n area h = omega arith
+whole RKG2 n area h = omega arith
+
+-- ---- the area got back from its vectors
+
+-- the vectors i, i + 1, .., m of them
+pieces : ℕ → List Float → ℕ → ℕ → List (List Float)
+pieces n area i zero = []
+pieces n area i (suc m) = take n (drop (i * n) area) ∷ pieces n area (suc i) m
+
+join-pieces : (n : ℕ) (area : List Float) (i m : ℕ) → join (pieces n area i m) ≡ take (m * n) (drop (i * n) area)
+unfolding pieces
+join-pieces n area i zero = ap (λ (k : ℕ). take k (drop (i * n) area)) (sym (zero-mul n))
+join-pieces n area i (suc m) =
+    let e : i * n + n ≡ suc i * n = omega (arith, suc-mul i n) in
+    let e′ : n + m * n ≡ suc m * n = omega (arith, suc-mul m n) in
+    ap (λ (l : List Float). take n (drop (i * n) area) ++ l) (join-pieces n area (suc i) m)
+    ∙ ap (λ (k : ℕ). take n (drop (i * n) area) ++ take (m * n) (drop k area)) (sym e)
+    ∙ ap (λ (l : List Float). take n (drop (i * n) area) ++ take (m * n) l) (sym (drop-drop n (i * n) area))
+    ∙ sym (take-add n (m * n) (drop (i * n) area))
+    ∙ ap (λ (k : ℕ). take k (drop (i * n) area)) e′
+
+-- an area of eleven vectors, or fewer
+pub pack-unpack : (n : ℕ) (area : List Float) → length area ≤ 11 * n → pack (unpack n area) ≡ area
+unfolding pack unpack pieces
+pack-unpack n area h =
+    join-pieces n area 0 11
+    ∙ ap (λ (k : ℕ). take (11 * n) (drop k area)) (zero-mul n)
+    ∙ take-all (11 * n) area h
+
+-- what an area is, from what its vectors are
+pub packed : (f : Family) (n : ℕ) (area : List Float) {v : Vectors} → length area ≡ vector-count f * n → unpack n area ≡ v → area ≡ pack v
+unfolding vector-count
+packed RKC n area h e = sym (pack-unpack n area (omega arith)) ∙ ap pack e
+packed RKL1 n area h e = sym (pack-unpack n area (omega arith)) ∙ ap pack e
+packed RKL2 n area h e = sym (pack-unpack n area (omega arith)) ∙ ap pack e
+packed RKG1 n area h e = sym (pack-unpack n area (omega arith)) ∙ ap pack e
+packed RKG2 n area h e = sym (pack-unpack n area (omega arith)) ∙ ap pack e
+
+-- ---- the vectors got back from their area
+
+data All (n : ℕ) : List (List Float) → Type 0 where
+  none : All n []
+  more : {x : List Float} {xs : List (List Float)} → length x ≡ n → All n xs → All n (x ∷ xs)
+
+part : (n k : ℕ) {xs : List (List Float)} → All n xs → k < length xs → take n (drop (k * n) (join xs)) ≡ getD xs k []
+part n k none h = absurd (not-suc-le-zero h)
+part n zero (more {x} {xs} p q) h = rw (zero-mul, ← p) (take-append-seam x (join xs))
+part n (suc k) (more {x} {xs} p q) h =
+    let e : suc k * n ≡ length x + k * n = omega (arith, suc-mul k n) in
+    ap (λ (i : ℕ). take n (drop i (x ++ join xs))) e
+    ∙ ap (λ (l : List Float). take n l) (drop-append-add x (join xs) (k * n))
+    ∙ part n k q (le-of-suc-le-suc h)
+
+length-join : {n : ℕ} {xs : List (List Float)} → All n xs → length (join xs) ≡ length xs * n
+length-join {n} none = sym (zero-mul n)
+length-join {n} (more {x} {xs} p q) = length-append x (join xs) ∙ rw (p, length-join q, suc-mul) (omega arith)
+
+all : {n : ℕ} (v : Vectors) → Long n v → All n (in-order v)
+all v h =
+    more (h first-derivative) (more (h last-derivative) (more (h derivative) (more (h previous-two) (more (h previous-one) (more (h next-stage)
+    (more (h eigenvector) (more (h perturbed-state) (more (h perturbed-derivative) (more (h state) (more (h candidate) none))))))))))
+
+pub unpack-pack : (n : ℕ) (v : Vectors) → Long n v → unpack n (pack v) ≡ v
+unfolding unpack pack
+unpack-pack n v h = fun-ext go
+  where
+    go : (b : Vector) → unpack n (pack v) b ≡ v b
+    go first-derivative = part n 0 (all v h) (omega arith)
+    go last-derivative = part n 1 (all v h) (omega arith)
+    go derivative = part n 2 (all v h) (omega arith)
+    go previous-two = part n 3 (all v h) (omega arith)
+    go previous-one = part n 4 (all v h) (omega arith)
+    go next-stage = part n 5 (all v h) (omega arith)
+    go eigenvector = part n 6 (all v h) (omega arith)
+    go perturbed-state = part n 7 (all v h) (omega arith)
+    go perturbed-derivative = part n 8 (all v h) (omega arith)
+    go state = part n 9 (all v h) (omega arith)
+    go candidate = part n 10 (all v h) (omega arith)
+
+pub length-pack : (f : Family) (n : ℕ) (v : Vectors) → Long n v → length (pack v) ≡ vector-count f * n
+unfolding pack vector-count
+length-pack RKC n v h = length-join (all v h)
+length-pack RKL1 n v h = length-join (all v h)
+length-pack RKL2 n v h = length-join (all v h)
+length-pack RKG1 n v h = length-join (all v h)
+length-pack RKG2 n v h = length-join (all v h)
+
+-- ---- every step keeps the length
+
+length-tabulate : (f : ℕ → Float) (i n : ℕ) → length (tabulate f i n) ≡ n
+length-tabulate f i zero = refl
+length-tabulate f i (suc n) = ap suc (length-tabulate f (suc i) n)
+
+pub length-each : (n : ℕ) (v : Vectors) (f : (Vector → Float) → Float) → length (each n v f) ≡ n
+unfolding each
+length-each n v f = length-tabulate (λ i. f (λ a. getD (v a) i nan)) 0 n
+
+module _ (n : ℕ) where
+  pub long-with : (v : Vectors) (b : Vector) (x : List Float) → Long n v → length x ≡ n → Long n (v with b ≔ x)
+  long-with v b x h p c = go (eqb (number b) (number c))
+    where
+      go : (t : Bool) → length (cond t x (v c)) ≡ n
+      go true = p
+      go false = h c
+
+  long-each : (v w : Vectors) (b : Vector) (f : (Vector → Float) → Float) → Long n v → Long n (v with b ≔ each n w f)
+  long-each v w b f h = long-with v b (each n w f) h (length-each n w f)
+
+  pub long-direction : (v : Vectors) → Long n v → Long n (with-direction n v)
+  unfolding with-direction
+  long-direction v h = go (le (vector-norm (v eigenvector)) min-positive) (le (vector-norm (v first-derivative)) min-positive)
+    where
+      go : (t u : Bool) → Long n (cond t (cond u (v with eigenvector ≔ replicate n one) (v with eigenvector ≔ v first-derivative)) v)
+      go true true = long-with v eigenvector (replicate n one) h (length-replicate n one)
+      go true false = long-with v eigenvector (v first-derivative) h (h first-derivative)
+      go false u = h
+
+  pub long-perturbed : (p : Float) (v : Vectors) → Long n v → Long n (perturbed n p v)
+  unfolding perturbed
+  long-perturbed p v h = long-each v v perturbed-state _ h
+
+  pub long-turned : (v : Vectors) (d : List Float) → Long n v → length d ≡ n → Long n (turned n v d)
+  unfolding turned
+  long-turned v d h p = let w = v with perturbed-derivative ≔ d in long-each w w eigenvector _ (long-with v perturbed-derivative d h p)
+
+  pub long-first : (step mu~ : Float) (v : Vectors) → Long n v → Long n (first-stage n step mu~ v)
+  unfolding first-stage
+  long-first step mu~ v h = long-each (v with previous-two ≔ v state) v previous-one _ (long-with v previous-two (v state) h (h state))
+
+  pub long-row : (f : Family) (step : Float) (c : Coefficients) (v : Vectors) (d : List Float) → Long n v → length d ≡ n
+      → Long n (with-row f n step c v d)
+  unfolding with-row
+  long-row f step c v d h p = let w = v with derivative ≔ d in long-each w w next-stage (entry f step c) (long-with v derivative d h p)
+
+  pub long-exchanged : (v : Vectors) → Long n v → Long n (exchanged v)
+  unfolding exchanged
+  long-exchanged v h =
+      long-with (v with previous-two ≔ v previous-one with previous-one ≔ v next-stage) next-stage (v previous-two)
+      (long-with (v with previous-two ≔ v previous-one) previous-one (v next-stage)
+      (long-with v previous-two (v previous-one) h (h previous-one)) (h next-stage)) (h previous-two)
+
+  pub long-candidate : (v : Vectors) → Long n v → Long n (with-candidate v)
+  unfolding with-candidate
+  long-candidate v h = long-with v candidate (v next-stage) h (h next-stage)
+
+  pub long-last : (f : Family) (a : Arguments) (v : Vectors) (d : List Float) → Long n v → length d ≡ n → Long n (with-last f n a v d)
+  unfolding with-last
+  long-last f a v d h p = go (a .adaptive)
+    where
+      w : Vectors
+      w = v with last-derivative ≔ d
+
+      go : (t : Bool) → Long n (cond t (w with derivative ≔ each n w (error f (a .step))) w)
+      go true = long-each w w derivative (error f (a .step)) (long-with v last-derivative d h p)
+      go false = long-with v last-derivative d h p
