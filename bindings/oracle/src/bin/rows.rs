@@ -1,0 +1,28 @@
+//! Prints the Rust's coefficients, one line a stage: family, s, j, then mu, nu, mu_tilde, gamma_tilde (in RKC nu_tilde),
+//! theta, omega_one and first_mu_tilde as bits.
+use std::io::{BufWriter, Write};
+
+fn main() -> std::io::Result<()> {
+    let mut out = BufWriter::new(std::io::stdout().lock());
+    for family in oracle::FAMILIES {
+        for stages in oracle::permitted(family) {
+            let told = oracle::rows(family, stages);
+            for row in told.rows {
+                write!(out, "{family} {stages} {}", row.stage)?;
+                for value in [
+                    row.mu,
+                    row.nu,
+                    row.mu_tilde,
+                    row.gamma_tilde,
+                    row.theta,
+                    told.omega_one,
+                    told.first_mu_tilde,
+                ] {
+                    write!(out, " {:016X}", value.to_bits())?;
+                }
+                writeln!(out)?;
+            }
+        }
+    }
+    out.flush()
+}

@@ -1,0 +1,239 @@
+//! The five files as they stand, and a kernel to run.
+#![allow(dead_code)]
+
+use crate::integrator::StepKernel;
+use crate::{OdeFunction, OdeProblem, SolveError, SolveOptions, SolverStats};
+use family::StabilizedFamily;
+use workspace::StabilizedKernel;
+
+include!(concat!(env!("OUT_DIR"), "/unchanged.rs"));
+
+crate::shim::other_families!(run_rock2, run_rock4, run_serk2, run_eserk);
+
+/// What an attempt is given beside the state.
+#[derive(Clone, Copy, Debug, PartialEq)]
+pub struct Arguments {
+    pub time: f64,
+    pub step: f64,
+    pub absolute_tolerance: f64,
+    pub relative_tolerance: f64,
+    pub adaptive: bool,
+}
+
+/// A right-hand side: writes the derivative at a point and time, or stops the attempt with an error.
+pub trait RightHandSide: Fn(&mut [f64], &[f64], f64) -> Result<(), SolveError> {}
+
+impl<F: Fn(&mut [f64], &[f64], f64) -> Result<(), SolveError>> RightHandSide for F {}
+
+struct Closure<'a, F>(&'a F);
+
+impl<F: RightHandSide> OdeFunction<()> for Closure<'_, F> {
+    fn evaluate(
+        &self,
+        derivative: &mut [f64],
+        state: &[f64],
+        _: &(),
+        time: f64,
+    ) -> Result<(), SolveError> {
+        (self.0)(derivative, state, time)
+    }
+}
+
+fn problem<F: RightHandSide>(rhs: &F) -> OdeProblem<Closure<'_, F>, ()> {
+    OdeProblem {
+        rhs: Closure(rhs),
+        parameters: (),
+    }
+}
+
+fn family_of(number: u64) -> StabilizedFamily {
+    match number {
+        1 => StabilizedFamily::Rkc,
+        2 => StabilizedFamily::Rkl1,
+        3 => StabilizedFamily::Rkl2,
+        4 => StabilizedFamily::Rkg1,
+        5 => StabilizedFamily::Rkg2,
+        _ => panic!("no family {number}"),
+    }
+}
+
+/// The kernel of the Rust, with the two vectors that its caller owns: the state and the candidate.
+pub struct Oracle {
+    kernel: StabilizedKernel,
+    state: Vec<f64>,
+    candidate: Vec<f64>,
+    stats: SolverStats,
+}
+
+impl Oracle {
+    /// A kernel as the Rust makes it, every vector zeroed.
+    pub fn new(family: u64, n: usize) -> Self {
+        Self {
+            kernel: StabilizedKernel::new(family_of(family), n),
+            state: vec![0.0; n],
+            candidate: vec![0.0; n],
+            stats: SolverStats::default(),
+        }
+    }
+
+    /// A kernel whose eleven vectors hold what is given, the eigenvector zeroed.
+    pub fn with_vectors(family: u64, n: usize, area: &[f64]) -> Self {
+        let mut oracle = Self::new(family, n);
+        for (vector, part) in oracle.vectors_mut().into_iter().zip(area.chunks(n)) {
+            vector.copy_from_slice(part);
+        }
+        oracle.kernel.eigenvector.fill(0.0);
+        oracle
+    }
+
+    /// `initialize` at this state and time.
+    pub fn initialize<F: RightHandSide>(
+        &mut self,
+        state: &[f64],
+        time: f64,
+        rhs: &F,
+    ) -> Result<(), SolveError> {
+        self.state.copy_from_slice(state);
+        self.kernel
+            .initialize(&problem(rhs), &self.state, time, &mut self.stats)
+    }
+
+    /// `attempt_step` from the state; the error norm.
+    pub fn attempt<F: RightHandSide>(
+        &mut self,
+        arguments: Arguments,
+        rhs: &F,
+    ) -> Result<f64, SolveError> {
+        let options = SolveOptions {
+            absolute_tolerance: arguments.absolute_tolerance,
+            relative_tolerance: arguments.relative_tolerance,
+            adaptive: arguments.adaptive,
+        };
+        let estimate = self.kernel.attempt_step(
+            &problem(rhs),
+            &self.state,
+            arguments.time,
+            arguments.step,
+            &mut self.candidate,
+            &options,
+            &mut self.stats,
+        )?;
+        Ok(estimate.error_norm)
+    }
+
+    /// `accept_step` without a callback; the candidate becomes the state.
+    pub fn accept(&mut self, time: f64, step: f64) {
+        let never = |_: &mut [f64], _: &[f64], _: f64| Err(SolveError::Stopped);
+        self.kernel
+            .accept_step(
+                &problem(&never),
+                &self.state,
+                &self.candidate,
+                time + step,
+                step,
+                false,
+                &mut self.stats,
+            )
+            .expect("no evaluation without a callback");
+        self.state.copy_from_slice(&self.candidate);
+    }
+
+    /// `accept_step` with a callback, which brings a state and time.
+    pub fn accept_with_callback<F: RightHandSide>(
+        &mut self,
+        state: &[f64],
+        time: f64,
+        step: f64,
+        rhs: &F,
+    ) -> Result<(), SolveError> {
+        let previous = std::mem::replace(&mut self.state, state.to_vec());
+        self.kernel.accept_step(
+            &problem(rhs),
+            &previous,
+            &self.state,
+            time,
+            step,
+            true,
+            &mut self.stats,
+        )
+    }
+
+    /// |step| × 1.2 × radius, by `spectral_radius` on a copy of this kernel.
+    pub fn scaled_radius<F: RightHandSide>(
+        &self,
+        arguments: Arguments,
+        rhs: &F,
+    ) -> Result<f64, SolveError> {
+        let mut copy = self.clone();
+        let radius = copy.kernel.spectral_radius(
+            &problem(rhs),
+            &copy.state,
+            arguments.time,
+            &mut copy.stats,
+        )?;
+        Ok(arguments.step.abs() * radius)
+    }
+
+    /// Evaluations so far, as the Rust counts them.
+    pub fn evaluations(&self) -> u64 {
+        self.stats.rhs_evaluations as u64
+    }
+
+    /// The nine vectors in the order of workspace.rs, then the state, then the candidate.
+    pub fn vectors(&self) -> [&[f64]; 11] {
+        let kernel = &self.kernel;
+        [
+            &kernel.first_derivative,
+            &kernel.last_derivative,
+            &kernel.derivative,
+            &kernel.previous_two,
+            &kernel.previous_one,
+            &kernel.next_stage,
+            &kernel.eigenvector,
+            &kernel.perturbed_state,
+            &kernel.perturbed_derivative,
+            &self.state,
+            &self.candidate,
+        ]
+    }
+
+    fn vectors_mut(&mut self) -> [&mut Vec<f64>; 11] {
+        let kernel = &mut self.kernel;
+        [
+            &mut kernel.first_derivative,
+            &mut kernel.last_derivative,
+            &mut kernel.derivative,
+            &mut kernel.previous_two,
+            &mut kernel.previous_one,
+            &mut kernel.next_stage,
+            &mut kernel.eigenvector,
+            &mut kernel.perturbed_state,
+            &mut kernel.perturbed_derivative,
+            &mut self.state,
+            &mut self.candidate,
+        ]
+    }
+}
+
+impl Clone for Oracle {
+    fn clone(&self) -> Self {
+        let mut copy = Self {
+            kernel: StabilizedKernel::new(self.kernel.family, self.state.len()),
+            state: Vec::new(),
+            candidate: Vec::new(),
+            stats: self.stats,
+        };
+        for (to, from) in copy.vectors_mut().into_iter().zip(self.vectors()) {
+            to.clear();
+            to.extend_from_slice(from);
+        }
+        copy
+    }
+}
+
+/// The stage count that the Rust gives for a scaled radius.
+pub fn stages(family: u64, scaled_radius: f64) -> usize {
+    family_of(family)
+        .stages(scaled_radius)
+        .expect("a family with a stage rule")
+}
