@@ -12,7 +12,7 @@ use lib.Ieee.{Float, nan, inf, fin, binary64, up, down, round, mul, neg, unlike}
 use lib.Ieee.Fits.{down-pos}
 use lib.Ieee.Positive.{num, den, den-pos}
 use lib.Ieee.Scale.{finite}
-use Rattle.fractions.specs.Frac.{Frac, _⊗_, _⊕_, opp}
+use Rattle.fractions.specs.Frac.{Frac, _⊕_, _⊗_, opp}
 use Rattle.ieee.specs.Close.{signed, sign, value, Close}
 use Rattle.ieee.proofs.Rounding.{P, Rel, rel-times, rel-cancel, rel-same, rel-sym, rel-weaken, Near, Within, round-near}
 

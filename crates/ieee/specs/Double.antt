@@ -1,7 +1,7 @@
 -- Doubles: lib.Ieee's operators at binary64, each rounded once and nothing fused, and the constants of the kernel. Document 01, "Rust forms that cannot come along".
 use Prim.Native.Nat.{ℕ, _^_}
 use mathlib.Core.Bool.{false}
-use lib.IntN.{pos}
+use lib.IntN.{pos, negsuc}
 use lib.Ieee.{Float, fin, binary64, add, sub, mul, div, ofInt, round}
 
 infixl 60 _⊕_
@@ -23,6 +23,9 @@ x ⊘ y = div binary64 x y
 -- the Rust's constants, written out: `double 2` below is the same double, at many times the cost in a test over a table
 abbrev pub nought : Float
 nought = fin false 0 (pos 0)
+
+abbrev pub half : Float
+half = fin false 1 (negsuc 0)
 
 abbrev pub one : Float
 one = fin false 1 (pos 0)
