@@ -26,7 +26,7 @@ unfoldable pub b-first : ℕ → Float
 b-first s = one ⊘ square (two ⊗ omega-zero s)
 
 unfoldable pub first-mu-tilde : Family → ℕ → Float
-first-mu-tilde RKC s = omega s ⊗ b-first s
+first-mu-tilde RKC s = omega-one-of RKC s ⊗ b-first s
 first-mu-tilde RKL1 s = omega-one-of RKL1 s
 first-mu-tilde RKL2 s = omega-one-of RKL2 s ⊘ three
 first-mu-tilde RKG1 s = omega-one-of RKG1 s
@@ -104,19 +104,19 @@ second-of w p = two ⊗ w ⊗ p .«second_previous» ⊖ p .«second_previous_tw
 unfoldable pub b-of : Float → Polynomials → Float
 b-of w p = second-of w p ⊘ square (first-of w p)
 
-unfoldable pub chebyshev : ℕ → Recurrence → Coefficients
-chebyshev s c = let w = omega-zero s in
+unfoldable pub chebyshev : Float → ℕ → Recurrence → Coefficients
+chebyshev w1 s c = let w = omega-zero s in
     let p = c .polynomials in
     let b = b-of w p in
     let nu~ = one ⊖ p .«value_previous» ⊗ p .«b_previous» in
     let mu = two ⊗ w ⊗ b ⊘ p .«b_previous» in
     let nu = neg b ⊘ p .«b_previous_two» in
-    let mu~ = mu ⊗ omega s ⊘ w in
+    let mu~ = mu ⊗ w1 ⊘ w in
     let theta = mu ⊗ c .«theta_previous» ⊕ nu ⊗ c .«theta_previous_two» ⊕ mu~ ⊗ (one ⊖ nu~) in
     record { mu = mu; nu = nu; «mu_tilde» = mu~; «gamma_tilde» = nu~; theta = theta }
 
 unfoldable pub coefficients : Family → ℕ → ℕ → Recurrence → Coefficients
-coefficients RKC s j c = chebyshev s c
+coefficients RKC s j c = chebyshev (omega-one-of RKC s) s c
 coefficients RKL1 s j c = legendre-one (omega-one-of RKL1 s) j c
 coefficients RKL2 s j c = legendre-two (omega-one-of RKL2 s) j c
 coefficients RKG1 s j c = gegenbauer-one (omega-one-of RKG1 s) j c

@@ -1,4 +1,11 @@
-// The coefficients of a stage's row: orthogonal.rs, and `run_rkc` of chebyshev.rs.
+// The coefficients of a stage's row: orthogonal.rs, and `run_rkc` of chebyshev.rs. A family is given by its number.
+ghost use mathlib.Core.Path.{_≡_};
+ghost use Prim.Native.Nat.{_≤_, _<_, _^_};
+ghost use Rattle.family.specs.Family.{family-of};
+ghost use Rattle.coefficients.specs.Rows as rows;
+
+mod chebyshev;
+mod orthogonal;
 
 // A row's coefficients, and `theta` after its stage. In RKC `gamma_tilde` holds the Rust's `nu_tilde`.
 pub struct Coefficients {
@@ -27,4 +34,86 @@ pub struct Recurrence {
     pub theta_previous: f64,
     pub theta_previous_two: f64,
     pub polynomials: Polynomials,
+}
+
+pub fn omega_one(family: u64, s: u64) -> f64
+    requires { ⌜ s < 2 ^ 16 ⌝ }
+    ensures { λ r. ⌜ r ≡ rows.omega-one-of (family-of family) s ⌝ }
+{
+    let x = ieee::double_of(s);
+    match family {
+        1 => chebyshev::omega_one(s),
+        2 => 2.0 / (x * x + x),
+        3 => 4.0 / (x * x + x - 2.0),
+        4 => 4.0 / (x * (x + 3.0)),
+        _ => 6.0 / ((x + 4.0) * (x - 1.0)),
+    }
+}
+
+pub fn first_mu_tilde(family: u64, s: u64) -> f64
+    requires { ⌜ s < 2 ^ 16 ⌝ }
+    ensures { λ r. ⌜ r ≡ rows.first-mu-tilde (family-of family) s ⌝ }
+{
+    let w = omega_one(family, s);
+    match family {
+        1 => w * chebyshev::first_b(s),
+        2 => w,
+        3 => w / 3.0,
+        4 => w,
+        _ => w,
+    }
+}
+
+// What is carried into stage 2.
+pub fn first_recurrence(family: u64, s: u64) -> Recurrence
+    requires { ⌜ s < 2 ^ 16 ⌝ }
+    ensures { λ r. ⌜ r ≡ rows.recurrence (family-of family) s ⌝ }
+{
+    let theta = first_mu_tilde(family, s);
+    let polynomials = chebyshev::first_polynomials(s);
+    Recurrence {
+        theta_previous: theta,
+        theta_previous_two: 0.0,
+        polynomials,
+    }
+}
+
+// The row of stage j.
+pub fn row_coefficients(family: u64, s: u64, j: u64, c: Recurrence) -> Coefficients
+    requires { ⌜ (2 ≤ j) × (j ≤ s) ⌝ }
+    requires { ⌜ s < 2 ^ 16 ⌝ }
+    ensures { λ r. ⌜ r ≡ rows.coefficients (family-of family) s j c ⌝ }
+{
+    let w = omega_one(family, s);
+    match family {
+        1 => chebyshev::row(w, s, c),
+        2 => orthogonal::legendre_one(w, j, c),
+        3 => orthogonal::legendre_two(w, j, c),
+        4 => orthogonal::gegenbauer_one(w, j, c),
+        _ => orthogonal::gegenbauer_two(w, j, c),
+    }
+}
+
+// What is carried on from a stage with this row.
+pub fn next_recurrence(family: u64, s: u64, c: Recurrence, row: Coefficients) -> Recurrence
+    requires { ⌜ s < 2 ^ 16 ⌝ }
+    ensures { λ r. ⌜ r ≡ rows.next (family-of family) s c row ⌝ }
+{
+    let polynomials = c.polynomials;
+    match family {
+        1 => {
+            let w = chebyshev::omega_zero(s);
+            let after = chebyshev::next_polynomials(w, polynomials);
+            Recurrence {
+                theta_previous: row.theta,
+                theta_previous_two: c.theta_previous,
+                polynomials: after,
+            }
+        }
+        _ => Recurrence {
+            theta_previous: row.theta,
+            theta_previous_two: c.theta_previous,
+            polynomials,
+        },
+    }
 }

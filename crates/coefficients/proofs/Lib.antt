@@ -1,0 +1,3 @@
+pub mod Numbers
+mod Bits
+mod Small
