@@ -1,0 +1,31 @@
+-- Two computations alike: they ask for the same on the same replies, and end alike.
+use mathlib.Core.Path.{_≡_}
+use mathlib.Core.List.{List}
+use lib.Ieee.{Float}
+use Rattle.workspace.specs.Vectors.{Vectors, first-derivative, eigenvector, state}
+use Rattle.session.specs.Attempt.{Asking, done, stopped, ask, End, reached, refused}
+
+-- done alike in the sense of R, or stopped with the same number
+abbrev pub Alike : {A : Type 0} → (A → A → Type 0) → Asking A → Asking A → Type 0
+Alike R (done x) (done y) = R x y
+Alike R (done x) (stopped j w) = ⊥
+Alike R (done x) (ask u q l) = ⊥
+Alike R (stopped i v) (done y) = ⊥
+Alike R (stopped i v) (stopped j w) = i ≡ j
+Alike R (stopped i v) (ask u q l) = ⊥
+Alike R (ask t p k) (done y) = ⊥
+Alike R (ask t p k) (stopped j w) = ⊥
+Alike R (ask t p k) (ask u q l) = (t ≡ u) × (p ≡ q) × ((d : List Float) → Alike R (k d) (l d))
+
+-- the same outcome, or refused with the same number
+abbrev pub Same-end : {A : Type 0} → End A → End A → Type 0
+Same-end (reached x) (reached y) = x ≡ y
+Same-end (reached x) (refused j w) = ⊥
+Same-end (refused i v) (reached y) = ⊥
+Same-end (refused i v) (refused j w) = i ≡ j
+
+-- equal where an attempt reads before it writes: the kept state, its derivative and the eigenvector
+pub record Same-start (v w : Vectors) : Type 0 where
+  pub state-same : v state ≡ w state
+  pub first-same : v first-derivative ≡ w first-derivative
+  pub eigenvector-same : v eigenvector ≡ w eigenvector

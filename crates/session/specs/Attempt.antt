@@ -1,0 +1,137 @@
+-- An attempt in one piece, as the Rust has it: `attempt_step`, `spectral_radius`, `run_orthogonal_polynomial` and `run_rkc`, with `?` where the Rust has `?`. Document 01, "driver.rs: the calls".
+-- The right-hand side is whoever answers `ask`. The vectors, which the Rust changes in place, go from line to line.
+use Prim.Native.Nat.{ℕ, zero, suc, _+_, _-_}
+use mathlib.Core.Bool.{Bool, true, false, cond, _||_}
+use mathlib.Core.List.{List, [], _∷_}
+use lib.Dec.{ltb}
+use lib.Ieee.{Float}
+use Rattle.ieee.specs.Double.{_⊕_, _⊗_, nought}
+use Rattle.family.specs.Family.{Family}
+use Rattle.coefficients.specs.declared.Recurrence.{Recurrence}
+use Rattle.coefficients.specs.Rows.{recurrence, coefficients, next}
+use Rattle.workspace.specs.declared.Arguments.{Arguments}
+use Rattle.workspace.specs.Vectors.{Vectors, all-finite, previous-one, perturbed-state, candidate}
+use Rattle.workspace.specs.Kernel.{with-direction, perturbation-of, perturbed, turned, radius-of, ended, scaled, first-stage, with-row, exchanged, with-candidate, with-last, error-norm}
+use Rattle.driver.specs.declared.Need.{Need}
+use Rattle.driver.specs.declared.Need.the-variants.{Met, Unmet}
+use Rattle.driver.specs.Calls.{stage-need}
+
+-- ---- a computation that asks for derivatives
+
+-- It is done, or stopped by a refusal with the vectors as they are then, or asks for the derivative at a time and a point and goes on with the reply.
+pub data Asking (A : Type 0) : Type 0 where
+  done : A → Asking A
+  stopped : ℕ → Vectors → Asking A
+  ask : Float → List Float → (List Float → Asking A) → Asking A
+
+infixl 20 _>>=_
+unfoldable pub _>>=_ : {A B : Type 0} → Asking A → (A → Asking B) → Asking B
+done a >>= f = f a
+stopped i v >>= f = stopped i v
+ask t p k >>= f = ask t p (λ d. k d >>= f)
+
+-- `evaluate`: a derivative that is not finite stops the attempt
+unfoldable pub evaluate : Vectors → Float → List Float → Asking (List Float)
+evaluate v t p = ask t p (λ d. cond (all-finite d) (done d) (stopped 9 v))
+
+-- a need that is refused stops it too
+unfoldable pub stages-for : Need → Vectors → Asking ℕ
+stages-for (Met s) v = done s
+stages-for (Unmet i) v = stopped i v
+
+-- ---- the Rust's functions
+
+pub record Radius : Type 0 where
+  pub radius : Float
+  pub passes : ℕ
+  pub vectors : Vectors
+
+-- a finished attempt: its error norm, s, k, r, and the vectors, the candidate among them
+pub record Outcome : Type 0 where
+  pub norm : Float
+  pub stages : ℕ
+  pub passes : ℕ
+  pub scaled-radius : Float
+  pub vectors : Vectors
+
+module _ (f : Family) (n : ℕ) (a : Arguments) where
+  -- the loop of `spectral_radius`: passes still allowed, passes made, the radius before
+  unfoldable pub iterate : Float → ℕ → ℕ → Float → Vectors → Asking Radius
+  iterate perturbation zero k radius v = done (record { radius = radius; passes = k; vectors = v })
+  iterate perturbation (suc m) k previous v = do
+    let v = perturbed n perturbation v
+    d ← evaluate v (a .time) (v perturbed-state)
+    let v = turned n v d
+    let radius = radius-of perturbation v
+    cond (ended (k + 1) previous radius)
+        (done (record { radius = radius; passes = k + 1; vectors = v }))
+        (iterate perturbation m (k + 1) radius v)
+
+  unfoldable pub spectral-radius : Vectors → Asking Radius
+  spectral-radius v = iterate (perturbation-of v) 12 0 nought (with-direction n v)
+
+  -- the loop over the stages from j to s: stages still to come
+  unfoldable pub stage-loop : ℕ → ℕ → ℕ → Recurrence → Vectors → Asking Vectors
+  stage-loop s zero j c v = done v
+  stage-loop s (suc m) j c v = do
+    let row = coefficients f s j c
+    d ← evaluate v (a .time ⊕ a .step ⊗ c .«theta_previous») (v previous-one)
+    let v = with-row f n (a .step) row v d
+    cond (ltb j s)
+        (stage-loop s m (j + 1) (next f s c row) (exchanged v))
+        (done v)
+
+  unfoldable pub run-recurrence : ℕ → Vectors → Asking Vectors
+  run-recurrence s v = let c = recurrence f s in
+      stage-loop s (s - 1) 2 c (first-stage n (a .step) (c .«theta_previous») v)
+
+  -- `finite(candidate)?`, then the evaluation at the candidate and the error
+  unfoldable pub outcome : ℕ → ℕ → Float → Vectors → Outcome
+  outcome s k r v = record { norm = error-norm f n s a v; stages = s; passes = k; scaled-radius = r; vectors = v }
+
+  unfoldable pub close : ℕ → ℕ → Float → Vectors → Asking Outcome
+  close s k r v = let v = with-candidate v in
+      cond (all-finite (v candidate))
+      (do
+        d ← evaluate v (a .time ⊕ a .step) (v candidate)
+        done (outcome s k r (with-last f n a v d)))
+      (stopped 10 v)
+
+  unfoldable pub attempt-step : Vectors → Asking Outcome
+  attempt-step v = do
+    found ← spectral-radius v
+    let r = scaled (a .step) (found .radius)
+    s ← stages-for (stage-need f r) (found .vectors)
+    v ← run-recurrence s (found .vectors)
+    close s (found .passes) r v
+
+-- ---- the same against a stream of replies, of which the first is d i
+
+pub record Evaluated : Type 0 where
+  pub time : Float
+  pub point : List Float
+
+unfoldable pub evaluated : {A : Type 0} → Asking A → (ℕ → List Float) → ℕ → List Evaluated
+evaluated (done x) d i = []
+evaluated (stopped j v) d i = []
+evaluated (ask t p k) d i = record { time = t; point = p } ∷ evaluated (k (d i)) d (suc i)
+
+pub data End (A : Type 0) : Type 0 where
+  reached : A → End A
+  refused : ℕ → Vectors → End A
+
+unfoldable pub end : {A : Type 0} → Asking A → (ℕ → List Float) → ℕ → End A
+end (done x) d i = reached x
+end (stopped j v) d i = refused j v
+end (ask t p k) d i = end (k (d i)) d (suc i)
+
+-- The candidate's evaluation is the one that a finite reply finishes (the empty list is one). Whether it is asked for:
+unfoldable pub is-done : {A : Type 0} → Asking A → Bool
+is-done (done x) = true
+is-done (stopped j v) = false
+is-done (ask t p k) = false
+
+unfoldable pub reaches-candidate : {A : Type 0} → Asking A → (ℕ → List Float) → ℕ → Bool
+reaches-candidate (done x) d i = false
+reaches-candidate (stopped j v) d i = false
+reaches-candidate (ask t p k) d i = is-done (k []) || reaches-candidate (k (d i)) d (suc i)

@@ -1,0 +1,5 @@
+pub mod Attempt
+pub mod Claim
+pub mod Refusals
+pub mod Alike
+pub mod Session

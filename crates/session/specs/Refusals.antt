@@ -1,0 +1,155 @@
+-- Which number a call is turned away with: that of the first of its tests that fails. Document 01, "When a call is turned away".
+use Prim.Native.Nat.{ℕ}
+use mathlib.Core.Bool.{Bool, true, false, cond, _&&_, _||_}
+use mathlib.Core.List.{List, [], _∷_}
+use lib.Dec.{ltb, eqb}
+use lib.Ieee.{Float}
+use lib.Ieee.Scale.{finite}
+use Rattle.family.specs.Family.{known, family-of}
+use Rattle.coefficients.specs.Rows.{coefficients}
+use Rattle.workspace.specs.declared.Arguments.{Arguments}
+use Rattle.workspace.specs.Vectors.{Vectors, unpack, all-finite, next-stage}
+use Rattle.workspace.specs.Kernel.{turned, radius-of, ended, scaled, with-row}
+use Rattle.driver.specs.declared.Phase.{Phase}
+use Rattle.driver.specs.declared.Phase.the-variants as P
+use Rattle.driver.specs.declared.Record.{Record}
+use Rattle.driver.specs.declared.Need.{Need}
+use Rattle.driver.specs.declared.Need.the-variants.{Met, Unmet}
+use Rattle.driver.specs.declared.Answer.{Answer}
+use Rattle.driver.specs.declared.Answer.the-variants.{Evaluate, Finished, Ready, Refused, Empty}
+use Rattle.driver.specs.Calls.{Held, stage-need, sized, whole-area, as-long, awaiting, may-attempt, may-accept, good-times, good-tolerances, has-room, Call, Start, Attempt, Reply, Accept, Accept-with-callback, Abandon}
+
+-- the numbers are 1 to this
+abbrev pub largest-number : ℕ
+largest-number = 10
+
+-- which number an answer refuses with; 0: none
+abbrev pub refuses : Answer → ℕ
+refuses (Evaluate t b) = 0
+refuses (Finished e) = 0
+refuses Ready = 0
+refuses (Refused i) = i
+refuses Empty = 0
+
+-- a test's number, and whether it passes
+pub record Test : Type 0 where
+  pub number : ℕ
+  pub passes : Bool
+
+infix 90 _∶_
+abbrev pub _∶_ : ℕ → Bool → Test
+number ∶ passes = record { number = number; passes = passes }
+
+-- the number of the first test that fails; 0: none
+abbrev pub first-failing : List Test → ℕ
+first-failing [] = 0
+first-failing (t ∷ ts) = cond (t .passes) (first-failing ts) (t .number)
+
+unfoldable pub start-tests : Held → ℕ → ℕ → List Float → Float → List Test
+start-tests h f n y t =
+    1 ∶ known f
+    ∷ 2 ∶ sized n
+    ∷ 3 ∶ (whole-area f n (h .area) && as-long n y)
+    ∷ 5 ∶ all-finite y
+    ∷ 6 ∶ finite t
+    ∷ []
+
+unfoldable pub attempt-tests : Held → Arguments → List Test
+attempt-tests h a = let r = h .kept in
+    1 ∶ known (r .family)
+    ∷ 2 ∶ sized (r .n)
+    ∷ 3 ∶ whole-area (r .family) (r .n) (h .area)
+    ∷ 4 ∶ may-attempt (r .phase)
+    ∷ 6 ∶ good-times a
+    ∷ 7 ∶ good-tolerances a
+    ∷ []
+
+-- a reply that ends the power iteration has the need of stages tested
+unfoldable pub need-tests : Need → List Test
+need-tests (Met s) = []
+need-tests (Unmet i) = i ∶ false ∷ []
+
+unfoldable pub pass-tests : Record → Vectors → List Float → List Test
+pass-tests r v d = let i = r .iteration in
+    let radius = radius-of (i .perturbation) (turned (r .n) v d) in
+    cond (ended (i .pass) (i .«previous_radius») radius || eqb (i .pass) 12)
+    (need-tests (stage-need (family-of (r .family)) (scaled (r .arguments .step) radius)))
+    []
+
+-- "the reply that ends stage s also 10"
+unfoldable pub stage-tests : Record → Vectors → List Float → List Test
+stage-tests r v d = let f = family-of (r .family) in
+    let s = r .staging .stages in
+    let j = r .staging .stage in
+    let row = coefficients f s j (r .staging .recurrence) in
+    cond (ltb j s)
+    []
+    (10 ∶ all-finite (with-row f (r .n) (r .arguments .step) row v d next-stage) ∷ [])
+
+unfoldable pub replied-tests : Phase → Record → Vectors → List Float → List Test
+replied-tests P.Empty r v d = []
+replied-tests P.First r v d = []
+replied-tests P.Ready r v d = []
+replied-tests P.Pass r v d = pass-tests r v d
+replied-tests P.Stage r v d = stage-tests r v d
+replied-tests P.Candidate r v d = []
+replied-tests P.Finished r v d = []
+replied-tests P.Callback r v d = []
+
+unfoldable pub reply-tests : Held → List Float → List Test
+reply-tests h d = let r = h .kept in
+    1 ∶ known (r .family)
+    ∷ 2 ∶ sized (r .n)
+    ∷ 3 ∶ (whole-area (r .family) (r .n) (h .area) && as-long (r .n) d)
+    ∷ 4 ∶ awaiting r
+    ∷ 8 ∶ has-room (r .phase) (h .counters)
+    ∷ 9 ∶ all-finite d
+    ∷ replied-tests (r .phase) r (unpack (r .n) (h .area)) d
+
+unfoldable pub accept-tests : Held → List Test
+accept-tests h = let r = h .kept in
+    1 ∶ known (r .family)
+    ∷ 2 ∶ sized (r .n)
+    ∷ 3 ∶ whole-area (r .family) (r .n) (h .area)
+    ∷ 4 ∶ may-accept (r .phase)
+    ∷ []
+
+unfoldable pub callback-tests : Held → List Float → Float → List Test
+callback-tests h y t = let r = h .kept in
+    1 ∶ known (r .family)
+    ∷ 2 ∶ sized (r .n)
+    ∷ 3 ∶ (whole-area (r .family) (r .n) (h .area) && as-long (r .n) y)
+    ∷ 4 ∶ may-accept (r .phase)
+    ∷ 5 ∶ all-finite y
+    ∷ 6 ∶ finite t
+    ∷ []
+
+unfoldable pub abandon-tests : Held → List Test
+abandon-tests h = let r = h .kept in
+    1 ∶ known (r .family)
+    ∷ 2 ∶ sized (r .n)
+    ∷ 3 ∶ whole-area (r .family) (r .n) (h .area)
+    ∷ 4 ∶ awaiting r
+    ∷ []
+
+unfoldable pub tests-of : Held → Call → List Test
+tests-of h (Start f n y t) = start-tests h f n y t
+tests-of h (Attempt a) = attempt-tests h a
+tests-of h (Reply d) = reply-tests h d
+tests-of h Accept = accept-tests h
+tests-of h (Accept-with-callback y t) = callback-tests h y t
+tests-of h Abandon = abandon-tests h
+
+-- the numbers that a call can answer
+unfoldable pub numbers-of : Call → List ℕ
+numbers-of (Start f n y t) = 1 ∷ 2 ∷ 3 ∷ 5 ∷ 6 ∷ []
+numbers-of (Attempt a) = 1 ∷ 2 ∷ 3 ∷ 4 ∷ 6 ∷ 7 ∷ []
+numbers-of (Reply d) = 1 ∷ 2 ∷ 3 ∷ 4 ∷ 8 ∷ 9 ∷ 10 ∷ []
+numbers-of Accept = 1 ∷ 2 ∷ 3 ∷ 4 ∷ []
+numbers-of (Accept-with-callback y t) = 1 ∷ 2 ∷ 3 ∷ 4 ∷ 5 ∷ 6 ∷ []
+numbers-of Abandon = 1 ∷ 2 ∷ 3 ∷ 4 ∷ []
+
+infix 40 _∈_
+pub data _∈_ (k : ℕ) : List ℕ → Type 0 where
+  here : {ks : List ℕ} → k ∈ (k ∷ ks)
+  later : {i : ℕ} {ks : List ℕ} → k ∈ ks → k ∈ (i ∷ ks)

@@ -1,0 +1,192 @@
+-- The Rust's kernel from its `initialize` on, in direct style: `attempt_step` and `accept_step` one after the other, as the calls begin, feed and drop them. What it shows is what the calls show. Document 01, "Demand 2's domain".
+use Prim.Native.Nat.{ℕ, _+_, _*_}
+use mathlib.Core.Bool.{Bool, true, false, cond, not, _&&_, _||_}
+use mathlib.Core.List.{List, [], _∷_}
+use lib.Dec.{eqb}
+use lib.ListN.{replicate}
+use lib.Ieee.{Float}
+use lib.Ieee.Scale.{finite}
+use Rattle.ieee.specs.Double.{nought}
+use Rattle.family.specs.Family.{known, family-of}
+use Rattle.workspace.specs.declared.Arguments.{Arguments}
+use Rattle.workspace.specs.Vectors.{Vectors, _with_≔_, named, vector-count, unpack, all-finite, first-derivative, last-derivative, eigenvector, state, candidate}
+use Rattle.driver.specs.declared.Counters.{Counters}
+use Rattle.driver.specs.declared.Answer.{Answer}
+use Rattle.driver.specs.declared.Answer.the-variants.{Evaluate, Finished, Ready, Refused, Empty}
+use Rattle.driver.specs.Calls.{Held, Called, Call, Start, Attempt, Reply, Accept, Accept-with-callback, Abandon, made, taken, sized, as-long, good-times, good-tolerances, room}
+use Rattle.session.specs.Attempt.{Asking, done, stopped, ask, _>>=_, evaluate, Outcome, attempt-step}
+
+-- ---- the calls over a list of them
+
+-- what can be seen of an answer: the time and point to evaluate; norm, s, k, r and candidate; state and derivative; the number
+pub data Shown : Type 0 where
+  evaluates : Float → List Float → Shown
+  finished-with : Float → ℕ → ℕ → Float → List Float → Shown
+  ready-at : List Float → List Float → Shown
+  stops : ℕ → Shown
+  nothing : Shown
+
+pub record Seen : Type 0 where
+  pub shown : Shown
+  pub counts : Counters
+
+unfoldable pub answer-shown : Answer → Held → Shown
+answer-shown (Evaluate t b) h = evaluates t (unpack (h .kept .n) (h .area) (named b))
+answer-shown (Finished e) h = let i = h .kept .iteration in
+    finished-with e (h .kept .staging .stages) (i .pass) (i .«scaled_radius») (unpack (h .kept .n) (h .area) candidate)
+answer-shown Ready h = ready-at (unpack (h .kept .n) (h .area) state) (unpack (h .kept .n) (h .area) first-derivative)
+answer-shown (Refused i) h = stops i
+answer-shown Empty h = nothing
+
+unfoldable pub call-seen : Called → Seen
+call-seen x = record { shown = answer-shown (x .answer) (x .held); counts = x .held .counters }
+
+-- what is seen of those that are taken
+unfoldable pub seen-of : Held → List Call → List Seen
+seen-of h [] = []
+seen-of h (c ∷ cs) = let rest = seen-of (made h c .held) cs in cond (taken (made h c .answer)) (call-seen (made h c) ∷ rest) rest
+
+-- ---- the Rust's functions
+
+-- between two of them: ready, or an attempt is finished
+pub data Resting : Type 0 where
+  ready-with : Vectors → Resting
+  tried : Outcome → Resting
+
+unfoldable pub vectors-of : Resting → Vectors
+vectors-of (ready-with v) = v
+vectors-of (tried o) = o .vectors
+
+-- `initialize` of a new kernel, whose vectors are zeros
+unfoldable pub initialize : ℕ → List Float → Float → Asking Resting
+initialize n y t = do
+  let v = (λ b. replicate n nought) with state ≔ y
+  d ← evaluate v t y
+  done (ready-with (v with first-derivative ≔ d))
+
+unfoldable pub tries : ℕ → ℕ → Arguments → Vectors → Asking Resting
+tries f n a v = do
+  o ← attempt-step (family-of f) n a v
+  done (tried o)
+
+-- `accept_step`, without a callback and with one
+unfoldable pub accept-step : Vectors → Asking Resting
+accept-step v = done (ready-with (v with first-derivative ≔ v last-derivative with state ≔ v candidate))
+
+unfoldable pub callback-step : ℕ → List Float → Float → Vectors → Asking Resting
+callback-step n y t v = do
+  let v = v with state ≔ y
+  d ← evaluate v t y
+  done (ready-with (v with first-derivative ≔ d with eigenvector ≔ replicate n nought))
+
+-- ---- a session
+
+-- none begun, or abandoned; or within one of them, or at rest after it
+pub data Doing : Type 0 where
+  none : Doing
+  within : Asking Resting → Doing
+
+pub record Session : Type 0 where
+  pub family : ℕ
+  pub n : ℕ
+  pub doing : Doing
+  pub counts : Counters
+
+-- where it is at rest, at rest after an attempt, or waiting for a derivative; else it stays
+unfoldable pub at-rest : (Resting → Doing) → Doing → Doing
+at-rest go none = none
+at-rest go (within (done r)) = go r
+at-rest go (within (stopped i v)) = within (stopped i v)
+at-rest go (within (ask t p k)) = within (ask t p k)
+
+unfoldable pub after-attempt : (Vectors → Doing) → Resting → Doing
+after-attempt go (ready-with v) = within (done (ready-with v))
+after-attempt go (tried o) = go (o .vectors)
+
+unfoldable pub waiting : ((List Float → Asking Resting) → Doing) → Doing → Doing
+waiting go none = none
+waiting go (within (done r)) = within (done r)
+waiting go (within (stopped i v)) = within (stopped i v)
+waiting go (within (ask t p k)) = go k
+
+-- a reply is an evaluation; it finishes an attempt where the function is then done with one
+unfoldable pub finished-by : Doing → ℕ
+finished-by none = 0
+finished-by (within (done (ready-with v))) = 0
+finished-by (within (done (tried o))) = 1
+finished-by (within (stopped i v)) = 0
+finished-by (within (ask t p k)) = 0
+
+unfoldable pub counts-on : Doing → Counters → Counters
+counts-on δ c = record { evaluations = c .evaluations + 1; «finished_attempts» = c .«finished_attempts» + finished-by δ }
+
+unfoldable pub doing-now : Session → Doing → Session
+doing-now σ δ = record { family = σ .family; n = σ .n; doing = δ; counts = σ .counts }
+
+unfoldable pub replied-with : List Float → Doing → Doing
+replied-with d δ = waiting (λ k. within (k d)) δ
+
+unfoldable pub step : Session → Call → Session
+step σ (Start f n y t) = record { family = f; n = n; doing = within (initialize n y t); counts = σ .counts }
+step σ (Attempt a) = doing-now σ (at-rest (λ r. within (tries (σ .family) (σ .n) a (vectors-of r))) (σ .doing))
+step σ (Reply d) = let δ = replied-with d (σ .doing) in
+    record { family = σ .family; n = σ .n; doing = δ; counts = counts-on δ (σ .counts) }
+step σ Accept = doing-now σ (at-rest (after-attempt (λ v. within (accept-step v))) (σ .doing))
+step σ (Accept-with-callback y t) = doing-now σ (at-rest (after-attempt (λ v. within (callback-step (σ .n) y t v))) (σ .doing))
+step σ Abandon = doing-now σ (waiting (λ k. none) (σ .doing))
+
+unfoldable pub doing-shown : Doing → Shown
+doing-shown none = nothing
+doing-shown (within (done (ready-with v))) = ready-at (v state) (v first-derivative)
+doing-shown (within (done (tried o))) = finished-with (o .norm) (o .stages) (o .passes) (o .scaled-radius) (o .vectors candidate)
+doing-shown (within (stopped i v)) = stops i
+doing-shown (within (ask t p k)) = evaluates t p
+
+unfoldable pub session-seen : Session → Seen
+session-seen σ = record { shown = doing-shown (σ .doing); counts = σ .counts }
+
+-- ---- which calls it takes
+
+unfoldable pub rests : Doing → Bool
+rests none = false
+rests (within (done r)) = true
+rests (within (stopped i v)) = false
+rests (within (ask t p k)) = false
+
+unfoldable pub has-tried : Doing → Bool
+has-tried none = false
+has-tried (within (done (ready-with v))) = false
+has-tried (within (done (tried o))) = true
+has-tried (within (stopped i v)) = false
+has-tried (within (ask t p k)) = false
+
+unfoldable pub waits : Doing → Bool
+waits none = false
+waits (within (done r)) = false
+waits (within (stopped i v)) = false
+waits (within (ask t p k)) = true
+
+-- waits for a derivative, and has room to count it; the candidate's is the one that a finite reply, as the empty list is, ends an attempt with
+unfoldable pub waits-with-room : Doing → Counters → Bool
+waits-with-room none c = false
+waits-with-room (within (done r)) c = false
+waits-with-room (within (stopped i v)) c = false
+waits-with-room (within (ask t p k)) c = room (c .evaluations) && (not (has-tried (within (k []))) || room (c .«finished_attempts»))
+
+-- with an area of so many doubles
+unfoldable pub takes : ℕ → Session → Call → Bool
+takes size σ (Start f n y t) = known f && (sized n && (eqb size (vector-count (family-of f) * n) && as-long n y && (all-finite y && finite t)))
+takes size σ (Attempt a) = rests (σ .doing) && (good-times a && good-tolerances a)
+takes size σ (Reply d) = as-long (σ .n) d && waits-with-room (σ .doing) (σ .counts)
+takes size σ Accept = has-tried (σ .doing)
+takes size σ (Accept-with-callback y t) = as-long (σ .n) y && (has-tried (σ .doing) && (all-finite y && finite t))
+takes size σ Abandon = waits (σ .doing)
+
+-- what is seen of a session; a call that it does not take is skipped
+unfoldable pub session : ℕ → Session → List Call → List Seen
+session size σ [] = []
+session size σ (c ∷ cs) = cond (takes size σ c) (session-seen (step σ c) ∷ session size (step σ c) cs) (session size σ cs)
+
+-- nothing begun yet
+unfoldable pub fresh : Counters → Session
+fresh c = record { family = 0; n = 0; doing = none; counts = c }
