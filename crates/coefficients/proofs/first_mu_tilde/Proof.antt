@@ -3,7 +3,7 @@ use lib.Ieee.{ofBits, ofInt, neg}
 use Rattle.ieee.specs.Double.{double, square}
 use Rattle.family.specs.Family.{family-of}
 use Rattle.coefficients.specs.Rows.{first-mu-tilde}
-use Rattle.coefficients.proofs.Numbers.{last}
+use Rattle.family.proofs.Numbers.{last-family}
 use borrow.Author.Needs.{needs}
 use Rattle.coefficients.proofs.first_mu_tilde.Statement.{statement}
 use Rattle.coefficients.proofs.first_mu_tilde.Tie as tie
@@ -32,7 +32,7 @@ returns-4 c = rw (c .before .omega-one .ensures, c .match .keys4)
 
 returns-5 : tie.Need-returns-5
 unfolding first-mu-tilde double ofBits ofInt neg
-returns-5 c = let r = c .match .rest in rw (c .before .omega-one .ensures, last _ (r .0 .0 .0 .1) (r .0 .0 .1) (r .0 .1) (r .1))
+returns-5 c = let r = c .match .rest in rw (c .before .omega-one .ensures, last-family _ (r .0 .0 .0 .1) (r .0 .0 .1) (r .0 .1) (r .1))
 
 pub first-mu-tilde-spec : {M : Type 1} → statement M
 first-mu-tilde-spec =

@@ -3,7 +3,7 @@ use lib.Ieee.{ofBits, ofInt, neg}
 use Rattle.ieee.specs.Double.{double, square}
 use Rattle.family.specs.Family.{family-of}
 use Rattle.coefficients.specs.Rows.{omega-one-of}
-use Rattle.coefficients.proofs.Numbers.{last}
+use Rattle.family.proofs.Numbers.{last-family}
 use borrow.Author.Needs.{needs}
 use Rattle.coefficients.proofs.omega_one.Statement.{statement}
 use Rattle.coefficients.proofs.omega_one.Tie as tie
@@ -32,7 +32,7 @@ returns-4 c = rw (c .match .keys4, c .before .double-of .ensures)
 
 returns-5 : tie.Need-returns-5
 unfolding omega-one-of square double ofBits ofInt neg
-returns-5 c = let r = c .match .rest in rw (last _ (r .0 .0 .0 .1) (r .0 .0 .1) (r .0 .1) (r .1), c .before .double-of .ensures)
+returns-5 c = let r = c .match .rest in rw (last-family _ (r .0 .0 .0 .1) (r .0 .0 .1) (r .0 .1) (r .1), c .before .double-of .ensures)
 
 pub omega-one-spec : {M : Type 1} → statement M
 omega-one-spec =

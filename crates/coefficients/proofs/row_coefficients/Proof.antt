@@ -1,7 +1,7 @@
 -- `row_coefficients` meets its contract, family by family.
 use Rattle.family.specs.Family.{family-of}
 use Rattle.coefficients.specs.Rows.{coefficients}
-use Rattle.coefficients.proofs.Numbers.{last}
+use Rattle.family.proofs.Numbers.{last-family}
 use borrow.Author.Needs.{needs}
 use Rattle.coefficients.proofs.row_coefficients.Statement.{statement}
 use Rattle.coefficients.proofs.row_coefficients.Tie as tie
@@ -42,7 +42,7 @@ returns-4 c = rw (c .gegenbauer-one .ensures, c .before .before .omega-one .ensu
 
 returns-5 : tie.Need-returns-5
 unfolding coefficients
-returns-5 c = let r = c .before .match .rest in rw (c .gegenbauer-two .ensures, c .before .before .omega-one .ensures, last _ (r .0 .0 .0 .1) (r .0 .0 .1) (r .0 .1) (r .1))
+returns-5 c = let r = c .before .match .rest in rw (c .gegenbauer-two .ensures, c .before .before .omega-one .ensures, last-family _ (r .0 .0 .0 .1) (r .0 .0 .1) (r .0 .1) (r .1))
 
 pub row-coefficients-spec : {M : Type 1} → statement M
 row-coefficients-spec =
