@@ -1,18 +1,19 @@
--- A fraction in the normal range is rounded to a double within one part in 2 ^ 53 of it. Assumes nothing.
+-- A fraction between 2 ^ -1022 and 2 ^ 1022 is rounded to a double that is off by one part in 2 ^ 53 of it at most (`rounded`). `Rel n u v`, u and v within n parts in 2 ^ 53
+-- of each other, adds up under products with no second-order terms. Assumes nothing.
 use mathlib.Core.Path.{_≡_, refl, sym, ap, _∙_, subst}
 use Prim.Native.Nat.{ℕ, zero, suc, _+_, _-_, _*_, _/_, _%_, _^_, _≤_, _<_, compare, Ordering, Ordering·lt, Ordering·eq, Ordering·gt}
-use native.Mathlib.Nat.{le-trans, le-of-eq, le-of-lt, lt-of-le-of-lt, le-of-mul-le-mul-right, mul-comm, mul-assoc, mul-left-comm, mul-right-comm, mul-mul-mul-comm, mul-le-mul, mul-le-mul-right, mul-le-mul-left, mul-pos, mul-sub, le-add-right, eq-zero-or-pos, not-le-of-lt, zero-mul, lt-of-mul-lt-mul-right, add-mul, mod-lt, div-add-mod', le-div-iff-mul-le}
+use native.Mathlib.Nat.{le-trans, le-of-eq, le-of-lt, lt-of-le-of-lt, le-of-mul-le-mul-right, mul-comm, mul-assoc, mul-left-comm, mul-right-comm, mul-mul-mul-comm, mul-le-mul, mul-le-mul-right, mul-le-mul-left, mul-pos, mul-sub, eq-zero-or-pos, not-le-of-lt, lt-of-mul-lt-mul-right, add-mul, mod-lt, div-add-mod', le-div-iff-mul-le}
 use native.Mathlib.Omega.{arith}
 use mathlib.Core.Logic.{_⊎_, inl, inr}
 use mathlib.Core.Bool.{Bool, true, false, not}
-use lib.Dec.{T, leb, isLe, isEq, leb→le, nleb→lt, ltb→lt, eqb→eq, lit<, lit≤}
+use lib.Dec.{T, leb, isLe, isEq, leb→le, nleb→lt, eqb→eq, lit<, lit≤}
 use lib.Pow.{pow-add, pow-pos, pow-mono}
 use lib.Ieee.{Float, nan, inf, fin, binary64, up, down, size, round, nearest}
 use lib.Ieee.Digits.{size-reaches}
 use lib.Ieee.Fits.{round-is}
 use lib.Ieee.Exact.{HasValue, units-val}
 use lib.Ieee.Nearest.{closest}
-use lib.Ieee.Positive.{num, den, first-pos}
+use lib.Ieee.Positive.{num, den}
 use lib.Ieee.Scale.{finite, normal-of-fraction}
 use Rattle.ieee.specs.Close.{sign}
 
@@ -106,16 +107,10 @@ closest-off a b B = go (compare (a % b * 2) b) (leb→le (a % b * 2) b) (nleb→
         no z = omega arith
 
 -- ---- the rounded value
--- the size of x is within n parts in P of m / d, and s is its sign
-pub record Near (n : ℕ) (s : Bool) (x : Float) (m d : ℕ) : Type 0 where
-  pub number : T (finite x)
-  pub signed-so : sign x ≡ s
-  pub near : Rel n (num x * d) (m * den x)
-
--- x lies between 2 ^ -k and 2 ^ k
-pub record Within (k a c : ℕ) : Type 0 where
-  pub lower : c ≤ a * 2 ^ k
-  pub upper : a ≤ c * 2 ^ k
+-- |u − v| · 2 ^ 53 ≤ v
+pub record Off (u v : ℕ) : Type 0 where
+  pub over : u * P ≤ v * P + v
+  pub under : v * P ≤ u * P + v
 
 pub order : (b a : ℕ) → (b ≤ a) ⊎ (a ≤ b)
 order b a = go (leb b a) (leb→le b a) (nleb→lt b a)
@@ -124,56 +119,84 @@ order b a = go (leb b a) (leb→le b a) (nleb→lt b a)
     go true y n = inl (y tt)
     go false y n = inr (le-of-lt (n tt))
 
--- n is the fraction in units, u the unit of the result, x = q u
--- (p = 2 q)
-half-up : (q n u x : ℕ) → q * u ≤ n → 2 * x ≤ 2 * n + u → x * (2 * q) ≤ n * (2 * q) + x
-half-up q n u x h l = elim (order n x) [
-  | inl g ↦ step (q * (2 * x)) (q * (2 * n + u)) (mul-le-mul-left q l) g
-  | inr g ↦ le-trans (mul-le-mul-right (2 * q) g) (le-add-right (n * (2 * q)) x)
-]
+pub rel-off : {u v : ℕ} → Off u v → Rel 1 u v
+rel-off {u} {v} h = record { to = elim (order u v) [ inl l ↦ below u v P l | inr l ↦ above u v P l (h .over) ]; from = less v (u * P) P (h .under) }
   where
-    step : (a b : ℕ) → q * (2 * x) ≤ q * (2 * n + u) → n ≤ x → x * (2 * q) ≤ n * (2 * q) + x
-    step a b m g = omega arith
+    less : (v w p : ℕ) → v * p ≤ w + v → v * (p - 1) ≤ w
+    less v w p h = let e : v * (p - 1) ≡ v * p - v * 1 = mul-sub v p 1 in omega arith
 
-half-down : (q n u x : ℕ) → q * u ≤ n → 2 * n ≤ 2 * x + u → n * (2 * q) ≤ x * (2 * q) + n
-half-down q n u x h l = let m = mul-le-mul-left q l in omega arith
+    below : (u v p : ℕ) → u ≤ v → u * (p - 1) ≤ v * p
+    below u v p l = mul-le-mul l (small p)
+      where
+        small : (p : ℕ) → p - 1 ≤ p
+        small p = omega arith
 
-less : (x p y : ℕ) → x * p ≤ y + x → x * (p - 1) ≤ y
-less x p y h = let e : x * (p - 1) ≡ x * p - x * 1 = mul-sub x p 1 in omega arith
+    above : (u v p : ℕ) → v ≤ u → u * p ≤ v * p + v → u * (p - 1) ≤ v * p
+    above u v p l h = less u (v * p) p (omega arith)
 
-grid-off : (n u x : ℕ) → 2 ^ 52 * u ≤ n → 2 * x ≤ 2 * n + u → 2 * n ≤ 2 * x + u → Rel 1 x n
-grid-off n u x h l k = record { to = less x P (n * P) (half-up (2 ^ 52) n u x h l); from = less n P (x * P) (half-down (2 ^ 52) n u x h k) }
+off-times : {u v : ℕ} (k : ℕ) → Off u v → Off (u * k) (v * k)
+off-times {u} {v} k h = record { over = scale u v v P (h .over); under = scale v u v P (h .under) }
+  where
+    scale : (a b c p : ℕ) → a * p ≤ b * p + c → a * k * p ≤ b * k * p + c * k
+    scale a b c p h = let m = mul-le-mul-right k h in omega arith
 
-pos-of-rel : {u v : ℕ} → Rel 1 u v → 0 < v → 0 < u
-pos-of-rel {u} {v} h p = elim (eq-zero-or-pos u) [
-  | inl z ↦ absurd (not-le-of-lt (mul-pos p (ltb→lt 0 (P - 1) tt)) (le-trans (h .from) (le-of-eq (ap (λ (x : ℕ). x * P) z))))
+off-cancel : {u v : ℕ} (k : ℕ) → 0 < k → Off (u * k) (v * k) → Off u v
+off-cancel {u} {v} k z h = record { over = scale u v v P (h .over); under = scale v u v P (h .under) }
+  where
+    scale : (a b c p : ℕ) → a * k * p ≤ b * k * p + c * k → a * p ≤ b * p + c
+    scale a b c p h = le-of-mul-le-mul-right (shape h) z
+      where
+        shape : a * k * p ≤ b * k * p + c * k → a * p * k ≤ (b * p + c) * k
+        shape h = omega arith
+
+-- n is the fraction in units, u the unit of the result, x the result in units; q is half of 2 ^ 53
+grid-off : (n u x : ℕ) → 2 ^ 52 * u ≤ n → 2 * x ≤ 2 * n + u → 2 * n ≤ 2 * x + u → Off x n
+grid-off n u x h l k = record { over = half x n n (2 ^ 52) l h; under = half n x n (2 ^ 52) k h }
+  where
+    half : (a b n q : ℕ) → 2 * a ≤ 2 * b + u → q * u ≤ n → a * (2 * q) ≤ b * (2 * q) + n
+    half a b n q l h = let m = mul-le-mul-left q l in omega arith
+
+-- x is m / d rounded, with the sign s
+pub record Rounded (s : Bool) (x : Float) (m d : ℕ) : Type 0 where
+  pub number : T (finite x)
+  pub signed-so : sign x ≡ s
+  pub off : Off (num x * d) (m * den x)
+
+-- the size of x is within n parts in P of m / d, and s is its sign
+pub record Near (n : ℕ) (s : Bool) (x : Float) (m d : ℕ) : Type 0 where
+  pub number : T (finite x)
+  pub signed-so : sign x ≡ s
+  pub near : Rel n (num x * d) (m * den x)
+
+-- a / c lies between 2 ^ -k and 2 ^ k
+pub record Within (k a c : ℕ) : Type 0 where
+  pub lower : c ≤ a * 2 ^ k
+  pub upper : a ≤ c * 2 ^ k
+
+pub pos-of-rel : {n u v : ℕ} → n < P → Rel n u v → 0 < v → 0 < u
+pos-of-rel {n} {u} {v} l h p = elim (eq-zero-or-pos u) [
+  | inl z ↦ absurd (not-le-of-lt (mul-pos p (room P l)) (le-trans (h .from) (le-of-eq (ap (λ (x : ℕ). x * P) z))))
   | inr q ↦ q
 ]
+  where
+    room : (p : ℕ) → n < p → 0 < p - n
+    room p l = omega arith
 
--- num z · l ≡ g · den z, and g · c is near a · l
-to-value : (z : Float) (s : Bool) (g l a c : ℕ) → 0 < l → 0 < g → HasValue z s g l → Rel 1 (g * c) (a * l) → Near 1 s z a c
-to-value nan s g l a c L G v h = absurd v
-to-value (inf t) s g l a c L G v h = absurd v
-to-value (fin t m e) s g l a c L G v h = record {
+-- z is g / l
+to-value : (z : Float) (s : Bool) (g l a c : ℕ) → 0 < l → HasValue z s g l → Off (g * c) (a * l) → Rounded s z a c
+to-value nan s g l a c L v h = absurd v
+to-value (inf t) s g l a c L v h = absurd v
+to-value (fin t m e) s g l a c L v h = record {
   number = tt;
   signed-so = v .0;
-  near = rel-cancel (g * l) (mul-pos G L) (rel-same (left (m * up e)) (right (down e)) (rel-times (rel-equal (v .1)) h));
+  off = off-cancel l L (subst (λ (x : ℕ). Off x (a * down e * l)) left (subst (Off (g * c * down e)) (mul-right-comm a l (down e)) (off-times (down e) h)));
 }
   where
-    left : (x : ℕ) → x * l * (g * c) ≡ x * c * (g * l)
-    left x = simp (mul-assoc, mul-comm, mul-left-comm)
+    left : g * c * down e ≡ m * up e * c * l
+    left = mul-right-comm g c (down e) ∙ ap (λ (x : ℕ). x * c) (sym (v .1)) ∙ mul-right-comm (m * up e) l c
 
-    right : (d : ℕ) → g * d * (a * l) ≡ a * d * (g * l)
-    right d = simp (mul-assoc, mul-comm, mul-left-comm)
-
-module _ (a c k : ℕ) (C : 0 < c) (K : k ≤ 1000) (w : Within k a c) where
-  a-pos : 0 < a
-  a-pos = elim (eq-zero-or-pos a) [ inl z ↦ absurd (not-le-of-lt C (le-trans (w .lower) (le-of-eq (ap (λ (x : ℕ). x * 2 ^ k) z ∙ zero-mul (2 ^ k))))) | inr q ↦ q ]
-
-  -- the fraction in units, how many digits are dropped, the unit of the result
-  n : ℕ
-  n = a * 2 ^ 1074
-
+module _ (a c k : ℕ) (C : 0 < c) (K : k ≤ 1022) (w : Within k a c) where
+  -- how many digits of the fraction, in units, are dropped
   dropped : ℕ
   dropped = size (a * 2 ^ 1074 / c) - 53
 
@@ -183,7 +206,7 @@ module _ (a c k : ℕ) (C : 0 < c) (K : k ≤ 1000) (w : Within k a c) where
       (le-trans (le-of-eq (mul-left-comm (2 ^ 52) a (2 ^ k) ∙ ap (λ (x : ℕ). a * x) (sym (pow-add 2 52 k))))
       (mul-le-mul-left a (pow-mono (room k K)))))
     where
-      room : (k : ℕ) → k ≤ 1000 → 52 + k ≤ 1074
+      room : (k : ℕ) → k ≤ 1022 → 52 + k ≤ 1074
       room k h = omega arith
 
   unit-small : 2 ^ 52 * (c * 2 ^ dropped) ≤ a * 2 ^ 1074
@@ -202,18 +225,18 @@ module _ (a c k : ℕ) (C : 0 < c) (K : k ≤ 1000) (w : Within k a c) where
   q : ℕ
   q = closest (a * 2 ^ 1074) (c * 2 ^ dropped)
 
-  on-grid : Rel 1 (q * 2 ^ dropped * c) (a * 2 ^ 1074)
+  on-grid : Off (q * 2 ^ dropped * c) (a * 2 ^ 1074)
   unfolding q
   on-grid =
       let u = c * 2 ^ dropped in
       let o = closest-off (a * 2 ^ 1074) u (mul-pos C (pow-pos dropped)) in
-      rel-same (shape q (2 ^ dropped)) refl (grid-off (a * 2 ^ 1074) u (q * u) unit-small (o .0) (o .1))
+      subst (λ (x : ℕ). Off x (a * 2 ^ 1074)) (shape q (2 ^ dropped)) (grid-off (a * 2 ^ 1074) u (q * u) unit-small (o .0) (o .1))
     where
       shape : (x y : ℕ) → x * (c * y) ≡ x * y * c
       shape x y = simp (mul-assoc, mul-comm, mul-left-comm)
 
   no-overflow : q * 2 ^ dropped < 2 ^ 2098
-  no-overflow = lt-of-mul-lt-mul-right (2 ^ 52) (lt-of-le-of-lt (le-of-mul-le-mul-right (chain (q * 2 ^ dropped) (2 ^ 1074) (2 ^ 52) (P - 1) P (2 ^ k) (2 ^ 1000) (lit≤ tt) (pow-mono K) (on-grid .to) (w .upper)) C) (lit< tt))
+  no-overflow = lt-of-mul-lt-mul-right (2 ^ 52) (lt-of-le-of-lt (le-of-mul-le-mul-right (chain (q * 2 ^ dropped) (2 ^ 1074) (2 ^ 52) (P - 1) P (2 ^ k) (2 ^ 1022) (lit≤ tt) (pow-mono K) (rel-off on-grid .to) (w .upper)) C) (lit< tt))
     where
       chain : (g l h p' p r t : ℕ) → h ≤ p' → r ≤ t → g * c * p' ≤ a * l * p → a ≤ c * r → g * h * c ≤ t * l * p * c
       chain g l h p' p r t x y z v =
@@ -223,7 +246,10 @@ module _ (a c k : ℕ) (C : 0 < c) (K : k ≤ 1000) (w : Within k a c) where
           shape : (t l p : ℕ) → c * t * l * p ≡ t * l * p * c
           shape t l p = simp (mul-assoc, mul-comm, mul-left-comm)
 
-  pub round-near : (s : Bool) → Near 1 s (round binary64 s a c) a c
+  pub rounded : (s : Bool) → Rounded s (round binary64 s a c) a c
   unfolding q dropped
-  round-near s = to-value (round binary64 s a c) s (q * 2 ^ dropped) (2 ^ 1074) a c (pow-pos 1074) (first-pos (q * 2 ^ dropped) c (pos-of-rel on-grid (mul-pos a-pos (pow-pos 1074))))
+  rounded s = to-value (round binary64 s a c) s (q * 2 ^ dropped) (2 ^ 1074) a c (pow-pos 1074)
       (subst (λ (z : Float). HasValue z s (q * 2 ^ dropped) (2 ^ 1074)) (sym (round-is binary64 s a c)) (units-val binary64 s q dropped no-overflow)) on-grid
+
+  pub round-near : (s : Bool) → Near 1 s (round binary64 s a c) a c
+  round-near s = let r = rounded s in record { number = r .number; signed-so = r .signed-so; near = rel-off (r .off) }
