@@ -49,6 +49,19 @@ number-named (suc (suc (suc (suc (suc (suc (suc (suc (suc zero))))))))) h = refl
 number-named (suc (suc (suc (suc (suc (suc (suc (suc (suc (suc zero)))))))))) h = refl
 number-named (suc (suc (suc (suc (suc (suc (suc (suc (suc (suc (suc k))))))))))) h = absurd (omega (arith, h))
 
+pub named-number : (b : Vector) → named (number b) ≡ b
+named-number first-derivative = refl
+named-number last-derivative = refl
+named-number derivative = refl
+named-number previous-two = refl
+named-number previous-one = refl
+named-number next-stage = refl
+named-number eigenvector = refl
+named-number perturbed-state = refl
+named-number perturbed-derivative = refl
+named-number state = refl
+named-number candidate = refl
+
 -- vector k lies within the first m of n doubles each
 pub room : (m k n : ℕ) → k < m → k * n + n ≤ m * n
 room m k n h = omega (arith, mul-le-mul-right n h, suc-mul k n)

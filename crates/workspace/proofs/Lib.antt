@@ -1,1 +1,6 @@
 pub mod Areas
+pub mod Lists
+pub mod Parts
+pub mod Front
+pub mod Finite
+pub mod Columns

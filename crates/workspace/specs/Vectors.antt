@@ -1,5 +1,5 @@
 -- The area's vectors by name: workspace.rs's nine in its order, then a copy of the state, then the candidate. Document 01, "one lent area".
-use Prim.Native.Nat.{ℕ, zero, suc, _*_}
+use Prim.Native.Nat.{ℕ, zero, suc, _+_, _*_}
 use mathlib.Core.Bool.{Bool, true, cond, _&&_}
 use mathlib.Core.List.{List, [], _∷_, _++_, foldl}
 use lib.Dec.{eqb}
@@ -60,6 +60,10 @@ abbrev pub _with_≔_ : Vectors → Vector → List Float → Vectors
 -- the area: the vectors one after the other, each n long
 unfoldable pub unpack : ℕ → List Float → Vectors
 unpack n area a = take n (drop (number a * n) area)
+
+-- the elements at one index, read in the area
+abbrev pub column : ℕ → List Float → ℕ → Vector → Float
+column n area i a = getD area (number a * n + i) nan
 
 abbrev pub in-order : Vectors → List (List Float)
 in-order v =

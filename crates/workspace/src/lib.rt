@@ -1,4 +1,15 @@
 // workspace.rs: the vectors of the lent area, norms, the power iteration's steps, the rows and the error.
+ghost use mathlib.Core.Path.{_≡_};
+ghost use Rattle.family.specs.Family.{family-of};
+ghost use Rattle.workspace.specs.Vectors.{vector-count};
+
+pub mod area;
+
+pub use area::all_finite;
+pub use area::copy_vector;
+pub use area::fill_vector;
+pub use area::finite_vector;
+pub use area::put_vector;
 
 // What an attempt brings.
 pub struct Arguments {
@@ -7,4 +18,40 @@ pub struct Arguments {
     pub absolute_tolerance: f64,
     pub relative_tolerance: f64,
     pub adaptive: bool,
+}
+
+// The vectors of the area by number. A contract names them by `number` and `named` of specs/Vectors.
+pub const FIRST_DERIVATIVE: usize = 0;
+
+pub const LAST_DERIVATIVE: usize = 1;
+
+pub const DERIVATIVE: usize = 2;
+
+pub const PREVIOUS_TWO: usize = 3;
+
+pub const PREVIOUS_ONE: usize = 4;
+
+pub const NEXT_STAGE: usize = 5;
+
+pub const EIGENVECTOR: usize = 6;
+
+pub const PERTURBED_STATE: usize = 7;
+
+pub const PERTURBED_DERIVATIVE: usize = 8;
+
+pub const STATE: usize = 9;
+
+pub const CANDIDATE: usize = 10;
+
+// How many vectors a family's area has.
+pub fn vector_count(family: u64) -> usize
+    ensures { λ r. ⌜ r ≡ vector-count (family-of family) ⌝ }
+{
+    match family {
+        1 => 11,
+        2 => 11,
+        3 => 11,
+        4 => 11,
+        _ => 11,
+    }
 }

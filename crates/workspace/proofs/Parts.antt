@@ -1,0 +1,94 @@
+-- A part of the area that is lent and comes back, said by vectors: one vector of it, by its number, and its first ten.
+use mathlib.Core.Path.{_≡_, refl, sym, ap, _∙_, fun-ext}
+use mathlib.Core.Logic.{_⊎_, inl, inr, ⊎-elim}
+use mathlib.Core.Bool.{Bool, true, false, cond}
+use mathlib.Core.List.{List, [], _∷_, _++_}
+use Prim.Native.Nat.{ℕ, zero, suc, _+_, _-_, _*_, _≤_, _<_}
+use native.Mathlib.Nat.{suc-add, zero-add, suc-mul, mul-le-mul-right, eq-or-lt-of-le}
+use native.Mathlib.Omega.{arith}
+use borrow.Author.Tests.{eq-eqb, ne-eqb}
+use borrow.Rule.Slice.PartMut.{putMid, take-put, drop-put}
+use lib.Dec.{eqb, ltb}
+use lib.ListN.{length, take, drop}
+use lib.Seq.{take-nil, take-take, drop-drop, take-at, drop-at, length-take-le, drop-append-le, take-append-le}
+use lib.Ieee.{Float}
+use Rattle.workspace.specs.Vectors.{Vector, Vectors, _with_≔_, number, named, unpack}
+use Rattle.workspace.proofs.Areas.{number-below, number-named, room, long-unpack}
+use Rattle.workspace.proofs.Lists.{split}
+
+-- ---- n elements from p on, in two lists that are the same there
+
+drop-take : (p n : ℕ) (l : List Float) → drop p (take (p + n) l) ≡ take n (drop p l)
+drop-take zero n l = ap (λ (k : ℕ). take k l) (zero-add n)
+drop-take (suc p) n [] = ap (drop (suc p)) (take-nil (suc p + n)) ∙ sym (take-nil n)
+drop-take (suc p) n (x ∷ l) = ap (λ (k : ℕ). drop (suc p) (take k (x ∷ l))) (suc-add p n) ∙ drop-take p n l
+
+module _ (p n : ℕ) (y z : List Float) where
+  same-before : (a : ℕ) → p + n ≤ a → take a y ≡ take a z → take n (drop p y) ≡ take n (drop p z)
+  same-before a h e =
+      sym (drop-take p n y)
+      ∙ ap (drop p) (sym (take-take (p + n) a y h) ∙ ap (take (p + n)) e ∙ take-take (p + n) a z h)
+      ∙ drop-take p n z
+
+  same-after : (b : ℕ) → b ≤ p → drop b y ≡ drop b z → take n (drop p y) ≡ take n (drop p z)
+  same-after b h e =
+      let q : b + (p - b) ≡ p = omega arith in
+      ap (take n)
+      (ap (λ (k : ℕ). drop k y) (sym q) ∙ sym (drop-drop (p - b) b y) ∙ ap (drop (p - b)) e ∙ drop-drop (p - b) b z ∙ ap (λ (k : ℕ). drop k z) q)
+
+-- ---- one vector
+
+pub width : (k n : ℕ) → k * n + n - k * n ≡ n
+width k n = omega arith
+
+-- what is read
+pub read-part : (k n : ℕ) (a : List Float) → k < 11 → take (k * n + n - k * n) (drop (k * n) a) ≡ unpack n a (named k)
+unfolding unpack
+read-part k n a h = ap (λ (m : ℕ). take m (drop (k * n) a)) (width k n) ∙ ap (λ (q : ℕ). take n (drop (q * n) a)) (sym (number-named k h))
+
+pub length-part : (k n : ℕ) (a : List Float) → 11 * n ≤ length a → k < 11 → length (take (k * n + n - k * n) (drop (k * n) a)) ≡ n
+length-part k n a h l = ap length (read-part k n a l) ∙ long-unpack n a h (named k)
+
+-- what is written
+module _ (b : Vector) (n : ℕ) (a x : List Float) (long : length x ≡ n) (fits : number b * n + n ≤ length a) where
+  back : List Float
+  back = putMid (number b * n) (number b * n + n - number b * n) a x
+
+  here : take n (drop (number b * n) back) ≡ x
+  unfolding back
+  here =
+      ap (take n) (drop-at (take (number b * n) a) (x ++ drop (number b * n + n - number b * n) (drop (number b * n) a)) (number b * n) (length-take-le (number b * n) a (omega arith)))
+      ∙ take-at x (drop (number b * n + n - number b * n) (drop (number b * n) a)) n long
+
+  there : (q : ℕ) → (q < number b) ⊎ (number b < q) → take n (drop (q * n) back) ≡ take n (drop (q * n) a)
+  unfolding back
+  there q (inl l) = same-before (q * n) n back a (number b * n) (omega (arith, mul-le-mul-right n l, suc-mul q n)) (take-put (number b * n) (number b * n + n - number b * n) a x (omega arith))
+  there q (inr l) =
+      same-after (q * n) n back a (number b * n + n) (omega (arith, mul-le-mul-right n l, suc-mul (number b) n))
+      (drop-put (number b * n) (number b * n + n) a x (omega arith) fits (omega arith))
+
+  unpack-back : unpack n back ≡ (unpack n a with b ≔ x)
+  unfolding unpack
+  unpack-back = fun-ext (λ c. go c (split (number b) (number c)))
+    where
+      apart : (c : Vector) → (number c < number b) ⊎ (number b < number c) → (number b ≡ number c → ⊥) → take n (drop (number c * n) back) ≡ cond (eqb (number b) (number c)) x (take n (drop (number c * n) a))
+      apart c d e = there (number c) d ∙ sym (ap (λ (t : Bool). cond t x (take n (drop (number c * n) a))) (ne-eqb (number b) (number c) e))
+
+      same : (c : Vector) → number b ≡ number c → take n (drop (number c * n) back) ≡ cond (eqb (number b) (number c)) x (take n (drop (number c * n) a))
+      same c e =
+          ap (λ (q : ℕ). take n (drop (q * n) back)) (sym e)
+          ∙ here
+          ∙ sym (ap (λ (t : Bool). cond t x (take n (drop (number c * n) a))) (eq-eqb (number b) (number c) e))
+
+      go : (c : Vector) → (number b ≤ number c) ⊎ (number c < number b) → take n (drop (number c * n) back) ≡ cond (eqb (number b) (number c)) x (take n (drop (number c * n) a))
+      go c (inr l) = apart c (inl l) (λ (e : number b ≡ number c). omega arith)
+      go c (inl l) = ⊎-elim (λ e. same c e) (λ (m : number b < number c). apart c (inr m) (λ (e : number b ≡ number c). omega arith)) (eq-or-lt-of-le l)
+
+pub written-part : (k n : ℕ) (a : List Float) {ys x : List Float} → 11 * n ≤ length a → k < 11 → length x ≡ n → ys ≡ x
+    → unpack n (putMid (k * n) (k * n + n - k * n) a ys) ≡ (unpack n a with named k ≔ x)
+unfolding back
+written-part k n a {ys} {x} h l long e =
+    let q : number (named k) ≡ k = number-named k l in
+    ap (λ (y : List Float). unpack n (putMid (k * n) (k * n + n - k * n) a y)) e
+    ∙ ap (λ (m : ℕ). unpack n (putMid (m * n) (m * n + n - m * n) a x)) (sym q)
+    ∙ unpack-back (named k) n a x long (omega (arith, room 11 (number (named k)) n (number-below (named k))))
