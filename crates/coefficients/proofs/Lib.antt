@@ -5,3 +5,9 @@ mod Doubles
 mod RowTable
 pub mod CloseRows
 pub mod CloseTable
+mod Normalized
+mod PaperValues
+mod Multiplier
+mod Begins
+pub mod Stable
+pub mod Example

@@ -5,3 +5,4 @@ pub mod Combine
 pub mod NatRing
 pub mod Order
 pub mod Values
+pub mod ListLaws

@@ -7,8 +7,8 @@ use native.Mathlib.Omega.{arith}
 use lib.IntN.{ℤ, pos, negsuc, _+ℤ_, _*ℤ_, negℤ, *ℤ-comm, zero-*ℤ}
 use Rattle.fractions.proofs.Ring.{var, _:+_, _:*_, _:-_, neg}
 use Rattle.fractions.specs.Frac.{Frac, _⊕_, _⊗_, _⊖_, opp, int, _≈_, _≼_, NotNegative}
-use Rattle.fractions.proofs.FracLaws.{ℤ-ring}
-use Rattle.fractions.proofs.Combine.{0#}
+use Rattle.fractions.proofs.FracLaws.{ring, ℤ-ring}
+use Rattle.fractions.proofs.Combine.{0#, 1#, 1ₑ, 2ₑ}
 
 -- ---- signs
 unfoldable pub Positive : ℤ → Type 0
@@ -116,3 +116,13 @@ of-≼ {a} {b} h = record {
   sign = subst NotNegative
       (ℤ-ring (a .num ∷ pos (a .den) ∷ b .num ∷ pos (b .den) ∷ []) (var 2 :* var 1 :- var 0 :* var 3) (var 2 :* var 1 :+ neg (var 0) :* var 3) tt) (h .below);
 }
+
+-- ---- a number whose square is at most 1
+
+pub at-most-one : (v : Frac) → Nonneg (1# ⊖ v ⊗ v) → Nonneg (1# ⊖ v)
+at-most-one v h = nonneg-cancel (above-nat 1) (nonneg-≈ (ring (v ∷ []) ((1ₑ :- var 0 :* var 0) :+ (1ₑ :- var 0) :* (1ₑ :- var 0)) (2ₑ :* (1ₑ :- var 0)) tt)
+    (nonneg-+ h (nonneg-square (1# ⊖ v))))
+
+pub at-least-minus-one : (v : Frac) → Nonneg (1# ⊖ v ⊗ v) → Nonneg (1# ⊕ v)
+at-least-minus-one v h = nonneg-cancel (above-nat 1) (nonneg-≈ (ring (v ∷ []) ((1ₑ :- var 0 :* var 0) :+ (1ₑ :+ var 0) :* (1ₑ :+ var 0)) (2ₑ :* (1ₑ :+ var 0)) tt)
+    (nonneg-+ h (nonneg-square (1# ⊕ v))))

@@ -1,2 +1,3 @@
 pub mod Frac
+pub mod Lists
 pub mod Polynomial

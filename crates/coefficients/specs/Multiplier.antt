@@ -1,0 +1,53 @@
+-- What is claimed of the multiplier. Document 01, "Demand 3's attempt with fractions", and demand 3.
+use mathlib.Core.List.{List, [], _∷_}
+use Prim.Native.Nat.{ℕ, _+_, _-_, _*_}
+use lib.IntN.{pos}
+use Rattle.fractions.specs.Frac.{Frac, _⊗_, opp, int, frac, _⊘_, _≈_, _≼_, Between}
+use Rattle.fractions.specs.Lists.{entry, _·_, _≋_}
+use Rattle.fractions.specs.Polynomial.{eval}
+use Rattle.family.specs.Family.{Orthogonal, Legendre1, Legendre2, Gegenbauer1, Gegenbauer2}
+use Rattle.coefficients.specs.Paper.{omega-one, mu, nu, mu-tilde, gamma-tilde}
+use Rattle.coefficients.specs.Exact.{attempt, multiplier}
+
+-- the polynomial begins 1 + z
+pub record First-order (p : List Frac) : Type 0 where
+  pub constant : entry p 0 ≈ int (pos 1)
+  pub linear : entry p 1 ≈ int (pos 1)
+
+-- the polynomial begins 1 + z + z²/2
+pub record Second-order (p : List Frac) : Type 0 where
+  pub first-order : First-order p
+  pub quadratic : entry p 2 ≈ frac 1 2
+
+unfoldable pub Begins : Orthogonal → List Frac → Type 0
+Begins Legendre1 p = First-order p
+Begins Legendre2 p = Second-order p
+Begins Gegenbauer1 p = First-order p
+Begins Gegenbauer2 p = Second-order p
+
+-- between −1 and 1 for every fraction z from −far to 0
+unfoldable pub Bounded : List Frac → Frac → Type 0
+Bounded p far = (z : Frac) → Between (opp far) z (int (pos 0)) → Between (opp (int (pos 1))) (eval p z) (int (pos 1))
+
+unfoldable pub reach : Orthogonal → ℕ → Frac
+reach Legendre1 s = frac (s * (s + 1)) 1
+reach Legendre2 s = frac ((s - 1) * (s + 2)) 2
+reach Gegenbauer1 s = frac (s * (s + 3)) 4
+reach Gegenbauer2 s = frac ((s - 1) * (s + 4)) 6
+
+pub record Stable (f : Orthogonal) (s : ℕ) : Type 0 where
+  pub multiplies : (c step : Frac) (y : List Frac) → attempt f s c step y ≋ eval (multiplier f s) (step ⊗ c) · y
+  pub begins : Begins f (multiplier f s)
+  pub bounded : Bounded (multiplier f s) (int (pos 2) ⊘ omega-one f s)
+  pub contains-reach : reach f s ≼ int (pos 2) ⊘ omega-one f s
+  pub bounded-on-reach : Bounded (multiplier f s) (reach f s)
+
+-- Document 01's example: RKL2 with s = 3. A row is mu, nu, mu_tilde, gamma_tilde.
+unfoldable pub example-row : ℕ → List Frac
+example-row j = mu Legendre2 j ∷ nu Legendre2 j ∷ mu-tilde Legendre2 3 j ∷ gamma-tilde Legendre2 3 j ∷ []
+
+pub record Example : Type 0 where
+  pub omega-one-is : omega-one Legendre2 3 ≈ frac 2 5
+  pub stage-two : example-row 2 ≋ frac 3 2 ∷ opp (frac 1 2) ∷ frac 3 5 ∷ opp (frac 2 5) ∷ []
+  pub stage-three : example-row 3 ≋ frac 25 12 ∷ opp (frac 5 6) ∷ frac 5 6 ∷ opp (frac 5 9) ∷ []
+  pub multiplier-is : multiplier Legendre2 3 ≋ int (pos 1) ∷ int (pos 1) ∷ frac 1 2 ∷ frac 1 15 ∷ []
