@@ -1,3 +1,9 @@
 pub mod Numbers
 pub mod Range
+pub mod Rule
+pub mod Limits
 pub mod Saturated
+pub mod Thresholds
+pub mod Counts
+pub mod Special
+pub mod Marked

@@ -1,1 +1,3 @@
 pub mod Family
+pub mod Reach
+pub mod Marked

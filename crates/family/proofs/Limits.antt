@@ -1,0 +1,102 @@
+-- The limits: what `limited` does to a number n. The result is permitted; it is the largest, or n at least; and no smaller permitted count is n at least. Assumes nothing.
+use mathlib.Core.Path.{_≡_, refl, sym, subst}
+use mathlib.Core.Logic.{_⊎_, inl, inr}
+use Prim.Native.Nat.{ℕ, zero, suc, _+_, _%_, _≤_, _<_, min, max}
+use native.Mathlib.Nat.{min-eq-left, min-eq-right, le-trans, le-antisymm}
+use native.Mathlib.Omega.{arith}
+use mathlib.Core.Bool.{Bool, true, false, not, _&&_, _||_, cond}
+use lib.Dec.{T, leb, eqb, leb→le, le→leb, eqb→eq, lit≤}
+use lib.Ieee.Fits.{and-l, and-r, and-i, eq→eqb}
+use Rattle.ieee.proofs.Rounding.{order}
+use Rattle.family.specs.Family.{Family, RKC, RKL1, RKL2, RKG1, RKG2, smallest-count, largest-count, odd-only, permitted, odd-step, limited}
+
+-- ---- what is permitted, as facts
+pub record Permitted (f : Family) (s : ℕ) : Type 0 where
+  pub from : smallest-count f ≤ s
+  pub to : s ≤ largest-count f
+  pub odd : T (odd-only f) → s % 2 ≡ 1
+
+pub permitted-says : (f : Family) (s : ℕ) → T (permitted f s) → Permitted f s
+unfolding permitted
+permitted-says f s t =
+    let a = leb (smallest-count f) s in
+    let b = leb s (largest-count f) in
+    let c = not (odd-only f) || eqb (s % 2) 1 in
+    let l = and-l (a && b) c t in
+    record {
+      from = leb→le (smallest-count f) s (and-l a b l);
+      to = leb→le s (largest-count f) (and-r a b l);
+      odd = go (odd-only f) (and-r (a && b) c t);
+    }
+  where
+    go : (o : Bool) → T (not o || eqb (s % 2) 1) → T o → s % 2 ≡ 1
+    go true t i = eqb→eq (s % 2) 1 t
+    go false t i = absurd i
+
+permitted-if : (f : Family) (s : ℕ) → Permitted f s → T (permitted f s)
+unfolding permitted
+permitted-if f s p =
+    let a = leb (smallest-count f) s in
+    let b = leb s (largest-count f) in
+    let c = not (odd-only f) || eqb (s % 2) 1 in
+    and-i (a && b) c (and-i a b (le→leb (smallest-count f) s (p .from)) (le→leb s (largest-count f) (p .to))) (go (odd-only f) (p .odd))
+  where
+    go : (o : Bool) → (T o → s % 2 ≡ 1) → T (not o || eqb (s % 2) 1)
+    go true h = eq→eqb (h tt)
+    go false h = tt
+
+-- the largest count is permitted
+largest-permitted : (f : Family) → Permitted f (largest-count f)
+unfolding smallest-count largest-count odd-only
+largest-permitted RKC = record { from = lit≤ tt; to = lit≤ tt; odd = λ i. absurd i }
+largest-permitted RKL1 = record { from = lit≤ tt; to = lit≤ tt; odd = λ i. refl }
+largest-permitted RKL2 = record { from = lit≤ tt; to = lit≤ tt; odd = λ i. refl }
+largest-permitted RKG1 = record { from = lit≤ tt; to = lit≤ tt; odd = λ i. absurd i }
+largest-permitted RKG2 = record { from = lit≤ tt; to = lit≤ tt; odd = λ i. absurd i }
+
+-- ---- the odd step: from m on, odd where it must be, and no more than any other such number
+record Stepped (o : Bool) (m n : ℕ) : Type 0 where
+  odd : T o → n % 2 ≡ 1
+  from : m ≤ n
+  first : (k : ℕ) → (T o → k % 2 ≡ 1) → m ≤ k → n ≤ k
+
+odd-step-is : (f : Family) (m : ℕ) → Stepped (odd-only f) m (odd-step f m)
+unfolding odd-step
+odd-step-is f m = go (odd-only f) (eqb (m % 2) 0) (eqb→eq (m % 2) 0) (λ e. eq→eqb e)
+  where
+    other : (r : ℕ) → (r ≡ 0 → ⊥) → r < 2 → r ≡ 1
+    other zero n h = absurd (n refl)
+    other (suc r) n h = omega arith
+
+    go : (o b : Bool) → (T b → m % 2 ≡ 0) → (m % 2 ≡ 0 → T b) → Stepped o m (cond (o && b) (m + 1) m)
+    go false b y n = record { odd = λ i. absurd i; from = omega arith; first = λ k i h. h }
+    go true false y n = record { odd = λ i. other (m % 2) n (omega arith); from = omega arith; first = λ k i h. h }
+    go true true y n = let e = y tt in record { odd = λ i. omega arith; from = omega arith; first = λ k i h. let z = i tt in omega arith }
+
+-- ---- the limits, n being the number before them
+pub record Limited (f : Family) (n s : ℕ) : Type 0 where
+  pub allowed : T (permitted f s)
+  pub own : (s ≡ largest-count f) ⊎ (n ≤ s)
+  pub lowest : (k : ℕ) → T (permitted f k) → n ≤ k → s ≤ k
+
+pub limits : (f : Family) (n : ℕ) → Limited f n (limited f n)
+unfolding limited
+limits f n = go (odd-step f m) (odd-step-is f m) (largest-permitted f)
+  where
+    m : ℕ
+    m = max n (smallest-count f)
+
+    go : (q : ℕ) → Stepped (odd-only f) m q → Permitted f (largest-count f) → Limited f n (min q (largest-count f))
+    go q i l = elim (order (largest-count f) q) [
+      | inl h ↦ subst (λ (s : ℕ). Limited f n s) (sym (min-eq-right h)) (record { allowed = permitted-if f (largest-count f) l; own = inl refl; lowest = lowest-from (largest-count f) h })
+      | inr h ↦ subst (λ (s : ℕ). Limited f n s) (sym (min-eq-left h)) (record { allowed = permitted-if f q (record { from = omega arith; to = h; odd = i .odd }); own = inr (omega arith); lowest = lowest-from q (omega arith) })
+    ]
+      where
+        lowest-from : (s : ℕ) → s ≤ q → (k : ℕ) → T (permitted f k) → n ≤ k → s ≤ k
+        lowest-from s h k t j = let p = permitted-says f k t in le-trans h (i .first k (p .odd) (omega arith))
+
+-- a number from the largest count on gives the largest count
+pub limited-largest : (f : Family) (m : ℕ) → largest-count f ≤ m → limited f m ≡ largest-count f
+limited-largest f m h =
+    let l = limits f m in
+    elim (l .own) [ inl e ↦ e | inr k ↦ le-antisymm (permitted-says f (limited f m) (l .allowed) .to) (le-trans h k) ]

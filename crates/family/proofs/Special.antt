@@ -1,0 +1,69 @@
+-- The counts of an infinite r, of what counts as 0, and of RKC: in 2 to 200, and 200 where the root reaches 2 ^ 64. Assumes nothing.
+use mathlib.Core.Path.{_≡_, refl, ap}
+use Prim.Native.Nat.{ℕ, _+_, _-_, _*_, _^_, _≤_, _<_}
+use native.Mathlib.Nat.{le-div-iff-mul-le, mul-le-mul-right}
+use native.Mathlib.Omega.{arith}
+use mathlib.Core.Bool.{Bool, true, false, _&&_, cond}
+use lib.IntN.{pos}
+use lib.Dec.{T, eqb, eqb→eq, lit≤, lit<}
+use lib.Ieee.{Float, nan, inf, fin, binary64, up, down, lt, le, toUnsigned, add, sub, mul, div, round}
+use lib.Ieee.Fits.{and-r, down-pos}
+use lib.Ieee.Order.{round-mono}
+use Rattle.ieee.specs.Double.{_⊕_, _⊗_, nearest, nought, one}
+use Rattle.ieee.specs.Sqrt.{sqrt}
+use Rattle.ieee.specs.Whole.{floor, ceil, cut}
+use Rattle.ieee.specs.Whole as Whole
+use Rattle.ieee.proofs.Monotone.{cross, round-nonneg}
+use Rattle.ieee.proofs.Casts.{cast-mono}
+use Rattle.family.specs.Family.{Family, RKC, RKL1, RKL2, RKG1, RKG2, smallest-count, largest-count, odd-only, before-limits, odd-step, limited, stage-count}
+use Rattle.family.proofs.Limits.{permitted-says, limited-largest}
+use Rattle.family.proofs.Counts.{stage-count-permitted}
+
+-- ---- an infinite r gives the largest
+pub infinite-count : (f : Family) → stage-count f (inf false) ≡ largest-count f
+unfolding stage-count before-limits limited odd-step odd-only smallest-count largest-count Whole.max lt nearest add sub mul div sqrt floor ceil toUnsigned
+infinite-count RKC = refl
+infinite-count RKL1 = refl
+infinite-count RKL2 = refl
+infinite-count RKG1 = refl
+infinite-count RKG2 = refl
+
+-- ---- a NaN and what is below 0 count as 0
+pub nan-count : (f : Family) → stage-count f nan ≡ stage-count f nought
+unfolding stage-count Whole.max lt
+nan-count f = refl
+
+pub negative-count : (f : Family) (r : Float) → lt r nought ≡ true → stage-count f r ≡ stage-count f nought
+unfolding stage-count Whole.max
+negative-count f nan h = refl
+negative-count f (inf s) h = ap (λ (b : Bool). limited f (before-limits f (cond b nought (inf s)))) h
+negative-count f (fin s m e) h = ap (λ (b : Bool). limited f (before-limits f (cond b nought (fin s m e)))) h
+
+-- ---- RKC
+pub rkc-range : (r : Float) → (2 ≤ stage-count RKC r) × (stage-count RKC r ≤ 200)
+unfolding smallest-count largest-count
+rkc-range r = let p = permitted-says RKC (stage-count RKC r) (stage-count-permitted RKC r) in (p .from, p .to)
+
+-- where the root reaches 2 ^ 64 the cast is 2 ^ 64 - 1, and the number before limits is far above the largest count
+from-too-many : (y : Float) → T (le (nearest (2 ^ 64) 1) y) → 200 ≤ toUnsigned 64 (floor y) + 1
+unfolding nearest le floor toUnsigned
+from-too-many nan h = absurd h
+from-too-many (inf true) h = absurd h
+from-too-many (inf false) h = lit≤ tt
+from-too-many (fin true m e) h = absurd (none (down e) (m * up e * 1) (down-pos e) h)
+  where
+    none : (d b : ℕ) → 0 < d → T (eqb (2 ^ 64 * d) b && eqb (2 ^ 64 * d) 0) → ⊥
+    none d b p t = let z = eqb→eq (2 ^ 64 * d) 0 (and-r (eqb (2 ^ 64 * d) b) (eqb (2 ^ 64 * d) 0) t) in omega arith
+from-too-many (fin false m e) h =
+    let c : 2 ^ 64 ≤ cut m e = le-div-iff-mul-le (down-pos e) .1 (from (m * up e) (down e) (cross 1 (pos 64) m e h)) in
+    enough (cast-mono (round binary64 false (2 ^ 64) 1) (round binary64 false (cut m e) 1) (round-nonneg binary64 (2 ^ 64) 1) (round-nonneg binary64 (cut m e) 1) (round-mono binary64 (2 ^ 64) 1 (cut m e) 1 (lit< tt) (lit< tt) (mul-le-mul-right 1 c)))
+  where
+    from : (n d : ℕ) → 1 * 2 ^ 64 * d ≤ n * 1 → 2 ^ 64 * d ≤ n
+    from n d h = omega arith
+
+    enough : {c : ℕ} → 2 ^ 64 - 1 ≤ c → 200 ≤ c + 1
+    enough h = omega arith
+
+pub rkc-from-too-many : (r : Float) → T (le (nearest (2 ^ 64) 1) (sqrt (nearest 154 100 ⊗ Whole.max r nought ⊕ one))) → stage-count RKC r ≡ 200
+unfolding stage-count before-limits largest-count
+rkc-from-too-many r h = limited-largest RKC _ (from-too-many (sqrt (nearest 154 100 ⊗ Whole.max r nought ⊕ one)) h)

@@ -1,0 +1,30 @@
+-- How far s stages reach, and what is claimed of the stage counts of RKL1, RKL2, RKG1 and RKG2. Document 01, "family.rs: stage counts", and demand 3.
+use mathlib.Core.Path.{_≡_}
+use mathlib.Core.Logic.{_⊎_}
+use Prim.Native.Nat.{ℕ, _+_, _-_, _*_, _^_, _≤_, _<_}
+use lib.IntN.{natAbs}
+use lib.Dec.{T}
+use lib.Ieee.{Float}
+use lib.Ieee.Positive.{num, den}
+use Rattle.fractions.specs.Frac.{Frac, frac}
+use Rattle.family.specs.Family.{Orthogonal, Legendre1, Legendre2, Gegenbauer1, Gegenbauer2, made-of, permitted, largest-count}
+
+unfoldable pub reach : Orthogonal → ℕ → Frac
+reach Legendre1 s = frac (s * (s + 1)) 1
+reach Legendre2 s = frac ((s - 1) * (s + 2)) 2
+reach Gegenbauer1 s = frac (s * (s + 3)) 4
+reach Gegenbauer2 s = frac ((s - 1) * (s + 4)) 6
+
+-- its parts, in whole numbers
+unfoldable pub reach-num : Orthogonal → ℕ → ℕ
+reach-num f s = natAbs (reach f s .num)
+
+unfoldable pub reach-den : Orthogonal → ℕ → ℕ
+reach-den f s = reach f s .den
+
+-- s serves the scaled radius r, which is num r / den r: s is permitted; it is the largest, or it reaches r but for r / 2 ^ 49; and no smaller permitted count
+-- reaches farther than r and r / 2 ^ 49 more. In whole numbers.
+pub record Serves (f : Orthogonal) (r : Float) (s : ℕ) : Type 0 where
+  pub allowed : T (permitted (made-of f) s)
+  pub reaches : (s ≡ largest-count (made-of f)) ⊎ ((2 ^ 49 - 1) * num r * reach-den f s ≤ 2 ^ 49 * reach-num f s * den r)
+  pub least : (k : ℕ) → T (permitted (made-of f) k) → k < s → 2 ^ 49 * reach-num f k * den r ≤ (2 ^ 49 + 1) * num r * reach-den f k
