@@ -4,55 +4,12 @@ use mathlib.Core.Logic.{_⊎_, inl, inr}
 use Prim.Native.Nat.{ℕ, zero, suc, _+_, _%_, _≤_, _<_, min, max}
 use native.Mathlib.Nat.{min-eq-left, min-eq-right, le-trans, le-antisymm}
 use native.Mathlib.Omega.{arith}
-use mathlib.Core.Bool.{Bool, true, false, not, _&&_, _||_, cond}
-use lib.Dec.{T, leb, eqb, leb→le, le→leb, eqb→eq, lit≤}
-use lib.Ieee.Fits.{and-l, and-r, and-i, eq→eqb}
+use mathlib.Core.Bool.{Bool, true, false, _&&_, cond}
+use lib.Dec.{T, eqb, eqb→eq}
+use lib.Ieee.Fits.{eq→eqb}
 use Rattle.ieee.proofs.Rounding.{order}
-use Rattle.family.specs.Family.{Family, RKC, RKL1, RKL2, RKG1, RKG2, smallest-count, largest-count, odd-only, permitted, odd-step, limited}
-
--- ---- what is permitted, as facts
-pub record Permitted (f : Family) (s : ℕ) : Type 0 where
-  pub from : smallest-count f ≤ s
-  pub to : s ≤ largest-count f
-  pub odd : T (odd-only f) → s % 2 ≡ 1
-
-pub permitted-says : (f : Family) (s : ℕ) → T (permitted f s) → Permitted f s
-unfolding permitted
-permitted-says f s t =
-    let a = leb (smallest-count f) s in
-    let b = leb s (largest-count f) in
-    let c = not (odd-only f) || eqb (s % 2) 1 in
-    let l = and-l (a && b) c t in
-    record {
-      from = leb→le (smallest-count f) s (and-l a b l);
-      to = leb→le s (largest-count f) (and-r a b l);
-      odd = go (odd-only f) (and-r (a && b) c t);
-    }
-  where
-    go : (o : Bool) → T (not o || eqb (s % 2) 1) → T o → s % 2 ≡ 1
-    go true t i = eqb→eq (s % 2) 1 t
-    go false t i = absurd i
-
-permitted-if : (f : Family) (s : ℕ) → Permitted f s → T (permitted f s)
-unfolding permitted
-permitted-if f s p =
-    let a = leb (smallest-count f) s in
-    let b = leb s (largest-count f) in
-    let c = not (odd-only f) || eqb (s % 2) 1 in
-    and-i (a && b) c (and-i a b (le→leb (smallest-count f) s (p .from)) (le→leb s (largest-count f) (p .to))) (go (odd-only f) (p .odd))
-  where
-    go : (o : Bool) → (T o → s % 2 ≡ 1) → T (not o || eqb (s % 2) 1)
-    go true h = eq→eqb (h tt)
-    go false h = tt
-
--- the largest count is permitted
-largest-permitted : (f : Family) → Permitted f (largest-count f)
-unfolding smallest-count largest-count odd-only
-largest-permitted RKC = record { from = lit≤ tt; to = lit≤ tt; odd = λ i. absurd i }
-largest-permitted RKL1 = record { from = lit≤ tt; to = lit≤ tt; odd = λ i. refl }
-largest-permitted RKL2 = record { from = lit≤ tt; to = lit≤ tt; odd = λ i. refl }
-largest-permitted RKG1 = record { from = lit≤ tt; to = lit≤ tt; odd = λ i. absurd i }
-largest-permitted RKG2 = record { from = lit≤ tt; to = lit≤ tt; odd = λ i. absurd i }
+use Rattle.family.specs.Family.{Family, smallest-count, largest-count, odd-only, permitted, odd-step, limited}
+use Rattle.family.proofs.Range.{Permitted, permitted-says, permitted-if, largest-permitted}
 
 -- ---- the odd step: from m on, odd where it must be, and no more than any other such number
 record Stepped (o : Bool) (m n : ℕ) : Type 0 where

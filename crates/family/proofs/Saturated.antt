@@ -8,7 +8,8 @@ use mathlib.Core.Bool.{true, false}
 use lib.Dec.{lit≤}
 use lib.Ieee.{Float, nan, inf, fin, up, down, toUnsigned}
 use Rattle.ieee.proofs.Rounding.{order}
-use Rattle.family.specs.Family.{Family, RKC, RKL1, RKL2, RKG1, RKG2, largest-count, limited}
+use Rattle.family.specs.Family.{Family, largest-count, limited}
+use Rattle.family.proofs.Range.{largest-to}
 use Rattle.family.proofs.Limits.{limited-largest}
 
 cast-small : (x : Float) → toUnsigned 64 x ≤ 2 ^ 64 - 1
@@ -23,12 +24,7 @@ pub cast-kept : (x : Float) → toUnsigned 64 x ≡ min (toUnsigned 64 x) (2 ^ 6
 cast-kept x = omega (arith, cast-small x)
 
 largest-small : (f : Family) → largest-count f ≤ 2 ^ 64 - 1
-unfolding largest-count
-largest-small RKC = lit≤ tt
-largest-small RKL1 = lit≤ tt
-largest-small RKL2 = lit≤ tt
-largest-small RKG1 = lit≤ tt
-largest-small RKG2 = lit≤ tt
+largest-small f = le-trans (largest-to f) (lit≤ tt)
 
 pub limited-saturated : (f : Family) (m : ℕ) → limited f (min m (2 ^ 64 - 1)) ≡ limited f m
 limited-saturated f m = elim (order m (2 ^ 64 - 1)) [

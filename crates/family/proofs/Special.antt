@@ -16,7 +16,8 @@ use Rattle.ieee.specs.Whole as Whole
 use Rattle.ieee.proofs.Monotone.{cross, round-nonneg}
 use Rattle.ieee.proofs.Casts.{cast-mono}
 use Rattle.family.specs.Family.{Family, RKC, RKL1, RKL2, RKG1, RKG2, smallest-count, largest-count, odd-only, before-limits, odd-step, limited, stage-count}
-use Rattle.family.proofs.Limits.{permitted-says, limited-largest}
+use Rattle.family.proofs.Range.{permitted-range}
+use Rattle.family.proofs.Limits.{limited-largest}
 use Rattle.family.proofs.Counts.{stage-count-permitted}
 
 -- ---- an infinite r gives the largest
@@ -41,8 +42,7 @@ negative-count f (fin s m e) h = ap (λ (b : Bool). limited f (before-limits f (
 
 -- ---- RKC
 pub rkc-range : (r : Float) → (2 ≤ stage-count RKC r) × (stage-count RKC r ≤ 200)
-unfolding smallest-count largest-count
-rkc-range r = let p = permitted-says RKC (stage-count RKC r) (stage-count-permitted RKC r) in (p .from, p .to)
+rkc-range r = permitted-range RKC (stage-count RKC r) (stage-count-permitted RKC r)
 
 -- where the root reaches 2 ^ 64 the cast is 2 ^ 64 - 1, and the number before limits is far above the largest count
 from-too-many : (y : Float) → T (le (nearest (2 ^ 64) 1) y) → 200 ≤ toUnsigned 64 (floor y) + 1

@@ -17,7 +17,7 @@ use Rattle.ieee.proofs.RootBounds.{L}
 use Rattle.family.specs.Family.{Orthogonal, Legendre1, Legendre2, Gegenbauer1, Gegenbauer2, made-of, smallest-count, largest-count, odd-only, permitted}
 use Rattle.family.specs.Reach.{reach, reach-num, reach-den}
 use Rattle.family.proofs.Rule.{offset, slope, shift, shifted, inner, after}
-use Rattle.family.proofs.Limits.{permitted-says}
+use Rattle.family.proofs.Range.{permitted-says}
 
 -- the reach of k, more by 14 parts in 2 ^ 53, or less
 unfoldable pub high : Orthogonal → ℕ → Float
