@@ -50,15 +50,16 @@ fn with_told_locals(text: &str, heading: &str, fourth: &str) -> String {
     let begin = text.find(heading).expect(heading);
     let (before, function) = text.split_at(begin);
     let loop_line = "        for stage in 2..=stages {\n";
-    let first = format!(
-        "        crate::told::tell_first(stages, omega_one, theta_previous);\n{loop_line}"
-    );
+    let first =
+        format!("        crate::told::tell_first(stages, omega_one, theta_previous);\n{loop_line}");
     let theta = function.find("            let theta = ").expect("theta");
     let end = theta + function[theta..].find(";\n").expect("the end of theta") + 2;
-    let row = format!(
-        "            crate::told::tell_row(stage, [mu, nu, mu_tilde, {fourth}, theta]);\n"
-    );
+    let row =
+        format!("            crate::told::tell_row(stage, [mu, nu, mu_tilde, {fourth}, theta]);\n");
     let head = function[..end].replacen(loop_line, &first, 1);
-    assert!(head.contains("tell_first"), "no loop over the stages in {heading}");
+    assert!(
+        head.contains("tell_first"),
+        "no loop over the stages in {heading}"
+    );
     format!("{before}{head}{row}{}", &function[end..])
 }

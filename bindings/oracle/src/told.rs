@@ -60,7 +60,13 @@ pub(crate) fn tell_row(stage: usize, [mu, nu, mu_tilde, gamma_tilde, theta]: [f6
 struct Zero;
 
 impl OdeFunction<()> for Zero {
-    fn evaluate(&self, derivative: &mut [f64], _: &[f64], _: &(), _: f64) -> Result<(), SolveError> {
+    fn evaluate(
+        &self,
+        derivative: &mut [f64],
+        _: &[f64],
+        _: &(),
+        _: f64,
+    ) -> Result<(), SolveError> {
         derivative.fill(0.0);
         Ok(())
     }

@@ -23,11 +23,11 @@ pub struct Arguments {
 /// A right-hand side: writes the derivative at a point and time, or stops the attempt with an error.
 pub trait RightHandSide: Fn(&mut [f64], &[f64], f64) -> Result<(), SolveError> {}
 
-impl<F: Fn(&mut [f64], &[f64], f64) -> Result<(), SolveError>> RightHandSide for F {}
+impl<F: Fn(&mut [f64], &[f64], f64) -> Result<(), SolveError> + ?Sized> RightHandSide for F {}
 
-struct Closure<'a, F>(&'a F);
+struct Closure<'a, F: ?Sized>(&'a F);
 
-impl<F: RightHandSide> OdeFunction<()> for Closure<'_, F> {
+impl<F: RightHandSide + ?Sized> OdeFunction<()> for Closure<'_, F> {
     fn evaluate(
         &self,
         derivative: &mut [f64],
@@ -39,7 +39,7 @@ impl<F: RightHandSide> OdeFunction<()> for Closure<'_, F> {
     }
 }
 
-fn problem<F: RightHandSide>(rhs: &F) -> OdeProblem<Closure<'_, F>, ()> {
+fn problem<F: RightHandSide + ?Sized>(rhs: &F) -> OdeProblem<Closure<'_, F>, ()> {
     OdeProblem {
         rhs: Closure(rhs),
         parameters: (),
@@ -87,7 +87,7 @@ impl Oracle {
     }
 
     /// `initialize` at this state and time.
-    pub fn initialize<F: RightHandSide>(
+    pub fn initialize<F: RightHandSide + ?Sized>(
         &mut self,
         state: &[f64],
         time: f64,
@@ -99,7 +99,7 @@ impl Oracle {
     }
 
     /// `attempt_step` from the state; the error norm.
-    pub fn attempt<F: RightHandSide>(
+    pub fn attempt<F: RightHandSide + ?Sized>(
         &mut self,
         arguments: Arguments,
         rhs: &F,
@@ -139,7 +139,7 @@ impl Oracle {
     }
 
     /// `accept_step` with a callback, which brings a state and time.
-    pub fn accept_with_callback<F: RightHandSide>(
+    pub fn accept_with_callback<F: RightHandSide + ?Sized>(
         &mut self,
         state: &[f64],
         time: f64,
@@ -159,7 +159,7 @@ impl Oracle {
     }
 
     /// |step| × 1.2 × radius, by `spectral_radius` on a copy of this kernel.
-    pub fn scaled_radius<F: RightHandSide>(
+    pub fn scaled_radius<F: RightHandSide + ?Sized>(
         &self,
         arguments: Arguments,
         rhs: &F,

@@ -1,0 +1,161 @@
+/* Stabilized Runge-Kutta steps (RKC, RKL1, RKL2, RKG1, RKG2) by a proved engine, libcapi.a.
+ *
+ * Every call takes the record by value and gives it back beside an answer. While the answer is STABILIZED_EVALUATE, work
+ * out the derivative of vector `number` of the area at time `value` and bring it with stabilized_reply. No call has a
+ * precondition beyond pointers that are valid for the counts beside them and areas that do not overlap their inputs:
+ * whatever else it is handed, it answers, and a call that is turned away says so by its number.
+ */
+#ifndef STABILIZED_H
+#define STABILIZED_H
+
+#include <stddef.h>
+#include <stdint.h>
+
+#ifdef __cplusplus
+extern "C" {
+#endif
+
+/* The area holds 11 vectors of n doubles, n from 1 to 512. */
+enum {
+  STABILIZED_FIRST_DERIVATIVE = 0,
+  STABILIZED_LAST_DERIVATIVE = 1,
+  STABILIZED_DERIVATIVE = 2,
+  STABILIZED_PREVIOUS_TWO = 3,
+  STABILIZED_PREVIOUS_ONE = 4,
+  STABILIZED_NEXT_STAGE = 5,
+  STABILIZED_EIGENVECTOR = 6,
+  STABILIZED_PERTURBED_STATE = 7,
+  STABILIZED_PERTURBED_DERIVATIVE = 8,
+  STABILIZED_STATE = 9,
+  STABILIZED_CANDIDATE = 10,
+  STABILIZED_VECTORS = 11
+};
+
+enum { STABILIZED_RKC = 1, STABILIZED_RKL1 = 2, STABILIZED_RKL2 = 3, STABILIZED_RKG1 = 4, STABILIZED_RKG2 = 5 };
+
+/* The phases of a record. One of all zeros is a record to begin with. */
+enum {
+  STABILIZED_PHASE_EMPTY = 0,
+  STABILIZED_PHASE_FIRST = 1,
+  STABILIZED_PHASE_READY = 2,
+  STABILIZED_PHASE_PASS = 3,
+  STABILIZED_PHASE_STAGE = 4,
+  STABILIZED_PHASE_CANDIDATE = 5,
+  STABILIZED_PHASE_FINISHED = 6,
+  STABILIZED_PHASE_CALLBACK = 7
+};
+
+/* The answers' codes. */
+enum {
+  STABILIZED_EVALUATE = 1, /* number: the vector, value: the time */
+  STABILIZED_FINISHED = 2, /* value: the error norm */
+  STABILIZED_READY = 3,
+  STABILIZED_REFUSED = 4,  /* number: the cause, below */
+  STABILIZED_EMPTY = 5
+};
+
+/* Why a call is turned away. 1 to 8 leave everything as it was. */
+enum {
+  STABILIZED_BAD_FAMILY = 1,
+  STABILIZED_BAD_DIMENSION = 2,
+  STABILIZED_BAD_LENGTH = 3,
+  STABILIZED_BAD_PHASE = 4,
+  STABILIZED_BAD_STATE = 5,
+  STABILIZED_BAD_TIME_OR_STEP = 6,
+  STABILIZED_BAD_TOLERANCE = 7,
+  STABILIZED_COUNTERS_FULL = 8,
+  STABILIZED_BAD_DERIVATIVE = 9,
+  STABILIZED_BAD_CANDIDATE = 10
+};
+
+typedef struct {
+  uint64_t evaluations;
+  uint64_t finished_attempts;
+} stabilized_counters;
+
+typedef struct {
+  double time;
+  double step;
+  double absolute_tolerance;
+  double relative_tolerance;
+  uint64_t adaptive; /* 0 is a no, all else a yes */
+} stabilized_arguments;
+
+typedef struct {
+  uint64_t pass;
+  double perturbation;
+  double previous_radius;
+  double scaled_radius;
+} stabilized_iteration;
+
+typedef struct {
+  double b_previous;
+  double b_previous_two;
+  double value_previous;
+  double value_previous_two;
+  double first_previous;
+  double first_previous_two;
+  double second_previous;
+  double second_previous_two;
+} stabilized_polynomials;
+
+typedef struct {
+  double theta_previous;
+  double theta_previous_two;
+  stabilized_polynomials polynomials;
+} stabilized_recurrence;
+
+typedef struct {
+  uint64_t stages;
+  uint64_t stage;
+  stabilized_recurrence recurrence;
+} stabilized_staging;
+
+typedef struct {
+  uint64_t family;
+  uint64_t n;
+  uint64_t phase;
+  stabilized_arguments arguments;
+  stabilized_iteration iteration;
+  stabilized_staging staging;
+} stabilized_record;
+
+typedef struct {
+  uint64_t code;
+  uint64_t number;
+  double value;
+} stabilized_answer;
+
+typedef struct {
+  stabilized_answer answer;
+  stabilized_record record;
+} stabilized_outcome;
+
+/* Begins anew, in any phase: keeps the state and asks for the first derivative. */
+stabilized_outcome stabilized_start(stabilized_record record, double *area, size_t area_length, uint64_t family,
+                                    uint64_t n, const double *state, size_t state_length, double time);
+
+/* Steps from the kept state; when ready or after a finished attempt. */
+stabilized_outcome stabilized_attempt(stabilized_record record, double *area, size_t area_length, double time,
+                                      double step, double absolute_tolerance, double relative_tolerance,
+                                      uint64_t adaptive);
+
+/* Brings the derivative that was asked for. */
+stabilized_outcome stabilized_reply(stabilized_record record, stabilized_counters *counters, double *area,
+                                    size_t area_length, const double *derivative, size_t derivative_length);
+
+/* After a finished attempt: the candidate becomes the kept state. */
+stabilized_outcome stabilized_accept(stabilized_record record, double *area, size_t area_length);
+
+/* After a finished attempt: another state and time are kept, and its derivative is asked for. */
+stabilized_outcome stabilized_accept_with_callback(stabilized_record record, double *area, size_t area_length,
+                                                   const double *state, size_t state_length, double time);
+
+/* While an evaluation is pending: ends it uncounted. Then only start is allowed. */
+stabilized_outcome stabilized_abandon(stabilized_record record, double *area, size_t area_length);
+
+#ifdef __cplusplus
+}
+#endif
+
+#endif

@@ -1,0 +1,130 @@
+//! Times an attempt of the engine against the same attempt of the Rust: same model, same inputs, same run, in turns.
+//!
+//! The model is a rod of n cells. An attempt is made again and again from the same state, as after a rejection. Each time
+//! is the least of many rounds. The model's share is the time of its evaluations alone over the Rust's attempt.
+use oracle::{Arguments, Oracle};
+use stabilized::{Attempt, Family, Stepper};
+use std::hint::black_box;
+use std::time::{Duration, Instant};
+
+const ROUNDS: usize = 60;
+const ROUND: Duration = Duration::from_millis(3);
+
+fn rod(rate: f64, derivative: &mut [f64], state: &[f64]) {
+    let n = state.len();
+    for i in 0..n {
+        let left = if i == 0 { 0.0 } else { state[i - 1] };
+        let right = if i + 1 == n { 0.0 } else { state[i + 1] };
+        derivative[i] = rate * (left - 2.0 * state[i] + right);
+    }
+}
+
+/// Nanoseconds a turn, over turns that fill a round.
+fn timed(turns: u32, mut work: impl FnMut()) -> f64 {
+    let begin = Instant::now();
+    for _ in 0..turns {
+        work();
+    }
+    begin.elapsed().as_nanos() as f64 / f64::from(turns)
+}
+
+struct Times {
+    stages: u64,
+    passes: u64,
+    engine: f64,
+    rust: f64,
+    model: f64,
+}
+
+fn times(family: Family, n: usize, rate: f64, step: f64) -> Times {
+    let state: Vec<f64> = (0..n).map(|i| 1.0 + 0.25 * ((i * 7) % 5) as f64).collect();
+    let mut engine = Stepper::start(
+        family,
+        &state,
+        0.0,
+        |derivative: &mut [f64], state: &[f64], _: f64| rod(rate, derivative, state),
+    )
+    .expect("a start");
+    let rhs = |derivative: &mut [f64], state: &[f64], _: f64| {
+        rod(rate, derivative, state);
+        Ok(())
+    };
+    let mut rust = Oracle::new(family as u64, n);
+    rust.initialize(&state, 0.0, &rhs).expect("a start");
+    let attempt = Attempt::new(0.0, step);
+    let arguments = Arguments {
+        time: attempt.time,
+        step: attempt.step,
+        absolute_tolerance: attempt.absolute_tolerance,
+        relative_tolerance: attempt.relative_tolerance,
+        adaptive: attempt.adaptive,
+    };
+    for _ in 0..20 {
+        let ours = engine.attempt(attempt).expect("a finished attempt");
+        let theirs = rust.attempt(arguments, &rhs).expect("a finished attempt");
+        assert_eq!(ours.to_bits(), theirs.to_bits());
+    }
+    let record = engine.record();
+    let (stages, passes) = (record.staging.stages, record.iteration.pass);
+    let once = timed(10, || {
+        black_box(rust.attempt(arguments, &rhs).ok());
+    });
+    let turns = (ROUND.as_nanos() as f64 / once).max(1.0) as u32;
+    let mut least = [f64::INFINITY; 3];
+    let mut derivative = vec![0.0; n];
+    for _ in 0..ROUNDS {
+        least[0] = least[0].min(timed(turns, || {
+            black_box(engine.attempt(black_box(attempt)).ok());
+        }));
+        least[1] = least[1].min(timed(turns, || {
+            black_box(rust.attempt(black_box(arguments), &rhs).ok());
+        }));
+        least[2] = least[2].min(timed(turns, || {
+            for _ in 0..stages + passes {
+                rod(rate, black_box(&mut derivative), black_box(&state));
+            }
+        }));
+    }
+    Times {
+        stages,
+        passes,
+        engine: least[0],
+        rust: least[1],
+        model: least[2],
+    }
+}
+
+/// The rod's rate at which a step of 1 has this scaled radius.
+fn rate(n: usize, scaled_radius: f64) -> f64 {
+    let radius = 2.0 * (1.0 + (std::f64::consts::PI / (n as f64 + 1.0)).cos());
+    scaled_radius / (1.2 * radius)
+}
+
+fn main() {
+    println!("| family | n | s | k | engine, µs | Rust, µs | engine/Rust | model/Rust |");
+    println!("|---|---|---|---|---|---|---|---|");
+    // Each family with the scaled radius of its largest count.
+    for (family, largest) in [
+        (Family::Rkc, 25_700.0),
+        (Family::Rkl1, 39_800.0),
+        (Family::Rkl2, 19_899.0),
+        (Family::Rkg1, 10_150.0),
+        (Family::Rkg2, 6_766.0),
+    ] {
+        for n in [1, 8, 64, 512] {
+            for scaled_radius in [0.5, largest] {
+                let t = times(family, n, rate(n, scaled_radius), 1.0);
+                println!(
+                    "| {} | {n} | {} | {} | {:.2} | {:.2} | {:.2} | {:.2} |",
+                    oracle::name(family as u64),
+                    t.stages,
+                    t.passes,
+                    t.engine / 1000.0,
+                    t.rust / 1000.0,
+                    t.engine / t.rust,
+                    t.model / t.rust
+                );
+            }
+        }
+    }
+}

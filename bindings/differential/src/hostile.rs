@@ -1,0 +1,198 @@
+//! Calls with any record, lengths, counters and doubles, each held against document 01's table.
+use crate::pair::make;
+use crate::random::Random;
+use crate::refusals::{Call, Given, Held, check};
+use stabilized::calls::{
+    Arguments, Counters, Iteration, Polynomials, Record, Recurrence, Staging, VECTORS, code,
+};
+use std::collections::BTreeMap;
+
+const NAMES: [&str; 6] = [
+    "start",
+    "attempt",
+    "reply",
+    "accept",
+    "accept with callback",
+    "abandon",
+];
+
+/// How often each call gave each answer: 0 for a call that was not turned away, else the number.
+#[derive(Default)]
+pub struct Tally {
+    pub calls: u64,
+    pub answers: BTreeMap<(&'static str, u64), u64>,
+}
+
+/// `usual`, and now and then anything.
+fn number(random: &mut Random, usual: u64, about: u64) -> u64 {
+    match random.below(40) {
+        0 => random.next(),
+        1 => random.pick(&[0, u64::MAX, 1 << 63]),
+        2 | 3 => random.next() % about,
+        _ => usual,
+    }
+}
+
+fn doubles(random: &mut Random, length: usize) -> Vec<f64> {
+    let any = random.chance(25);
+    (0..length)
+        .map(|_| {
+            if any {
+                random.any_double()
+            } else {
+                random.between(-2.0, 2.0)
+            }
+        })
+        .collect()
+}
+
+fn double(random: &mut Random) -> f64 {
+    if random.chance(30) {
+        random.any_double()
+    } else {
+        random.magnitude(-4.0, 1.0)
+    }
+}
+
+fn length(random: &mut Random, usual: usize) -> usize {
+    match random.below(40) {
+        0 => 0,
+        1 => usual + 1,
+        2 => usual.saturating_sub(1),
+        3 => random.below(64),
+        _ => usual,
+    }
+}
+
+fn record(random: &mut Random, family: u64, n: u64) -> Record {
+    let stages = random.next() % 210;
+    let stage = random.next() % (stages + 3);
+    let stage = if random.chance(30) { stages } else { stage };
+    Record {
+        family: number(random, family, 8),
+        n: number(random, n, 16),
+        phase: {
+            let usual = random.next() % 8;
+            number(random, usual, 12)
+        },
+        arguments: Arguments {
+            time: double(random),
+            step: double(random),
+            absolute_tolerance: double(random),
+            relative_tolerance: double(random),
+            adaptive: {
+                let usual = random.next() % 2;
+                number(random, usual, 4)
+            },
+        },
+        iteration: Iteration {
+            pass: {
+                let usual = random.next() % 15;
+                number(random, usual, 20)
+            },
+            perturbation: double(random),
+            previous_radius: double(random),
+            scaled_radius: double(random),
+        },
+        staging: Staging {
+            stages: number(random, stages, 400),
+            stage: number(random, stage, 400),
+            recurrence: recurrence(random),
+        },
+    }
+}
+
+fn recurrence(random: &mut Random) -> Recurrence {
+    Recurrence {
+        theta_previous: double(random),
+        theta_previous_two: double(random),
+        polynomials: Polynomials {
+            b_previous: double(random),
+            b_previous_two: double(random),
+            value_previous: double(random),
+            value_previous_two: double(random),
+            first_previous: double(random),
+            first_previous_two: double(random),
+            second_previous: double(random),
+            second_previous_two: double(random),
+        },
+    }
+}
+
+fn counter(random: &mut Random) -> u64 {
+    match random.below(10) {
+        0 => u64::MAX,
+        1 => u64::MAX - 1,
+        2 => random.next(),
+        _ => random.next() % 1000,
+    }
+}
+
+/// One random call.
+pub fn call(seed: u64, tally: &mut Tally) -> Result<(), String> {
+    let random = &mut Random::new(seed);
+    let n = match random.below(200) {
+        0 => random.pick(&[511, 512, 513, 514]),
+        1..8 => 0,
+        _ => random.below(9),
+    };
+    let family = random.next() % 5 + 1;
+    let record = record(random, family, n as u64);
+    let counters = Counters {
+        evaluations: counter(random),
+        finished_attempts: counter(random),
+    };
+    let size = length(random, VECTORS * n);
+    let before = doubles(random, size);
+    let size = length(random, n);
+    let brought = doubles(random, size);
+    let kind = random.pick(&[0, 1, 2, 2, 2, 3, 4, 5]);
+    let call = match kind {
+        0 => Call::Start {
+            family: number(random, family, 8),
+            n: number(random, n as u64, 16),
+            state: &brought,
+            time: double(random),
+        },
+        1 => Call::Attempt(Arguments {
+            time: double(random),
+            step: double(random) * random.sign(),
+            absolute_tolerance: double(random),
+            relative_tolerance: double(random),
+            adaptive: random.next() % 3,
+        }),
+        2 => Call::Reply {
+            derivative: &brought,
+        },
+        3 => Call::Accept,
+        4 => Call::AcceptWithCallback {
+            state: &brought,
+            time: double(random),
+        },
+        _ => Call::Abandon,
+    };
+    let (mut area, mut left) = (before.clone(), counters);
+    let reply = make(record, &mut left, &mut area, &call);
+    tally.calls += 1;
+    let answer = if reply.answer.code == code::REFUSED {
+        reply.answer.number
+    } else {
+        0
+    };
+    *tally.answers.entry((NAMES[kind], answer)).or_default() += 1;
+    let held = Held {
+        record,
+        counters,
+        area: &before,
+    };
+    check(
+        &held,
+        &call,
+        &Given {
+            reply,
+            counters: left,
+            area: &area,
+        },
+    )
+    .map_err(|difference| format!("{difference}\n{call:?}\n{record:?}\n{counters:?}"))
+}

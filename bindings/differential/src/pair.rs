@@ -1,0 +1,492 @@
+//! The engine and the Rust side by side: each call goes to both, and time, point, answer, counts, norm and all eleven
+//! vectors are compared, bit for bit with NaN matching NaN.
+//!
+//! The Rust evaluates inside a call. To see its vectors at each evaluation, it is run again from a copy up to there, where
+//! the right-hand side stops it before a derivative is written.
+use crate::model::Replies;
+use crate::random::{Random, all_same, same};
+use crate::refusals::{Call, Given, Held, check, number};
+use oracle::{Oracle, SolveError};
+use stabilized::calls::{
+    self, Answer, Arguments, Counters, Record, Reply, VECTORS, code, phase, vector,
+};
+use std::cell::{Cell, RefCell};
+
+/// From this r on the Rust's stage count of RKC overflows: a listed difference.
+pub const RKC_OVERFLOW: f64 = f64::from_bits(0x47E4_C77B_0353_1DEC);
+
+/// How a run of evaluations ended.
+#[derive(Clone, Copy, Debug, PartialEq)]
+pub enum Ending {
+    Ready,
+    Finished {
+        stages: u64,
+        passes: u64,
+        scaled_radius: f64,
+        norm: f64,
+    },
+    BadDerivative,
+    BadCandidate,
+    Abandoned,
+    /// Left with an evaluation pending, for a start in the middle.
+    Pending,
+    /// RKC with an r at which the Rust overflows: only the engine was run.
+    LeftOut,
+}
+
+/// What is done at an evaluation instead of replying.
+#[derive(Clone, Copy, Debug)]
+pub enum Stop {
+    Abandon,
+    Leave,
+}
+
+pub type Outcome = Result<Ending, String>;
+
+pub struct Pair {
+    pub record: Record,
+    pub counters: Counters,
+    pub area: Vec<f64>,
+    oracle: Oracle,
+    /// Evaluations counted before this oracle began.
+    counted: u64,
+    finished: u64,
+    /// False while the oracle's vectors began as zeros and the engine's did not: then only what an attempt reads is
+    /// compared at an evaluation.
+    strict: bool,
+    /// For calls that are turned away, made between the others.
+    random: Random,
+    pub turned_away: u64,
+}
+
+fn arguments_of(arguments: oracle::Arguments) -> Arguments {
+    Arguments {
+        time: arguments.time,
+        step: arguments.step,
+        absolute_tolerance: arguments.absolute_tolerance,
+        relative_tolerance: arguments.relative_tolerance,
+        adaptive: u64::from(arguments.adaptive),
+    }
+}
+
+impl Pair {
+    /// Both sides before any start, with an area as given.
+    pub fn new(n: usize, area: Vec<f64>, strict: bool, seed: u64) -> Self {
+        assert_eq!(area.len(), VECTORS * n);
+        Self {
+            record: Record::default(),
+            counters: Counters::default(),
+            oracle: Oracle::new(1, n),
+            area,
+            counted: 0,
+            finished: 0,
+            strict,
+            random: Random::new(seed),
+            turned_away: 0,
+        }
+    }
+
+    pub fn n(&self) -> usize {
+        self.area.len() / VECTORS
+    }
+
+    pub fn vector(&self, number: usize) -> &[f64] {
+        let n = self.n();
+        &self.area[number * n..(number + 1) * n]
+    }
+
+    pub fn start(
+        &mut self,
+        family: u64,
+        state: &[f64],
+        time: f64,
+        replies: &Replies,
+        stop: Option<(usize, Stop)>,
+    ) -> Outcome {
+        let n = self.n();
+        self.counted = self.counters.evaluations;
+        self.oracle = if self.strict {
+            Oracle::with_vectors(family, n, &self.area)
+        } else {
+            Oracle::new(family, n)
+        };
+        let call = Call::Start {
+            family,
+            n: n as u64,
+            state,
+            time,
+        };
+        let reply = self.engine(&call)?;
+        self.follow(reply, replies, stop, |oracle, rhs| {
+            oracle.initialize(state, time, rhs).map(|()| 0.0)
+        })
+    }
+
+    pub fn attempt(
+        &mut self,
+        arguments: oracle::Arguments,
+        replies: &Replies,
+        stop: Option<(usize, Stop)>,
+    ) -> Outcome {
+        let radius = self.scaled_radius(arguments, replies);
+        let reply = self.engine(&Call::Attempt(arguments_of(arguments)))?;
+        if self.record.family == 1 && radius.is_ok_and(|r| r >= RKC_OVERFLOW) {
+            return self.left_out(reply, replies);
+        }
+        let ending = self.follow(reply, replies, stop, |oracle, rhs| {
+            oracle.attempt(arguments, rhs)
+        })?;
+        if let Ending::Finished { scaled_radius, .. } = ending
+            && !same(
+                scaled_radius,
+                radius.expect("a finished attempt has a radius"),
+            )
+        {
+            return Err(format!(
+                "scaled radius {scaled_radius}, the Rust's {radius:?}"
+            ));
+        }
+        Ok(ending)
+    }
+
+    pub fn accept(&mut self) -> Result<(), String> {
+        let arguments = self.record.arguments;
+        let reply = self.engine(&Call::Accept)?;
+        self.oracle.accept(arguments.time, arguments.step);
+        expect(&reply.answer, code::READY, 0, 0.0)?;
+        self.compare(&self.oracle, true, "accept")
+    }
+
+    pub fn accept_with_callback(
+        &mut self,
+        state: &[f64],
+        time: f64,
+        replies: &Replies,
+        stop: Option<(usize, Stop)>,
+    ) -> Outcome {
+        let step = self.record.arguments.step;
+        let reply = self.engine(&Call::AcceptWithCallback { state, time })?;
+        self.follow(reply, replies, stop, |oracle, rhs| {
+            oracle
+                .accept_with_callback(state, time, step, rhs)
+                .map(|()| 0.0)
+        })
+    }
+
+    /// |step| × 1.2 × radius as the Rust works it out.
+    fn scaled_radius(
+        &self,
+        arguments: oracle::Arguments,
+        replies: &Replies,
+    ) -> Result<f64, SolveError> {
+        let place = Cell::new(0);
+        self.oracle.scaled_radius(
+            arguments,
+            &|derivative: &mut [f64], point: &[f64], time: f64| {
+                replies.evaluate(place.get(), derivative, point, time);
+                place.set(place.get() + 1);
+                Ok(())
+            },
+        )
+    }
+
+    /// One call of the engine; what document 01's table settles of it is checked.
+    fn engine(&mut self, call: &Call) -> Result<Reply, String> {
+        let before = self.area.clone();
+        let held = Held {
+            record: self.record,
+            counters: self.counters,
+            area: &before,
+        };
+        let reply = make(self.record, &mut self.counters, &mut self.area, call);
+        let given = Given {
+            reply,
+            counters: self.counters,
+            area: &self.area,
+        };
+        check(&held, call, &given)?;
+        self.record = reply.record;
+        Ok(reply)
+    }
+
+    /// Drives the engine through all evaluations of one call of the Rust.
+    fn follow(
+        &mut self,
+        first: Reply,
+        replies: &Replies,
+        stop: Option<(usize, Stop)>,
+        run: impl Fn(
+            &mut Oracle,
+            &dyn Fn(&mut [f64], &[f64], f64) -> Result<(), SolveError>,
+        ) -> Result<f64, SolveError>,
+    ) -> Outcome {
+        let evaluated = RefCell::new(Vec::new());
+        let mut whole = self.oracle.clone();
+        let end = run(&mut whole, &|derivative, point, time| {
+            let place = evaluated.borrow().len();
+            replies.evaluate(place, derivative, point, time);
+            evaluated.borrow_mut().push((time, point.to_vec()));
+            Ok(())
+        });
+        let evaluated = evaluated.into_inner();
+        let mut reply = first;
+        let mut passes = 0;
+        let mut derivative = vec![0.0; self.n()];
+        let mut at = self.oracle.clone();
+        for (place, (time, point)) in evaluated.iter().enumerate() {
+            at = self.oracle.clone();
+            let reached = Cell::new(0);
+            let stopped = run(&mut at, &|derivative, point, time| {
+                if reached.get() == place {
+                    return Err(SolveError::Stopped);
+                }
+                replies.evaluate(reached.get(), derivative, point, time);
+                reached.set(reached.get() + 1);
+                Ok(())
+            });
+            assert_eq!(stopped, Err(SolveError::Stopped));
+            let number = asked(self.record.phase);
+            expect(&reply.answer, code::EVALUATE, number as u64, *time)?;
+            if !all_same(self.vector(number), point) {
+                return Err(format!("another point at evaluation {place}"));
+            }
+            self.compare(&at, self.strict, &format!("evaluation {place}"))?;
+            if self.record.phase == phase::PASS {
+                passes += 1;
+            }
+            self.something_turned_away()?;
+            match stop {
+                Some((there, Stop::Leave)) if there == place => {
+                    self.oracle = at;
+                    return Ok(Ending::Pending);
+                }
+                Some((there, Stop::Abandon)) if there == place => {
+                    self.engine(&Call::Abandon)?;
+                    self.oracle = at;
+                    return Ok(Ending::Abandoned);
+                }
+                _ => {}
+            }
+            let point = self.vector(number).to_vec();
+            replies.evaluate(place, &mut derivative, &point, reply.answer.value);
+            reply = self.engine(&Call::Reply {
+                derivative: &derivative,
+            })?;
+        }
+        let ending = self.ending(&reply, end, &derivative, evaluated.len() as u64, passes)?;
+        let counted = whole.evaluations();
+        self.oracle = if ending == Ending::BadDerivative {
+            at
+        } else {
+            whole
+        };
+        self.strict |= matches!(ending, Ending::Finished { .. });
+        if self.counters.evaluations != self.counted + counted {
+            return Err(format!(
+                "{} evaluations, the Rust's {}",
+                self.counters.evaluations,
+                self.counted + counted
+            ));
+        }
+        if ending == Ending::BadDerivative {
+            // The Rust counts the evaluation that number 9 turns away; the copy that stopped before it does not.
+            self.counted += 1;
+        }
+        self.compare(&self.oracle, self.strict, "the end")?;
+        Ok(ending)
+    }
+
+    fn ending(
+        &mut self,
+        reply: &Reply,
+        end: Result<f64, SolveError>,
+        last: &[f64],
+        evaluations: u64,
+        passes: u64,
+    ) -> Outcome {
+        let answer = &reply.answer;
+        match end {
+            Ok(_) if passes == 0 => {
+                expect(answer, code::READY, 0, 0.0)?;
+                Ok(Ending::Ready)
+            }
+            Ok(norm) => {
+                expect(answer, code::FINISHED, 0, norm)?;
+                self.finished += 1;
+                let stages = self.record.staging.stages;
+                if evaluations != stages + passes || self.record.iteration.pass != passes {
+                    return Err(format!(
+                        "{stages} stages and {passes} passes in {evaluations} evaluations"
+                    ));
+                }
+                if self.counters.finished_attempts != self.finished {
+                    return Err("another count of finished attempts".to_string());
+                }
+                let scaled_radius = self.record.iteration.scaled_radius;
+                Ok(Ending::Finished {
+                    stages,
+                    passes,
+                    scaled_radius,
+                    norm,
+                })
+            }
+            Err(SolveError::NonFiniteDerivative) if last.iter().all(|value| value.is_finite()) => {
+                expect(answer, code::REFUSED, 10, 0.0)?;
+                Ok(Ending::BadCandidate)
+            }
+            Err(SolveError::NonFiniteDerivative) => {
+                expect(answer, code::REFUSED, 9, 0.0)?;
+                Ok(Ending::BadDerivative)
+            }
+            Err(error) => Err(format!("the Rust ended with {error:?}")),
+        }
+    }
+
+    /// RKC where the Rust's count overflows: the engine alone, which runs 200 stages.
+    fn left_out(&mut self, first: Reply, replies: &Replies) -> Outcome {
+        let mut reply = first;
+        let mut derivative = vec![0.0; self.n()];
+        for place in 0.. {
+            if reply.answer.code != code::EVALUATE {
+                break;
+            }
+            let point = self.vector(reply.answer.number as usize).to_vec();
+            replies.evaluate(place, &mut derivative, &point, reply.answer.value);
+            reply = self.engine(&Call::Reply {
+                derivative: &derivative,
+            })?;
+            if self.record.phase == phase::STAGE && self.record.staging.stages != 200 {
+                return Err(format!(
+                    "{} stages at an overflow",
+                    self.record.staging.stages
+                ));
+            }
+        }
+        Ok(Ending::LeftOut)
+    }
+
+    /// The engine's vectors against the Rust's: all of them, or those that an attempt reads.
+    fn compare(&self, oracle: &Oracle, all: bool, place: &str) -> Result<(), String> {
+        const READ: [usize; 3] = [vector::EIGENVECTOR, vector::STATE, vector::FIRST_DERIVATIVE];
+        let begun = ![phase::FIRST, phase::EMPTY].contains(&self.record.phase);
+        let read = if begun { &READ[..] } else { &READ[..2] };
+        for (number, theirs) in oracle.vectors().into_iter().enumerate() {
+            if !all && !read.contains(&number) {
+                continue;
+            }
+            let entries = self.vector(number).iter().zip(theirs).enumerate();
+            if let Some((i, (ours, theirs))) =
+                entries.into_iter().find(|(_, (a, b))| !same(**a, **b))
+            {
+                return Err(format!(
+                    "entry {i} of vector {number} at {place}: {ours:?}, the Rust's {theirs:?}"
+                ));
+            }
+        }
+        Ok(())
+    }
+
+    /// Now and then a call that is turned away with 1 to 8, which changes nothing.
+    pub fn something_turned_away(&mut self) -> Result<(), String> {
+        if !self.random.chance(3) {
+            return Ok(());
+        }
+        let n = self.n();
+        let short = vec![0.0; n + 1];
+        let bad = Arguments {
+            step: 0.0,
+            ..Arguments::default()
+        };
+        let calls = [
+            Call::Start {
+                family: 6,
+                n: n as u64,
+                state: &short[..n],
+                time: 0.0,
+            },
+            Call::Start {
+                family: 1,
+                n: 513,
+                state: &short[..n],
+                time: 0.0,
+            },
+            Call::Start {
+                family: 1,
+                n: n as u64,
+                state: &short,
+                time: 0.0,
+            },
+            Call::Start {
+                family: 1,
+                n: n as u64,
+                state: &short[..n],
+                time: f64::NAN,
+            },
+            Call::Attempt(bad),
+            Call::Reply { derivative: &short },
+            Call::AcceptWithCallback {
+                state: &short,
+                time: 0.0,
+            },
+            Call::Accept,
+        ];
+        let call = calls[self.random.below(calls.len())];
+        let held = Held {
+            record: self.record,
+            counters: self.counters,
+            area: &self.area,
+        };
+        if number(&held, &call).is_some_and(|number| number < 9) {
+            self.turned_away += 1;
+            self.engine(&call)?;
+        }
+        Ok(())
+    }
+}
+
+/// The vector that is evaluated in a phase.
+fn asked(at: u64) -> usize {
+    match at {
+        phase::PASS => vector::PERTURBED_STATE,
+        phase::STAGE => vector::PREVIOUS_ONE,
+        phase::CANDIDATE => vector::CANDIDATE,
+        _ => vector::STATE,
+    }
+}
+
+fn expect(answer: &Answer, code: u64, number: u64, value: f64) -> Result<(), String> {
+    let good = answer.code == code && answer.number == number && same(answer.value, value);
+    good.then_some(()).ok_or_else(|| {
+        format!(
+            "answered {answer:?}, the Rust's {code} {number} {value} ({:016X})",
+            value.to_bits()
+        )
+    })
+}
+
+/// One call of the engine.
+pub fn make(record: Record, counters: &mut Counters, area: &mut [f64], call: &Call) -> Reply {
+    match *call {
+        Call::Start {
+            family,
+            n,
+            state,
+            time,
+        } => calls::start(record, area, family, n, state, time),
+        Call::Attempt(a) => calls::attempt(
+            record,
+            area,
+            a.time,
+            a.step,
+            a.absolute_tolerance,
+            a.relative_tolerance,
+            a.adaptive,
+        ),
+        Call::Reply { derivative } => calls::reply(record, counters, area, derivative),
+        Call::Accept => calls::accept(record, area),
+        Call::AcceptWithCallback { state, time } => {
+            calls::accept_with_callback(record, area, state, time)
+        }
+        Call::Abandon => calls::abandon(record, area),
+    }
+}

@@ -1,0 +1,490 @@
+//! Document 01, "When a call is turned away", stated anew from the document alone, with what each call leaves.
+//!
+//! [`number`] gives the number of the first test from 1 to 9 that a call fails. [`check`] compares what an engine answered
+//! and left with what the document settles, number 10 included: whether a candidate is finite is seen in the area.
+use crate::random::{all_same, same};
+use stabilized::calls::{Answer, Arguments, Counters, Record, Reply, code, phase, vector};
+
+/// A call with what it brings.
+#[derive(Clone, Copy, Debug)]
+pub enum Call<'a> {
+    Start {
+        family: u64,
+        n: u64,
+        state: &'a [f64],
+        time: f64,
+    },
+    Attempt(Arguments),
+    Reply {
+        derivative: &'a [f64],
+    },
+    Accept,
+    AcceptWithCallback {
+        state: &'a [f64],
+        time: f64,
+    },
+    Abandon,
+}
+
+/// What a call is handed beside what it brings.
+#[derive(Clone, Copy, Debug)]
+pub struct Held<'a> {
+    pub record: Record,
+    pub counters: Counters,
+    pub area: &'a [f64],
+}
+
+const VECTORS: u64 = 11;
+const LIMIT: u64 = u64::MAX;
+
+fn finite(values: &[f64]) -> bool {
+    values.iter().all(|value| value.is_finite())
+}
+
+fn permitted(family: u64, stages: u64) -> bool {
+    match family {
+        1 | 4 => (2..=200).contains(&stages),
+        2 | 3 => (3..=199).contains(&stages) && stages % 2 == 1,
+        5 => (3..=200).contains(&stages),
+        _ => false,
+    }
+}
+
+/// The phase waits for a derivative, and what it uses is in range.
+fn pending(record: &Record) -> bool {
+    let staging = &record.staging;
+    match record.phase {
+        phase::FIRST | phase::CALLBACK => true,
+        phase::PASS => (1..=12).contains(&record.iteration.pass),
+        phase::STAGE => {
+            permitted(record.family, staging.stages)
+                && (2..=staging.stages).contains(&staging.stage)
+        }
+        phase::CANDIDATE => permitted(record.family, staging.stages),
+        _ => false,
+    }
+}
+
+fn allowed(record: &Record, call: &Call) -> bool {
+    match call {
+        Call::Start { .. } => true,
+        Call::Attempt(_) => [phase::READY, phase::FINISHED].contains(&record.phase),
+        Call::Reply { .. } | Call::Abandon => pending(record),
+        Call::Accept | Call::AcceptWithCallback { .. } => record.phase == phase::FINISHED,
+    }
+}
+
+/// Tests 1 to 3, on what start brings and on what the record of any other call holds.
+fn shape(held: &Held, call: &Call) -> Option<u64> {
+    let (family, n, brought) = match *call {
+        Call::Start {
+            family, n, state, ..
+        } => (family, n, Some(state)),
+        Call::Reply { derivative } => (held.record.family, held.record.n, Some(derivative)),
+        Call::AcceptWithCallback { state, .. } => (held.record.family, held.record.n, Some(state)),
+        _ => (held.record.family, held.record.n, None),
+    };
+    if !(1..=5).contains(&family) {
+        return Some(1);
+    }
+    if n == 0 || n > 512 {
+        return Some(2);
+    }
+    let fits = held.area.len() as u64 == VECTORS * n;
+    (!fits || brought.is_some_and(|values| values.len() as u64 != n)).then_some(3)
+}
+
+/// Tests 5 to 9.
+fn contents(held: &Held, call: &Call) -> Option<u64> {
+    let counters = held.counters;
+    match *call {
+        Call::Start { state, .. } | Call::AcceptWithCallback { state, .. } if !finite(state) => {
+            Some(5)
+        }
+        Call::Start { time, .. } | Call::AcceptWithCallback { time, .. } if !time.is_finite() => {
+            Some(6)
+        }
+        Call::Attempt(a) if !a.time.is_finite() || a.step == 0.0 || !a.step.is_finite() => Some(6),
+        Call::Attempt(a)
+            if !(a.absolute_tolerance.is_finite() && a.absolute_tolerance > 0.0)
+                || !(a.relative_tolerance.is_finite() && a.relative_tolerance > 0.0) =>
+        {
+            Some(7)
+        }
+        Call::Reply { .. } if counters.evaluations == LIMIT => Some(8),
+        Call::Reply { .. }
+            if held.record.phase == phase::CANDIDATE && counters.finished_attempts == LIMIT =>
+        {
+            Some(8)
+        }
+        Call::Reply { derivative } if !finite(derivative) => Some(9),
+        _ => None,
+    }
+}
+
+/// The number of the first test from 1 to 9 that the call fails.
+pub fn number(held: &Held, call: &Call) -> Option<u64> {
+    shape(held, call)
+        .or_else(|| (!allowed(&held.record, call)).then_some(4))
+        .or_else(|| contents(held, call))
+}
+
+/// What an engine gave back and left.
+#[derive(Clone, Copy, Debug)]
+pub struct Given<'a> {
+    pub reply: Reply,
+    pub counters: Counters,
+    pub area: &'a [f64],
+}
+
+fn words(record: &Record) -> [f64; 24] {
+    let Record {
+        arguments,
+        iteration,
+        staging,
+        ..
+    } = *record;
+    let recurrence = staging.recurrence;
+    let polynomials = recurrence.polynomials;
+    let numbers = [
+        record.family,
+        record.n,
+        record.phase,
+        arguments.adaptive,
+        iteration.pass,
+        staging.stages,
+        staging.stage,
+    ];
+    let doubles = [
+        arguments.time,
+        arguments.step,
+        arguments.absolute_tolerance,
+        arguments.relative_tolerance,
+        iteration.perturbation,
+        iteration.previous_radius,
+        iteration.scaled_radius,
+        recurrence.theta_previous,
+        recurrence.theta_previous_two,
+        polynomials.b_previous,
+        polynomials.b_previous_two,
+        polynomials.value_previous,
+        polynomials.value_previous_two,
+        polynomials.first_previous,
+        polynomials.first_previous_two,
+        polynomials.second_previous,
+        polynomials.second_previous_two,
+    ];
+    let mut all = [0.0; 24];
+    for (to, from) in all.iter_mut().zip(numbers) {
+        *to = f64::from_bits(from);
+    }
+    all[7..].copy_from_slice(&doubles);
+    all
+}
+
+/// The same numbers, and the same doubles with NaN matching NaN.
+pub fn same_record(a: &Record, b: &Record) -> bool {
+    let (a, b) = (words(a), words(b));
+    a[..7]
+        .iter()
+        .zip(&b[..7])
+        .all(|(a, b)| a.to_bits() == b.to_bits())
+        && all_same(&a[7..], &b[7..])
+}
+
+fn same_answer(a: &Answer, b: &Answer) -> bool {
+    a.code == b.code && a.number == b.number && same(a.value, b.value)
+}
+
+fn refused(number: u64) -> Answer {
+    Answer {
+        code: code::REFUSED,
+        number,
+        value: 0.0,
+    }
+}
+
+fn evaluate(vector: usize, time: f64) -> Answer {
+    Answer {
+        code: code::EVALUATE,
+        number: vector as u64,
+        value: time,
+    }
+}
+
+/// What the document settles of a call: the answer and the record where they are settled, the counters, and the area with
+/// the vectors that are settled apart.
+struct Settled {
+    answer: Option<Answer>,
+    record: Option<Record>,
+    counters: Counters,
+    area: Vec<f64>,
+    /// Vectors whose new contents are left to the differential run.
+    open: &'static [usize],
+}
+
+fn with_phase(record: Record, phase: u64) -> Record {
+    Record { phase, ..record }
+}
+
+impl Settled {
+    /// Everything as it was.
+    fn standing(held: &Held) -> Self {
+        Self {
+            answer: None,
+            record: Some(held.record),
+            counters: held.counters,
+            area: held.area.to_vec(),
+            open: &[],
+        }
+    }
+
+    fn put(&mut self, vector: usize, values: &[f64]) {
+        let n = values.len();
+        self.area[vector * n..(vector + 1) * n].copy_from_slice(values);
+    }
+
+    fn copy(&mut self, from: usize, to: usize, n: usize) {
+        self.area.copy_within(from * n..(from + 1) * n, to * n);
+    }
+}
+
+/// A call that tests 1 to 9 do not turn away.
+fn settled(held: &Held, call: &Call, given: &Given) -> Settled {
+    let mut s = Settled::standing(held);
+    let record = held.record;
+    let n = record.n as usize;
+    match *call {
+        Call::Start {
+            family,
+            n,
+            state,
+            time,
+        } => {
+            let arguments = Arguments {
+                time,
+                ..record.arguments
+            };
+            s.answer = Some(evaluate(vector::STATE, time));
+            s.record = Some(Record {
+                family,
+                n,
+                phase: phase::FIRST,
+                arguments,
+                ..record
+            });
+            s.put(vector::STATE, state);
+            s.put(vector::EIGENVECTOR, &vec![0.0; n as usize]);
+        }
+        Call::Attempt(arguments) => {
+            s.answer = Some(evaluate(vector::PERTURBED_STATE, arguments.time));
+            let mut record = Record {
+                phase: phase::PASS,
+                arguments,
+                ..record
+            };
+            record.iteration = given.reply.record.iteration;
+            record.iteration.pass = 1;
+            s.record = Some(record);
+            s.open = &[vector::EIGENVECTOR, vector::PERTURBED_STATE];
+        }
+        Call::Accept => {
+            s.answer = Some(Answer {
+                code: code::READY,
+                number: 0,
+                value: 0.0,
+            });
+            s.record = Some(with_phase(record, phase::READY));
+            s.copy(vector::LAST_DERIVATIVE, vector::FIRST_DERIVATIVE, n);
+            s.copy(vector::CANDIDATE, vector::STATE, n);
+        }
+        Call::AcceptWithCallback { state, time } => {
+            let arguments = Arguments {
+                time,
+                ..record.arguments
+            };
+            s.answer = Some(evaluate(vector::STATE, time));
+            s.record = Some(Record {
+                phase: phase::CALLBACK,
+                arguments,
+                ..record
+            });
+            s.put(vector::STATE, state);
+        }
+        Call::Abandon => {
+            s.answer = Some(Answer {
+                code: code::EMPTY,
+                number: 0,
+                value: 0.0,
+            });
+            s.record = Some(with_phase(record, phase::EMPTY));
+        }
+        Call::Reply { derivative } => settle_reply(&mut s, record, derivative, given),
+    }
+    s
+}
+
+fn settle_reply(s: &mut Settled, record: Record, derivative: &[f64], given: &Given) {
+    let n = derivative.len();
+    let arguments = record.arguments;
+    s.counters.evaluations += 1;
+    match record.phase {
+        phase::FIRST | phase::CALLBACK => {
+            s.answer = Some(Answer {
+                code: code::READY,
+                number: 0,
+                value: 0.0,
+            });
+            s.record = Some(with_phase(record, phase::READY));
+            s.put(vector::FIRST_DERIVATIVE, derivative);
+            if record.phase == phase::CALLBACK {
+                s.put(vector::EIGENVECTOR, &vec![0.0; n]);
+            }
+        }
+        phase::PASS => {
+            s.put(vector::PERTURBED_DERIVATIVE, derivative);
+            let direction: Vec<f64> = derivative
+                .iter()
+                .zip(&s.area[..n])
+                .map(|(d, first)| d - first)
+                .collect();
+            s.put(vector::EIGENVECTOR, &direction);
+            settle_pass(s, record, given);
+        }
+        phase::STAGE => {
+            s.put(vector::DERIVATIVE, derivative);
+            settle_stage(s, record, given, n);
+        }
+        _ => {
+            let norm = given.reply.answer.value;
+            let norm = if arguments.adaptive == 0 { 0.0 } else { norm };
+            s.answer = Some(Answer {
+                code: code::FINISHED,
+                number: 0,
+                value: norm,
+            });
+            s.record = Some(with_phase(record, phase::FINISHED));
+            s.counters.finished_attempts += 1;
+            s.put(vector::LAST_DERIVATIVE, derivative);
+            s.open = if arguments.adaptive == 0 {
+                &[]
+            } else {
+                &[vector::DERIVATIVE]
+            };
+        }
+    }
+}
+
+/// On to the next pass, or to stage 2; never a pass after the twelfth.
+fn settle_pass(s: &mut Settled, record: Record, given: &Given) {
+    let after = given.reply.record;
+    let mut expected = Record {
+        phase: after.phase,
+        iteration: after.iteration,
+        ..record
+    };
+    if after.phase == phase::PASS && record.iteration.pass < 12 {
+        expected.iteration.pass = record.iteration.pass + 1;
+        s.answer = Some(evaluate(vector::PERTURBED_STATE, record.arguments.time));
+        s.open = &[vector::PERTURBED_STATE];
+    } else {
+        expected.phase = phase::STAGE;
+        expected.staging = after.staging;
+        expected.staging.stage = 2;
+        expected.iteration.pass = record.iteration.pass;
+        let theta = after.staging.recurrence.theta_previous;
+        let time = record.arguments.time + record.arguments.step * theta;
+        s.answer = Some(evaluate(vector::PREVIOUS_ONE, time));
+        s.copy(vector::STATE, vector::PREVIOUS_TWO, record.n as usize);
+        s.open = &[vector::PREVIOUS_ONE];
+    }
+    s.record = permitted(record.family, after.staging.stages)
+        .then_some(expected)
+        .or((expected.phase == phase::PASS).then_some(expected));
+}
+
+/// On to the next stage with the exchange, or to the candidate, which is turned away with 10 where it is not finite.
+fn settle_stage(s: &mut Settled, record: Record, given: &Given, n: usize) {
+    let after = given.reply.record;
+    let arguments = record.arguments;
+    if record.staging.stage < record.staging.stages {
+        let mut staging = after.staging;
+        staging.stages = record.staging.stages;
+        staging.stage = record.staging.stage + 1;
+        let theta = staging.recurrence.theta_previous;
+        s.answer = Some(evaluate(
+            vector::PREVIOUS_ONE,
+            arguments.time + arguments.step * theta,
+        ));
+        s.record = Some(Record { staging, ..record });
+        let previous_two =
+            s.area[vector::PREVIOUS_TWO * n..(vector::PREVIOUS_TWO + 1) * n].to_vec();
+        s.copy(vector::PREVIOUS_ONE, vector::PREVIOUS_TWO, n);
+        s.put(vector::NEXT_STAGE, &previous_two);
+        s.open = &[vector::PREVIOUS_ONE];
+        return;
+    }
+    let row = given.area[vector::NEXT_STAGE * n..(vector::NEXT_STAGE + 1) * n].to_vec();
+    let good = finite(&row);
+    s.put(vector::NEXT_STAGE, &row);
+    s.put(vector::CANDIDATE, &row);
+    if good {
+        s.answer = Some(evaluate(vector::CANDIDATE, arguments.time + arguments.step));
+        s.record = Some(with_phase(record, phase::CANDIDATE));
+    } else {
+        s.answer = Some(refused(10));
+        s.record = Some(with_phase(record, phase::EMPTY));
+    }
+}
+
+/// What the document settles of a call that tests 1 to 9 turn away.
+fn turned_away(held: &Held, number: u64) -> Settled {
+    let mut s = Settled::standing(held);
+    s.answer = Some(refused(number));
+    if number == 9 {
+        s.record = Some(with_phase(held.record, phase::EMPTY));
+        s.counters.evaluations += 1;
+    }
+    s
+}
+
+/// The first thing in which an engine departs from the document.
+pub fn check(held: &Held, call: &Call, given: &Given) -> Result<(), String> {
+    let s = match number(held, call) {
+        Some(number) => turned_away(held, number),
+        None => settled(held, call, given),
+    };
+    let reply = &given.reply;
+    let answer = s.answer.expect("every call has an answer");
+    if !same_answer(&answer, &reply.answer) {
+        return Err(format!("answer {:?}, expected {answer:?}", reply.answer));
+    }
+    match &s.record {
+        Some(record) if same_record(record, &reply.record) => {}
+        expected => return Err(format!("record {:?}, expected {expected:?}", reply.record)),
+    }
+    if s.counters != given.counters {
+        return Err(format!(
+            "counters {:?}, expected {:?}",
+            given.counters, s.counters
+        ));
+    }
+    check_area(&s, given)
+}
+
+fn check_area(s: &Settled, given: &Given) -> Result<(), String> {
+    let n = given.area.len() / VECTORS as usize;
+    if s.open.is_empty() || n == 0 {
+        let same = all_same(&s.area, given.area);
+        return same
+            .then_some(())
+            .ok_or_else(|| "the area changed".to_string());
+    }
+    for vector in 0..VECTORS as usize {
+        let range = vector * n..(vector + 1) * n;
+        if !s.open.contains(&vector) && !all_same(&s.area[range.clone()], &given.area[range]) {
+            return Err(format!("vector {vector} is not as expected"));
+        }
+    }
+    Ok(())
+}

@@ -1,0 +1,165 @@
+use crate::Refusal;
+use crate::calls::{self, Counters, LARGEST, Record, Reply, VECTORS, code, vector};
+
+/// The methods that the engine carries.
+#[derive(Clone, Copy, Debug, Eq, PartialEq)]
+pub enum Family {
+    /// Runge-Kutta-Chebyshev, second order (Sommeijer, Shampine and Verwer).
+    Rkc = 1,
+    /// Runge-Kutta-Legendre, first order (Meyer, Balsara and Aslam).
+    Rkl1 = 2,
+    /// Runge-Kutta-Legendre, second order.
+    Rkl2 = 3,
+    /// Runge-Kutta-Gegenbauer, first order (Skaras and others).
+    Rkg1 = 4,
+    /// Runge-Kutta-Gegenbauer, second order.
+    Rkg2 = 5,
+}
+
+/// What an attempt is given.
+#[derive(Clone, Copy, Debug, PartialEq)]
+pub struct Attempt {
+    pub time: f64,
+    pub step: f64,
+    pub absolute_tolerance: f64,
+    pub relative_tolerance: f64,
+    /// Without it no error is worked out, and the norm is 0.
+    pub adaptive: bool,
+}
+
+impl Attempt {
+    /// An attempt with an error norm at the tolerances 1e-6 and 1e-3.
+    pub fn new(time: f64, step: f64) -> Self {
+        Self {
+            time,
+            step,
+            absolute_tolerance: 1.0e-6,
+            relative_tolerance: 1.0e-3,
+            adaptive: true,
+        }
+    }
+}
+
+/// The engine with its area, its counters and a right-hand side `f(derivative, state, time)`.
+pub struct Stepper<F> {
+    rhs: F,
+    record: Record,
+    counters: Counters,
+    area: Vec<f64>,
+    derivative: Vec<f64>,
+}
+
+impl<F: FnMut(&mut [f64], &[f64], f64)> Stepper<F> {
+    /// Begins at a state and time; evaluates the first derivative.
+    pub fn start(family: Family, state: &[f64], time: f64, rhs: F) -> Result<Self, Refusal> {
+        let n = state.len();
+        let held = if n > LARGEST { 0 } else { n };
+        let mut stepper = Self {
+            rhs,
+            record: Record::default(),
+            counters: Counters::default(),
+            area: vec![0.0; VECTORS * held],
+            derivative: vec![0.0; held],
+        };
+        stepper.restart(family, state, time)?;
+        Ok(stepper)
+    }
+
+    /// Begins anew at another state of the same dimension, whatever went before. The counters go on.
+    pub fn restart(&mut self, family: Family, state: &[f64], time: f64) -> Result<(), Refusal> {
+        let n = state.len() as u64;
+        let reply = calls::start(self.record, &mut self.area, family as u64, n, state, time);
+        self.run(reply)?;
+        Ok(())
+    }
+
+    /// Steps from the kept state; the error norm. The step is good when the norm is at most 1. A step that is not wanted
+    /// needs no call: attempt again.
+    pub fn attempt(&mut self, attempt: Attempt) -> Result<f64, Refusal> {
+        let reply = calls::attempt(
+            self.record,
+            &mut self.area,
+            attempt.time,
+            attempt.step,
+            attempt.absolute_tolerance,
+            attempt.relative_tolerance,
+            u64::from(attempt.adaptive),
+        );
+        self.run(reply)
+    }
+
+    /// Takes the candidate of a finished attempt as the kept state.
+    pub fn accept(&mut self) -> Result<(), Refusal> {
+        let reply = calls::accept(self.record, &mut self.area);
+        self.run(reply)?;
+        Ok(())
+    }
+
+    /// After a finished attempt, keeps another state at another time, and evaluates its derivative.
+    pub fn accept_with_callback(&mut self, state: &[f64], time: f64) -> Result<(), Refusal> {
+        let reply = calls::accept_with_callback(self.record, &mut self.area, state, time);
+        self.run(reply)?;
+        Ok(())
+    }
+
+    /// Evaluates as long as the engine asks for it. The value of the last answer.
+    fn run(&mut self, first: Reply) -> Result<f64, Refusal> {
+        let mut reply = first;
+        loop {
+            self.record = reply.record;
+            let answer = reply.answer;
+            match answer.code {
+                code::EVALUATE => self.evaluate(answer.number as usize, answer.value),
+                code::REFUSED => {
+                    return Err(Refusal::of_number(answer.number).expect("numbers are 1 to 10"));
+                }
+                _ => return Ok(answer.value),
+            }
+            reply = calls::reply(
+                self.record,
+                &mut self.counters,
+                &mut self.area,
+                &self.derivative,
+            );
+        }
+    }
+
+    fn evaluate(&mut self, number: usize, time: f64) {
+        let n = self.derivative.len();
+        let point = &self.area[number * n..(number + 1) * n];
+        (self.rhs)(&mut self.derivative, point, time);
+    }
+}
+
+impl<F> Stepper<F> {
+    /// The state that the next attempt steps from.
+    pub fn state(&self) -> &[f64] {
+        self.vector(vector::STATE)
+    }
+
+    /// The candidate of the last finished attempt.
+    pub fn candidate(&self) -> &[f64] {
+        self.vector(vector::CANDIDATE)
+    }
+
+    /// The derivative at the kept state.
+    pub fn first_derivative(&self) -> &[f64] {
+        self.vector(vector::FIRST_DERIVATIVE)
+    }
+
+    /// A vector of the area, by its number from 0 to 10.
+    pub fn vector(&self, number: usize) -> &[f64] {
+        let n = self.derivative.len();
+        &self.area[number * n..(number + 1) * n]
+    }
+
+    /// Evaluations and finished attempts so far.
+    pub fn counters(&self) -> Counters {
+        self.counters
+    }
+
+    /// What the engine keeps beside the area: after a finished attempt also its stages, passes and scaled radius.
+    pub fn record(&self) -> Record {
+        self.record
+    }
+}
