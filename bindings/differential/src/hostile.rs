@@ -26,9 +26,9 @@ pub struct Tally {
 /// `usual`, and now and then anything.
 fn number(random: &mut Random, usual: u64, about: u64) -> u64 {
     match random.below(40) {
-        0 => random.next(),
+        0 => random.draw(),
         1 => random.pick(&[0, u64::MAX, 1 << 63]),
-        2 | 3 => random.next() % about,
+        2 | 3 => random.draw() % about,
         _ => usual,
     }
 }
@@ -65,14 +65,14 @@ fn length(random: &mut Random, usual: usize) -> usize {
 }
 
 fn record(random: &mut Random, family: u64, n: u64) -> Record {
-    let stages = random.next() % 210;
-    let stage = random.next() % (stages + 3);
+    let stages = random.draw() % 210;
+    let stage = random.draw() % (stages + 3);
     let stage = if random.chance(30) { stages } else { stage };
     Record {
         family: number(random, family, 8),
         n: number(random, n, 16),
         phase: {
-            let usual = random.next() % 8;
+            let usual = random.draw() % 8;
             number(random, usual, 12)
         },
         arguments: Arguments {
@@ -81,13 +81,13 @@ fn record(random: &mut Random, family: u64, n: u64) -> Record {
             absolute_tolerance: double(random),
             relative_tolerance: double(random),
             adaptive: {
-                let usual = random.next() % 2;
+                let usual = random.draw() % 2;
                 number(random, usual, 4)
             },
         },
         iteration: Iteration {
             pass: {
-                let usual = random.next() % 15;
+                let usual = random.draw() % 15;
                 number(random, usual, 20)
             },
             perturbation: double(random),
@@ -123,8 +123,8 @@ fn counter(random: &mut Random) -> u64 {
     match random.below(10) {
         0 => u64::MAX,
         1 => u64::MAX - 1,
-        2 => random.next(),
-        _ => random.next() % 1000,
+        2 => random.draw(),
+        _ => random.draw() % 1000,
     }
 }
 
@@ -136,7 +136,7 @@ pub fn call(seed: u64, tally: &mut Tally) -> Result<(), String> {
         1..8 => 0,
         _ => random.below(9),
     };
-    let family = random.next() % 5 + 1;
+    let family = random.draw() % 5 + 1;
     let record = record(random, family, n as u64);
     let counters = Counters {
         evaluations: counter(random),
@@ -159,7 +159,7 @@ pub fn call(seed: u64, tally: &mut Tally) -> Result<(), String> {
             step: double(random) * random.sign(),
             absolute_tolerance: double(random),
             relative_tolerance: double(random),
-            adaptive: random.next() % 3,
+            adaptive: random.draw() % 3,
         }),
         2 => Call::Reply {
             derivative: &brought,

@@ -85,7 +85,11 @@ fn all(size: &Size, seed: u64) -> Result<(), String> {
             .map_err(|difference| format!("scenario {seed}: {difference}"))?;
         index += 1;
     }
-    report(&coverage)?;
+    report(&coverage);
+    let missing = coverage.missing(families);
+    if !missing.is_empty() {
+        return Err(format!("not reached: {}", missing.join(", ")));
+    }
     let mut tally = Tally::default();
     for index in 0..size.calls {
         let seed = mixed(seed ^ mixed(index ^ (1 << 63)));
@@ -134,7 +138,7 @@ fn every_count(
     Ok(())
 }
 
-fn report(coverage: &Coverage) -> Result<(), String> {
+fn report(coverage: &Coverage) {
     println!(
         "{} scenarios, {} attempts, {} evaluations; {} calls between them turned away",
         coverage.scenarios, coverage.attempts, coverage.evaluations, coverage.turned_away
@@ -154,7 +158,6 @@ fn report(coverage: &Coverage) -> Result<(), String> {
     for (kind, count) in &coverage.kinds {
         println!("{kind}: {count}");
     }
-    Ok(())
 }
 
 fn report_calls(tally: &Tally) {

@@ -41,7 +41,7 @@ impl Model {
                 Model::Noise { seed, least, most } => {
                     let draw = mixed(seed ^ mixed((place * n + i) as u64));
                     let magnitude = (least + (most - least) * unit(mixed(draw))).exp2();
-                    if draw % 2 == 0 { magnitude } else { -magnitude }
+                    if draw & 1 == 0 { magnitude } else { -magnitude }
                 }
             };
         }

@@ -7,14 +7,14 @@ impl Random {
         Self(seed)
     }
 
-    pub fn next(&mut self) -> u64 {
+    pub fn draw(&mut self) -> u64 {
         self.0 = self.0.wrapping_add(0x9E37_79B9_7F4A_7C15);
         mixed(self.0)
     }
 
     /// One of 0 to `limit` - 1.
     pub fn below(&mut self, limit: usize) -> usize {
-        (self.next() % limit as u64) as usize
+        (self.draw() % limit as u64) as usize
     }
 
     /// Yes in `parts` of 100 cases.
@@ -28,7 +28,7 @@ impl Random {
 
     /// From 0 up to 1.
     pub fn unit(&mut self) -> f64 {
-        unit(self.next())
+        unit(self.draw())
     }
 
     pub fn between(&mut self, low: f64, high: f64) -> f64 {
@@ -58,7 +58,7 @@ impl Random {
                 f64::MIN,
                 5e-324,
             ]),
-            1 | 2 => f64::from_bits(self.next()),
+            1 | 2 => f64::from_bits(self.draw()),
             _ => self.sign() * self.magnitude(-3.0, 3.0),
         }
     }

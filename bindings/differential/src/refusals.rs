@@ -106,8 +106,9 @@ fn contents(held: &Held, call: &Call) -> Option<u64> {
         }
         Call::Attempt(a) if !a.time.is_finite() || a.step == 0.0 || !a.step.is_finite() => Some(6),
         Call::Attempt(a)
-            if !(a.absolute_tolerance.is_finite() && a.absolute_tolerance > 0.0)
-                || !(a.relative_tolerance.is_finite() && a.relative_tolerance > 0.0) =>
+            if ![a.absolute_tolerance, a.relative_tolerance]
+                .iter()
+                .all(|t| t.is_finite() && *t > 0.0) =>
         {
             Some(7)
         }

@@ -9,6 +9,33 @@ use std::collections::BTreeMap;
 
 pub const DIMENSIONS: [usize; 8] = [1, 2, 3, 5, 8, 16, 64, 512];
 
+/// What every run reaches.
+const WANTED: [&str; 23] = [
+    "abandoned",
+    "accepted attempts",
+    "areas of any doubles",
+    "areas of zeros",
+    "attempts without adaptive",
+    "callbacks",
+    "callbacks not brought to an end",
+    "ended with 10",
+    "ended with 9",
+    "finished attempts",
+    "huge states",
+    "left for a start in the middle",
+    "negative steps",
+    "norm not finite",
+    "positive steps",
+    "radius NaN",
+    "radius infinite",
+    "radius zero",
+    "rejected attempts",
+    "starts",
+    "starts not brought to an end",
+    "subnormal states",
+    "tiny steps",
+];
+
 /// What the scenarios reached.
 #[derive(Default)]
 pub struct Coverage {
@@ -27,6 +54,31 @@ pub struct Coverage {
 }
 
 impl Coverage {
+    /// What is wanted of a run with these families and was not reached.
+    pub fn missing(&self, families: &[u64]) -> Vec<String> {
+        let mut missing = Vec::new();
+        for &family in families {
+            let name = oracle::name(family);
+            for stages in oracle::permitted(family) {
+                if !self.stages.contains_key(&(family, stages as u64)) {
+                    missing.push(format!("{name} with {stages} stages"));
+                }
+            }
+            for passes in 1..=12 {
+                if !self.passes.contains_key(&(family, passes)) {
+                    missing.push(format!("{name} with {passes} passes"));
+                }
+            }
+        }
+        let kinds = WANTED.iter().filter(|kind| !self.kinds.contains_key(*kind));
+        missing.extend(kinds.map(|kind| kind.to_string()));
+        let dimensions = DIMENSIONS
+            .iter()
+            .filter(|n| !self.dimensions.contains_key(n));
+        missing.extend(dimensions.map(|n| format!("n = {n}")));
+        missing
+    }
+
     fn count(&mut self, kind: &'static str) {
         *self.kinds.entry(kind).or_default() += 1;
     }
@@ -120,21 +172,15 @@ pub fn counted_attempt(
     coverage: &mut Coverage,
 ) -> Result<(), String> {
     let random = &mut Random::new(seed);
-    let mut pair = Pair::new(n, vec![0.0; VECTORS * n], true, random.next());
+    let mut pair = Pair::new(n, vec![0.0; VECTORS * n], true, random.draw());
     let model = Model::Diagonal {
-        least: 0.0,
+        least: 0.1,
         most: 1.0,
     };
     let state: Vec<f64> = (0..n).map(|_| random.between(-1.0, 1.0)).collect();
     let time = random.between(-2.0, 2.0);
     let step = random.sign() * random.magnitude(-6.0, -3.0);
-    pair.start(
-        family,
-        &state,
-        time,
-        &Replies::of(&Model::Constant { value: 0.0 }),
-        None,
-    )?;
+    pair.start(family, &state, time, &Replies::of(&model), None)?;
     let radius = radius_for(family, stages) / (1.2 * step.abs());
     let radii = if passes == 1 {
         vec![0.0]
@@ -199,7 +245,7 @@ fn model(random: &mut Random, wild: bool) -> Model {
                 1020.0
             };
             Model::Noise {
-                seed: random.next(),
+                seed: random.draw(),
                 least,
                 most,
             }
@@ -304,7 +350,7 @@ pub fn life(
     } else {
         "areas of zeros"
     });
-    let mut pair = Pair::new(n, area, strict, random.next());
+    let mut pair = Pair::new(n, area, strict, random.draw());
     let result = live(&mut pair, random, wild, families, coverage);
     coverage.evaluations += pair.counters.evaluations;
     coverage.turned_away += pair.turned_away;
@@ -355,7 +401,12 @@ fn attempts(
         };
         let mut replies = spoiled(random, Replies::of(model), 20);
         if random.chance(20) {
-            let radius = random.magnitude(-1.0, 6.0);
+            let most = if wild && random.chance(30) {
+                300.0
+            } else {
+                6.0
+            };
+            let radius = random.magnitude(-1.0, most);
             let radii = radii_for(random.below(11) + 2, radius);
             replies = replies.with_radii(
                 radii,
