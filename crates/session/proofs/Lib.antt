@@ -1,0 +1,16 @@
+pub mod Truth
+pub mod Needs
+pub mod Lengths
+pub mod Follows
+pub mod Asked
+pub mod Stages
+pub mod Passes
+pub mod Theorem
+pub mod Room
+pub mod Always
+pub mod Sequel
+pub mod Leaves
+pub mod Refused
+pub mod Alikes
+pub mod Agree
+pub mod Depends

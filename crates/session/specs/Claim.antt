@@ -5,13 +5,14 @@ use mathlib.Core.List.{List, [], _∷_, _++_}
 use Prim.Native.Nat.{ℕ, zero, suc, _+_, _≤_, _<_, _^_}
 use lib.ListN.{length, take}
 use lib.Ieee.{Float}
-use Rattle.family.specs.Family.{known, family-of, permitted}
+use Rattle.family.specs.Family.{known, family-of, stage-count, permitted}
 use Rattle.workspace.specs.declared.Arguments.{Arguments}
 use Rattle.workspace.specs.Vectors.{Vector, Vectors, named, unpack, pack, all-finite, state, candidate, first-derivative, last-derivative}
 use Rattle.driver.specs.declared.Phase.the-variants as P
 use Rattle.driver.specs.declared.Need.the-variants.{Met}
 use Rattle.driver.specs.declared.Answer.{Answer}
 use Rattle.driver.specs.declared.Answer.the-variants.{Evaluate, Finished, Ready, Refused, Empty}
+use Rattle.driver.specs.Answers.{case-number, Says}
 use Rattle.driver.specs.Calls.{Held, Called, in-phase, stage-need, sized, whole-area, awaiting, has-room, may-attempt, good-times, good-tolerances, attempt, reply}
 use Rattle.session.specs.Attempt.{Asking, Outcome, Evaluated, evaluated, reaches-candidate, End, reached, refused, end, attempt-step}
 use Rattle.session.specs.Refusals.{largest-number}
@@ -131,6 +132,17 @@ pub record Runs (h : Held) (a : Arguments) (d : ℕ → List Float) : Type 0 whe
   pub same-evaluations : answers (replies-to h a d) d 0 (attempt h a) ≡ evaluated (in-one-piece h a) d 0
   pub same-end : Ends h a (end (in-one-piece h a) d 0) (replies-to h a d)
       (last-found (replies-to h a d) d 0 h (attempt h a)) (after (replies-to h a d) d 0 (attempt h a))
+
+-- What a finished attempt took, in the order's words: s + k replies with k from 1 to 12, each but the last answered by a further evaluation and the last by finished with its norm; the counters rose by s + k and by 1.
+pub record Took (h : Held) (a : Arguments) (d : ℕ → List Float) (o : Outcome) (x : Called) : Type 0 where
+  pub replies-are : replies-to h a d ≡ o .stages + o .passes
+  pub one-pass : 1 ≤ o .passes
+  pub twelve-passes : o .passes ≤ 12
+  pub stages-are : o .stages ≡ stage-count (family-of (h .kept .family)) (o .scaled-radius)
+  pub each-evaluates : (j : ℕ) → j < o .stages + o .passes → case-number (after j d 0 (attempt h a) .answer) ≡ 1
+  pub answer-is : Says (x .answer) (Finished (o .norm))
+  pub evaluations-are : x .held .counters .evaluations ≡ h .counters .evaluations + (o .stages + o .passes)
+  pub attempts-are : x .held .counters .«finished_attempts» ≡ h .counters .«finished_attempts» + 1
 
 -- ---- and where the counters lack room
 

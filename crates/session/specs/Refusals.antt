@@ -1,6 +1,6 @@
 -- Which number a call is turned away with: that of the first of its tests that fails. Document 01, "When a call is turned away".
 use Prim.Native.Nat.{ℕ}
-use mathlib.Core.Bool.{Bool, true, false, cond, _&&_, _||_}
+use mathlib.Core.Bool.{Bool, false, cond, _&&_, _||_}
 use mathlib.Core.List.{List, [], _∷_}
 use lib.Dec.{ltb, eqb}
 use lib.Ieee.{Float}
@@ -23,13 +23,17 @@ use Rattle.driver.specs.Calls.{Held, stage-need, sized, whole-area, as-long, aw
 abbrev pub largest-number : ℕ
 largest-number = 10
 
--- which number an answer refuses with; 0: none
-abbrev pub refuses : Answer → ℕ
-refuses (Evaluate t b) = 0
-refuses (Finished e) = 0
-refuses Ready = 0
-refuses (Refused i) = i
-refuses Empty = 0
+-- turned away with a number, or not
+pub data Verdict : Type 0 where
+  goes-on : Verdict
+  turned-away : ℕ → Verdict
+
+abbrev pub verdict-of : Answer → Verdict
+verdict-of (Evaluate t b) = goes-on
+verdict-of (Finished e) = goes-on
+verdict-of Ready = goes-on
+verdict-of (Refused i) = turned-away i
+verdict-of Empty = goes-on
 
 -- a test's number, and whether it passes
 pub record Test : Type 0 where
@@ -40,10 +44,10 @@ infix 90 _∶_
 abbrev pub _∶_ : ℕ → Bool → Test
 number ∶ passes = record { number = number; passes = passes }
 
--- the number of the first test that fails; 0: none
-abbrev pub first-failing : List Test → ℕ
-first-failing [] = 0
-first-failing (t ∷ ts) = cond (t .passes) (first-failing ts) (t .number)
+-- by the first test that fails
+abbrev pub first-failing : List Test → Verdict
+first-failing [] = goes-on
+first-failing (t ∷ ts) = cond (t .passes) (first-failing ts) (turned-away (t .number))
 
 unfoldable pub start-tests : Held → ℕ → ℕ → List Float → Float → List Test
 start-tests h f n y t =
@@ -140,7 +144,7 @@ tests-of h Accept = accept-tests h
 tests-of h (Accept-with-callback y t) = callback-tests h y t
 tests-of h Abandon = abandon-tests h
 
--- the numbers that a call can answer
+-- the numbers that a call can answer, and no other
 unfoldable pub numbers-of : Call → List ℕ
 numbers-of (Start f n y t) = 1 ∷ 2 ∷ 3 ∷ 5 ∷ 6 ∷ []
 numbers-of (Attempt a) = 1 ∷ 2 ∷ 3 ∷ 4 ∷ 6 ∷ 7 ∷ []

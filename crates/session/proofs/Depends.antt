@@ -1,0 +1,145 @@
+-- What an attempt asks for and how it ends depends only on the kept state, its derivative and the eigenvector.
+use mathlib.Core.Path.{_≡_, refl, sym, ap, subst}
+use mathlib.Core.Bool.{Bool, true, false, cond}
+use mathlib.Core.List.{List}
+use Prim.Native.Nat.{ℕ, zero, suc, _+_, _-_, _≤_}
+use native.Mathlib.Omega.{arith}
+use lib.Dec.{ltb}
+use lib.Ieee.{Float}
+use Rattle.ieee.specs.Double.{_⊕_, _⊗_, nought}
+use Rattle.family.specs.Family.{Family}
+use Rattle.coefficients.specs.declared.Recurrence.{Recurrence}
+use Rattle.coefficients.specs.Rows.{recurrence, coefficients, next}
+use Rattle.workspace.specs.declared.Arguments.{Arguments}
+use Rattle.workspace.specs.Vectors.{Vector, Vectors, all-finite, first-derivative, last-derivative, derivative, previous-two, previous-one, next-stage, eigenvector, perturbed-state, perturbed-derivative, state, candidate}
+use Rattle.workspace.specs.Kernel.{with-direction, perturbation-of, perturbed, turned, radius-of, ended, scaled, first-stage, with-row, exchanged, with-candidate, with-last}
+use Rattle.driver.specs.declared.Need.{Need}
+use Rattle.driver.specs.declared.Need.the-variants.{Met, Unmet}
+use Rattle.driver.specs.Calls.{stage-need}
+use Rattle.session.specs.Attempt.{Asking, done, stopped, _>>=_, evaluate, stages-for, Radius, Outcome, iterate, spectral-radius, stage-loop, run-recurrence, outcome, close, attempt-step, evaluated, end}
+use Rattle.session.specs.Alike.{Alike, Same-end, Same-start}
+use Rattle.session.proofs.Truth.{differ}
+use Rattle.session.proofs.Needs.{Needed, need-holds, two-from}
+use Rattle.session.proofs.Alikes.{bind-alike, evaluate-alike, same-evaluated, same-ending}
+use Rattle.session.proofs.Agree.{Agree, _or_, three, five, seven, nine, ten, direction-agrees, perturbed-agrees, turned-agrees, first-agrees, row-agrees, exchanged-agrees, candidate-agrees, last-same, five-three, nine-seven}
+
+module _ (f : Family) (n : ℕ) (a : Arguments) where
+  abbrev pub Same : Outcome → Outcome → Type 0
+  Same x y = x ≡ y
+
+  abbrev Radii : Radius → Radius → Type 0
+  Radii x y = (x .radius ≡ y .radius) × (x .passes ≡ y .passes) × Agree five (x .vectors) (y .vectors)
+
+  abbrev from-turn : Float → ℕ → ℕ → Float → Float → Vectors → Asking Radius
+  from-turn π m k ρ ρ′ u = cond (ended (k + 1) ρ ρ′) (done (record { radius = ρ′; passes = k + 1; vectors = u })) (iterate f n a π m (k + 1) ρ′ u)
+
+  pass-alike : (π : Float) (m k : ℕ) (ρ : Float) (v w : Vectors) → Agree three v w
+      → ((ρ′ : Float) (v w : Vectors) → Agree five v w → Alike Radii (iterate f n a π m (k + 1) ρ′ v) (iterate f n a π m (k + 1) ρ′ w))
+      → Alike Radii (iterate f n a π (suc m) k ρ v) (iterate f n a π (suc m) k ρ w)
+  unfolding iterate radius-of
+  pass-alike π m k ρ v w p on = evaluate-alike Radii _ _ (perturbed n π v) (perturbed n π w) (a .time) (perturbed n π v perturbed-state) (perturbed n π w perturbed-state) (q perturbed-state refl)
+      (λ d. turn (turned n (perturbed n π v) d) (turned n (perturbed n π w) d) (turned-agrees n d (perturbed n π v) (perturbed n π w) q))
+    where
+      q : Agree (three or perturbed-state) (perturbed n π v) (perturbed n π w)
+      q = perturbed-agrees n π v w p
+
+      go : (v w : Vectors) → Agree five v w → (ρ′ : Float) (t : Bool) → Alike Radii
+          (cond t (done (record { radius = ρ′; passes = k + 1; vectors = v })) (iterate f n a π m (k + 1) ρ′ v))
+          (cond t (done (record { radius = ρ′; passes = k + 1; vectors = w })) (iterate f n a π m (k + 1) ρ′ w))
+      go v w p ρ′ true = (refl, refl, p)
+      go v w p ρ′ false = on ρ′ v w p
+
+      turn : (v w : Vectors) → Agree five v w → Alike Radii (from-turn π m k ρ (radius-of π v) v) (from-turn π m k ρ (radius-of π w) w)
+      turn v w p = subst (λ (ρ′ : Float). Alike Radii (from-turn π m k ρ ρ′ v) (from-turn π m k ρ (radius-of π w) w))
+          (ap (λ (x : List Float). radius-of π (λ (b : Vector). x)) (sym (p eigenvector refl))) (go v w p (radius-of π w) (ended (k + 1) ρ (radius-of π w)))
+
+  passes-alike : (π : Float) (m k : ℕ) (ρ : Float) (v w : Vectors) → Agree five v w → Alike Radii (iterate f n a π m k ρ v) (iterate f n a π m k ρ w)
+  unfolding iterate
+  passes-alike π zero k ρ v w p = (refl, refl, p)
+  passes-alike π (suc m) k ρ v w p = pass-alike π m k ρ v w (five-three v w p) (passes-alike π m (k + 1))
+
+  radius-alike : (v w : Vectors) → Agree three v w → Alike Radii (spectral-radius f n a v) (spectral-radius f n a w)
+  unfolding spectral-radius perturbation-of
+  radius-alike v w p =
+      subst (λ (π : Float). Alike Radii (iterate f n a π 12 0 nought (with-direction n v)) (iterate f n a (perturbation-of w) 12 0 nought (with-direction n w)))
+      (ap (λ (x : List Float). perturbation-of (λ (b : Vector). x)) (sym (p state refl)))
+      (pass-alike (perturbation-of w) 11 0 nought (with-direction n v) (with-direction n w) (direction-agrees n v w p) (passes-alike (perturbation-of w) 11 1))
+
+  row-alike : (s m j : ℕ) (c : Recurrence) (v w : Vectors) → Agree seven v w
+      → ((c : Recurrence) (v w : Vectors) → Agree nine v w → Alike (Agree nine) (stage-loop f n a s m (j + 1) c v) (stage-loop f n a s m (j + 1) c w))
+      → Alike (Agree nine) (stage-loop f n a s (suc m) j c v) (stage-loop f n a s (suc m) j c w)
+  unfolding stage-loop
+  row-alike s m j c v w p on = evaluate-alike (Agree nine) _ _ v w (a .time ⊕ a .step ⊗ c .«theta_previous») (v previous-one) (w previous-one) (p previous-one refl)
+      (λ d. go (with-row f n (a .step) (coefficients f s j c) v d) (with-row f n (a .step) (coefficients f s j c) w d) (row-agrees n f (a .step) (coefficients f s j c) d v w p) (ltb j s))
+    where
+      go : (v w : Vectors) → Agree nine v w → (t : Bool) → Alike (Agree nine)
+          (cond t (stage-loop f n a s m (j + 1) (next f s c (coefficients f s j c)) (exchanged v)) (done v))
+          (cond t (stage-loop f n a s m (j + 1) (next f s c (coefficients f s j c)) (exchanged w)) (done w))
+      go v w p true = on (next f s c (coefficients f s j c)) (exchanged v) (exchanged w) (exchanged-agrees n v w p)
+      go v w p false = p
+
+  rows-alike : (s m j : ℕ) (c : Recurrence) (v w : Vectors) → Agree nine v w → Alike (Agree nine) (stage-loop f n a s m j c v) (stage-loop f n a s m j c w)
+  unfolding stage-loop
+  rows-alike s zero j c v w p = p
+  rows-alike s (suc m) j c v w p = row-alike s m j c v w (nine-seven v w p) (rows-alike s m (j + 1))
+
+  recurrence-alike : (s : ℕ) (v w : Vectors) → 2 ≤ s → Agree five v w → Alike (Agree nine) (run-recurrence f n a s v) (run-recurrence f n a s w)
+  unfolding run-recurrence
+  recurrence-alike s v w 2≤ p = let c = recurrence f s in let h = a .step in
+      let v′ = first-stage n h (c .«theta_previous») v in let w′ = first-stage n h (c .«theta_previous») w in
+      subst (λ (i : ℕ). Alike (Agree nine) (stage-loop f n a s i 2 c v′) (stage-loop f n a s i 2 c w′)) (omega arith)
+      (row-alike s (s - 2) 2 c v′ w′ (first-agrees n h (c .«theta_previous») v w p) (rows-alike s (s - 2) 3))
+
+  close-alike : (s k : ℕ) (r : Float) (v w : Vectors) → Agree nine v w → Alike Same (close f n a s k r v) (close f n a s k r w)
+  unfolding close
+  close-alike s k r v w p = subst (λ (t : Bool). Alike Same (closed t (with-candidate v)) (close f n a s k r w))
+      (ap all-finite (sym (q candidate refl))) (go (all-finite (with-candidate w candidate)))
+    where
+      q : Agree ten (with-candidate v) (with-candidate w)
+      q = candidate-agrees n v w p
+
+      closed : Bool → Vectors → Asking Outcome
+      closed t u = cond t (evaluate u (a .time ⊕ a .step) (u candidate) >>= λ d. done (outcome f n a s k r (with-last f n a u d))) (stopped 10 u)
+
+      go : (t : Bool) → Alike Same (closed t (with-candidate v)) (closed t (with-candidate w))
+      go true = evaluate-alike Same _ _ (with-candidate v) (with-candidate w) (a .time ⊕ a .step) (with-candidate v candidate) (with-candidate w candidate) (q candidate refl)
+          (λ d. ap (outcome f n a s k r) (last-same n f a d (with-candidate v) (with-candidate w) q))
+      go false = refl
+
+  from-need : Need → ℕ → Float → Vectors → Asking Outcome
+  from-need need k r w = stages-for need w >>= λ s. run-recurrence f n a s w >>= close f n a s k r
+
+  need-alike : (need : Need) (k : ℕ) (r : Float) (v w : Vectors) → Needed f need → Agree five v w → Alike Same (from-need need k r v) (from-need need k r w)
+  unfolding from-need stages-for _>>=_
+  need-alike (Met s) k r v w ok p = bind-alike (Agree nine) Same (close f n a s k r) (close f n a s k r) (run-recurrence f n a s v) (run-recurrence f n a s w) (recurrence-alike s v w (two-from f s ok) p) (λ v w. close-alike s k r v w)
+  need-alike (Unmet i) k r v w ok p = refl
+
+  from-radius : Radius → Asking Outcome
+  from-radius x = let r = scaled (a .step) (x .radius) in from-need (stage-need f r) (x .passes) r (x .vectors)
+
+  from-alike : (x y : Radius) → Radii x y → Alike Same (from-radius x) (from-radius y)
+  unfolding from-radius
+  from-alike x y h = let r = scaled (a .step) (y .radius) in
+      let go : Alike Same (from-need (stage-need f r) (y .passes) r (x .vectors)) (from-radius y) = need-alike (stage-need f r) (y .passes) r (x .vectors) (y .vectors) (need-holds f r) (h .2) in
+      rw (h .0, h .1) go
+
+  -- alike, and where they are done with one and the same outcome, all eleven vectors of it
+  pub attempt-alike : (v w : Vectors) → Same-start v w → Alike Same (attempt-step f n a v) (attempt-step f n a w)
+  unfolding attempt-step from-radius from-need
+  attempt-alike v w p = bind-alike Radii Same from-radius from-radius (spectral-radius f n a v) (spectral-radius f n a w) (radius-alike v w agree) from-alike
+    where
+      agree : Agree three v w
+      agree state e = p .state-same
+      agree first-derivative e = p .first-same
+      agree eigenvector e = p .eigenvector-same
+      agree last-derivative e = absurd (differ e)
+      agree derivative e = absurd (differ e)
+      agree previous-two e = absurd (differ e)
+      agree previous-one e = absurd (differ e)
+      agree next-stage e = absurd (differ e)
+      agree perturbed-state e = absurd (differ e)
+      agree perturbed-derivative e = absurd (differ e)
+      agree candidate e = absurd (differ e)
+
+  pub depends : (v w : Vectors) → Same-start v w → (d : ℕ → List Float) → (evaluated (attempt-step f n a v) d 0 ≡ evaluated (attempt-step f n a w) d 0) × Same-end (end (attempt-step f n a v) d 0) (end (attempt-step f n a w) d 0)
+  depends v w p d = (same-evaluated Same _ _ d 0 (attempt-alike v w p), same-ending _ _ d 0 (attempt-alike v w p))

@@ -1,0 +1,179 @@
+-- The passes of the power iteration, and from the last of them into the stages, or out where the need of stages is refused. So an attempt that is not turned away follows the attempt in one piece.
+use mathlib.Core.Path.{_≡_, refl, sym, subst}
+use mathlib.Core.Bool.{Bool, true, false, cond, _||_}
+use mathlib.Core.List.{List}
+use Prim.Native.Nat.{ℕ, zero, suc, _+_, _-_, _≤_}
+use native.Mathlib.Omega.{arith}
+use lib.Dec.{eqb}
+use borrow.Author.Tests.{le-leb, eq-eqb, ne-eqb}
+use lib.ListN.{length}
+use lib.Ieee.{Float}
+use Rattle.ieee.specs.Double.{nought}
+use Rattle.family.specs.Family.{Family, known, family-of}
+use Rattle.coefficients.specs.declared.Recurrence.{Recurrence}
+use Rattle.coefficients.specs.Rows.{recurrence}
+use Rattle.workspace.specs.declared.Arguments.{Arguments}
+use Rattle.workspace.specs.Vectors.{Vectors, unpack, perturbed-state}
+use Rattle.workspace.specs.Kernel.{with-direction, perturbation-of, perturbed, turned, radius-of, ended, scaled, first-stage}
+use Rattle.driver.specs.declared.Phase.the-variants as P
+use Rattle.driver.specs.declared.Staging.{Staging}
+use Rattle.driver.specs.declared.Need.{Need}
+use Rattle.driver.specs.declared.Need.the-variants.{Met, Unmet}
+use Rattle.driver.specs.declared.Counters.{Counters}
+use Rattle.driver.specs.Calls.{Held, Called, in-phase, at-pass, with-radius, at-stage, ask-pass, ask-stage, stage-need, by-need, begin-stages, take-pass, replied, sized, pending, in-range, awaiting, finishes, check, attempted, going-on, attempt, counted, settled}
+use Rattle.session.specs.Attempt.{Asking, done, _>>=_, evaluate, stages-for, Radius, Outcome, iterate, spectral-radius, stage-loop, run-recurrence, close, attempt-step, is-done}
+use Rattle.session.specs.Claim.{Allowed, in-one-piece}
+use Rattle.session.proofs.Truth.{both}
+use Rattle.session.proofs.Needs.{Needed, need-holds, two-from}
+use Rattle.session.proofs.Lengths.{long-area}
+use Rattle.session.proofs.Follows.{Follows}
+use Rattle.session.proofs.Asked.{Counted, one-more, counted-on, Intact, intact-direction, intact-perturbed, intact-turned, intact-first, at, pending-at, asked}
+use Rattle.session.proofs.Stages.{iteration-at, stages-follow}
+
+module _ (h : Held) (a : Arguments) (hk : known (h .kept .family) ≡ true) (hs : sized (h .kept .n) ≡ true) where
+  abbrev F : Family
+  F = family-of (h .kept .family)
+
+  -- ---- from the last pass into the stages
+
+  -- what `attempt-step` does with the need, and with the radius
+  abbrev from-need : Need → ℕ → Float → Vectors → Asking Outcome
+  from-need need k r w = stages-for need w >>= λ s. run-recurrence F (h .kept .n) a s w >>= close F (h .kept .n) a s k r
+
+  abbrev from-radius : Radius → Asking Outcome
+  from-radius found = let r = scaled (a .step) (found .radius) in from-need (stage-need F r) (found .passes) r (found .vectors)
+
+  -- the stages begin with an evaluation
+  recurrence-is : (s k : ℕ) (r : Float) (w : Vectors) → 2 ≤ s → let c = recurrence F s in
+      run-recurrence F (h .kept .n) a s w >>= close F (h .kept .n) a s k r
+      ≡ stage-loop F (h .kept .n) a s (suc (s - 2)) 2 c (first-stage (h .kept .n) (a .step) (c .«theta_previous») w) >>= close F (h .kept .n) a s k r
+  unfolding run-recurrence
+  recurrence-is s k r w 2≤s = let e : s - 1 ≡ suc (s - 2) = omega arith in rw e
+
+  stage-undone : (s m j : ℕ) (c : Recurrence) (v : Vectors) (K : Vectors → Asking Outcome) → is-done (stage-loop F (h .kept .n) a s (suc m) j c v >>= K) ≡ false
+  unfolding stage-loop evaluate _>>=_ is-done
+  stage-undone s m j c v K = refl
+
+  need-undone : (need : Need) (k : ℕ) (r : Float) (w : Vectors) → Needed F need → is-done (from-need need k r w) ≡ false
+  unfolding stages-for _>>=_ is-done
+  need-undone (Met s) k r w ok = let c = recurrence F s in
+      rw (recurrence-is s k r w (two-from F s ok)) (stage-undone s (s - 2) 2 c (first-stage (h .kept .n) (a .step) (c .«theta_previous») w) (close F (h .kept .n) a s k r))
+  need-undone (Unmet i) k r w ok = refl
+
+  begun-undone : (found : Radius) → is-done (from-radius found) ≡ false
+  begun-undone found = let r = scaled (a .step) (found .radius) in need-undone (stage-need F r) (found .passes) r (found .vectors) (need-holds F r)
+
+  -- after k passes at the scaled radius r
+  need-follows : (need : Need) (k : ℕ) (π ρ r : Float) (g : Staging) (v w : Vectors) (c : Counters) (e : ℕ) → stage-need F r ≡ need → Needed F need → k ≤ 12 → k ≡ suc e → Intact h w → Counted h e c
+      → Follows h a k (pending-at h a hk hs P.Pass (iteration-at k π ρ nought) g v c) (from-need need k r w) (settled c (by-need need (at h a P.Pass (iteration-at k π ρ nought) g) w r))
+  unfolding stages-for _>>=_ by-need settled going-on counted ask-stage with-radius at-stage in-phase Follows
+  need-follows (Met s) k π ρ r g v w c e hr ok k≤ k≡ hw hc = let 2≤s = two-from F s ok in let c′ = recurrence F s in
+      rw (recurrence-is s k r w 2≤s)
+      (stages-follow h a hk hs s k r π ρ ok hr (omega arith) k≤ (s - 2) 2 c′
+      (first-stage (h .kept .n) (a .step) (c′ .«theta_previous») w) (one-more h c) k (pending-at h a hk hs P.Pass (iteration-at k π ρ nought) g v c) (omega arith) (omega arith) (omega arith)
+      (intact-first h (a .step) (c′ .«theta_previous») w hw) (rw k≡ (counted-on h hc)))
+  need-follows (Unmet i) k π ρ r g v w c e hr ok k≤ k≡ hw hc = record {
+    answer-is = refl;
+    from-nine = (let low = ok .0 in omega arith);
+    to-largest = ok .1;
+    area-is = refl;
+    area-stands = λ nine. absurd (let low = ok .0 in omega arith);
+    record-is = refl;
+    family-is = refl;
+    n-is = refl;
+    vectors-long = hw .long;
+    evaluations-are = rw k≡ (counted-on h hc .evaluations-are);
+    attempts-are = hc .attempts-are;
+  }
+
+  begun-follows : (k : ℕ) (π ρ ρ′ : Float) (g : Staging) (v w : Vectors) (c : Counters) → k + 1 ≤ 12 → Intact h w → Counted h k c
+      → Follows h a (suc k) (pending-at h a hk hs P.Pass (iteration-at (k + 1) π ρ nought) g v c) (from-radius (record { radius = ρ′; passes = k + 1; vectors = w }))
+      (settled c (begin-stages (at h a P.Pass (iteration-at (k + 1) π ρ nought) g) w (scaled (a .step) ρ′)))
+  unfolding begin-stages
+  begun-follows k π ρ ρ′ g v w c k≤ hw hc = let r = scaled (a .step) ρ′ in let one : k + 1 ≡ suc k = omega arith in
+      subst (λ (e : ℕ). Follows h a e (pending-at h a hk hs P.Pass (iteration-at (k + 1) π ρ nought) g v c) (from-need (stage-need F r) (k + 1) r w)
+      (settled c (by-need (stage-need F r) (at h a P.Pass (iteration-at (k + 1) π ρ nought) g) w r))) one
+      (need-follows (stage-need F r) (k + 1) π ρ r g v w c k refl (need-holds F r) k≤ one hw hc)
+
+  -- ---- the passes after k of them, m of them after the next
+
+  module _ (π : Float) (g : Staging) where
+    abbrev turn : Vectors → List Float → Vectors
+    turn v d = turned (h .kept .n) (perturbed (h .kept .n) π v) d
+
+    abbrev radius-at : Vectors → List Float → Float
+    radius-at v d = radius-of π (turn v d)
+
+    -- waiting for the reply to pass k + 1
+    abbrev found-at : ℕ → Float → Vectors → Counters → Held
+    found-at k ρ v c = pending-at h a hk hs P.Pass (iteration-at (k + 1) π ρ nought) g (perturbed (h .kept .n) π v) c
+
+    abbrev on-after : ℕ → ℕ → Vectors → List Float → Bool → Asking Radius
+    on-after m k v d stop = cond stop (done (record { radius = radius-at v d; passes = k + 1; vectors = turn v d })) (iterate F (h .kept .n) a π m (k + 1) (radius-at v d) (turn v d))
+
+    -- after the reply d to pass k + 1, the test of the radius being `stop`
+    abbrev Onward : ℕ → ℕ → Float → Vectors → Counters → List Float → Bool → Type 0
+    Onward m k ρ v c d stop = Follows h a (suc k) (found-at k ρ v c) (on-after m k v d stop >>= from-radius)
+        (settled c (cond (stop || eqb (k + 1) 12)
+        (begin-stages (at h a P.Pass (iteration-at (k + 1) π ρ nought) g) (turn v d) (scaled (a .step) (radius-at v d)))
+        (ask-pass (at h a P.Pass (iteration-at (k + 1 + 1) π (radius-at v d) nought) g) (turn v d))))
+
+    pass-undone : (m k : ℕ) (v : Vectors) (d : List Float) (stop : Bool) → is-done (on-after m k v d stop >>= from-radius) ≡ false
+    unfolding iterate evaluate _>>=_ is-done
+    pass-undone m k v d true = begun-undone (record { radius = radius-at v d; passes = k + 1; vectors = turn v d })
+    pass-undone zero k v d false = begun-undone (record { radius = radius-at v d; passes = k + 1; vectors = turn v d })
+    pass-undone (suc m) k v d false = refl
+
+    pass-follows : (m k : ℕ) (ρ : Float) (v : Vectors) (c : Counters) (x : Held) → suc k + m ≡ 12 → Intact h v → Counted h k c
+        → ((d : List Float) → length d ≡ h .kept .n → (stop : Bool) → Onward m k ρ v c d stop)
+        → Follows h a k x (iterate F (h .kept .n) a π (suc m) k ρ v >>= from-radius) (going-on c (ask-pass (at h a P.Pass (iteration-at (k + 1) π ρ nought) g) v))
+    unfolding iterate evaluate _>>=_ ask-pass pending in-range awaiting finishes replied take-pass at-pass
+    pass-follows m k ρ v c x k≡ hv hc on =
+        asked h a hk hs P.Pass (iteration-at (k + 1) π ρ nought) g (perturbed (h .kept .n) π v) c k (a .time) perturbed-state x
+        (λ m′. (m′ >>= λ d. on-after m k v d (ended (k + 1) ρ (radius-at v d))) >>= from-radius)
+        (intact-perturbed h π v hv) hc (both (le-leb 1 (k + 1) (omega arith)) (le-leb (k + 1) 12 (omega arith))) refl
+        (λ d fin. pass-undone m k v d (ended (k + 1) ρ (radius-at v d)))
+        (λ d hd fin. on d hd (ended (k + 1) ρ (radius-at v d)))
+
+    intact-turn : (v : Vectors) (d : List Float) → Intact h v → length d ≡ h .kept .n → Intact h (turn v d)
+    intact-turn v d hv hd = intact-turned h (perturbed (h .kept .n) π v) d (intact-perturbed h π v hv) hd
+
+    passes-follow : (m k : ℕ) (ρ : Float) (v : Vectors) (c : Counters) (x : Held) → suc k + m ≡ 12 → Intact h v → Counted h k c
+        → Follows h a k x (iterate F (h .kept .n) a π (suc m) k ρ v >>= from-radius) (going-on c (ask-pass (at h a P.Pass (iteration-at (k + 1) π ρ nought) g) v))
+    unfolding iterate _>>=_ settled ask-pass counted
+    passes-follow zero k ρ v c x k≡ hv hc = pass-follows zero k ρ v c x k≡ hv hc go
+      where
+        begun : (d : List Float) → length d ≡ h .kept .n → Onward zero k ρ v c d true
+        begun d hd = begun-follows k π ρ (radius-at v d) g (perturbed (h .kept .n) π v) (turn v d) c (omega arith) (intact-turn v d hv hd) hc
+
+        go : (d : List Float) → length d ≡ h .kept .n → (stop : Bool) → Onward zero k ρ v c d stop
+        go d hd true = begun d hd
+        go d hd false = rw (eq-eqb (k + 1) 12 (omega arith)) (begun d hd)
+    passes-follow (suc m) k ρ v c x k≡ hv hc =
+        pass-follows (suc m) k ρ v c x k≡ hv hc
+        (go (λ d hd. passes-follow m (k + 1) (radius-at v d) (turn v d) (one-more h c) (found-at k ρ v c) (omega arith) (intact-turn v d hv hd) (let q = counted-on h hc in record { evaluations-are = (let e = q .evaluations-are in omega arith); attempts-are = q .attempts-are })))
+      where
+        go : ((d : List Float) → length d ≡ h .kept .n
+            → Follows h a (k + 1) (found-at k ρ v c) (iterate F (h .kept .n) a π (suc m) (k + 1) (radius-at v d) (turn v d) >>= from-radius)
+            (going-on (one-more h c) (ask-pass (at h a P.Pass (iteration-at (k + 1 + 1) π (radius-at v d) nought) g) (turn v d))))
+            → (d : List Float) → length d ≡ h .kept .n → (stop : Bool) → Onward (suc m) k ρ v c d stop
+        go on d hd true = begun-follows k π ρ (radius-at v d) g (perturbed (h .kept .n) π v) (turn v d) c (omega arith) (intact-turn v d hv hd) hc
+        go on d hd false = let one : k + 1 ≡ suc k = omega arith in
+            rw (ne-eqb (k + 1) 12 (omega arith))
+            (subst (λ (e : ℕ). Follows h a e (found-at k ρ v c) (iterate F (h .kept .n) a π (suc m) (k + 1) (radius-at v d) (turn v d) >>= from-radius)
+            (going-on (one-more h c) (ask-pass (at h a P.Pass (iteration-at (k + 1 + 1) π (radius-at v d) nought) g) (turn v d)))) one (on d hd))
+
+-- ---- the attempt
+
+pub attempt-is : (h : Held) (a : Arguments) → Allowed h a → attempt h a ≡ going-on (h .counters) (attempted h a)
+unfolding attempt check
+attempt-is h a p = rw (p .family-known, p .n-sized, p .area-whole, p .phase-allows, p .times-good, p .tolerances-good)
+
+pub attempt-follows : (h : Held) (a : Arguments) → Allowed h a → Follows h a 0 h (in-one-piece h a) (attempt h a)
+unfolding attempted at-pass attempt-step spectral-radius
+attempt-follows h a p =
+    let v = unpack (h .kept .n) (h .area) in
+    subst (λ (x : Called). Follows h a 0 h (in-one-piece h a) x) (sym (attempt-is h a p))
+    (passes-follow h a (p .family-known) (p .n-sized) (perturbation-of v) (h .kept .staging) 11 0 nought (with-direction (h .kept .n) v) (h .counters) h refl
+    (intact-direction h v (record { long = long-area (h .kept .family) (h .kept .n) (h .area) (p .area-whole); state-is = refl; first-is = refl }))
+    (record { evaluations-are = omega arith; attempts-are = refl }))

@@ -1,0 +1,251 @@
+-- A call is turned away with a number exactly when that is the number of its first failing test, and with no number outside the call's list.
+use mathlib.Core.Path.{_≡_, refl, sym, ap, _∙_, subst}
+use mathlib.Core.Logic.{_↔_}
+use mathlib.Core.Bool.{Bool, true, false, cond, not, _&&_, _||_}
+use mathlib.Core.List.{List, [], _∷_}
+use Prim.Native.Nat.{ℕ, _+_, _≤_, _-_, _^_}
+use native.Mathlib.Omega.{arith}
+use lib.Dec.{leb, ltb, eqb}
+use borrow.Author.Tests.{leb-true, le-ltb, ltb-false}
+use lib.Ieee.{Float}
+use Rattle.family.specs.Family.{family-of}
+use Rattle.coefficients.specs.Rows.{coefficients, next}
+use Rattle.workspace.specs.declared.Arguments.{Arguments}
+use Rattle.workspace.specs.Vectors.{Vectors, unpack, all-finite, candidate, next-stage}
+use Rattle.workspace.specs.Kernel.{turned, radius-of, ended, scaled, with-row, exchanged, with-candidate}
+use Rattle.driver.specs.declared.Phase.{Phase}
+use Rattle.driver.specs.declared.Phase.the-variants as P
+use Rattle.driver.specs.declared.Record.{Record}
+use Rattle.driver.specs.declared.Counters.{Counters}
+use Rattle.driver.specs.declared.Need.{Need}
+use Rattle.driver.specs.declared.Need.the-variants.{Met, Unmet}
+use Rattle.driver.specs.declared.Answer.{Answer}
+use Rattle.driver.specs.declared.Answer.the-variants.{Evaluate, Finished, Ready, Refused, Empty}
+use Rattle.driver.specs.Answers.{case-number, case-values, Values, Says}
+use Rattle.driver.specs.Calls.{Held, Called, at-pass, at-stage, take-first, take-callback, ask-pass, ask-stage, stage-need, by-need, begin-stages, take-pass, ask-candidate, take-stage, take-candidate, replied, finishes, room, has-room, check, start, attempted, going-on, attempt, spoiled, settled, reply, accepted, accept, called-back, accept-with-callback, abandon, Call, Start, Attempt, Reply, Accept, Accept-with-callback, Abandon, made}
+use Rattle.session.specs.Refusals.{Verdict, goes-on, turned-away, verdict-of, Test, _∶_, first-failing, start-tests, attempt-tests, need-tests, pass-tests, stage-tests, replied-tests, reply-tests, accept-tests, callback-tests, abandon-tests, tests-of, numbers-of, _∈_, here, later, largest-number}
+use Rattle.session.proofs.Truth.{and-left, and-right}
+use Rattle.session.proofs.Needs.{need-is}
+
+-- the call's answer is told by its tests
+pub record Told (tests : List Test) (x : Called) : Type 0 where
+  pub verdict-is : verdict-of (x .answer) ≡ first-failing tests
+
+tested : (h : Held) (k : ℕ) (test : Bool) (go : Called) (tests : List Test) → Told tests go → Told (k ∶ test ∷ tests) (check h k test go)
+unfolding check
+tested h k true go tests t = record { verdict-is = t .verdict-is }
+tested h k false go tests t = record { verdict-is = refl }
+
+passed : (x : Called) → verdict-of (x .answer) ≡ goes-on → Told [] x
+passed x e = record { verdict-is = e }
+
+start-told : (h : Held) (f n : ℕ) (y : List Float) (t : Float) → Told (start-tests h f n y t) (start h f n y t)
+unfolding start start-tests
+start-told h f n y t = tested h 1 _ _ _ (tested h 2 _ _ _ (tested h 3 _ _ _ (tested h 5 _ _ _ (tested h 6 _ _ _ (passed _ refl)))))
+
+attempt-told : (h : Held) (a : Arguments) → Told (attempt-tests h a) (attempt h a)
+unfolding attempt going-on attempted ask-pass attempt-tests
+attempt-told h a = tested h 1 _ _ _ (tested h 2 _ _ _ (tested h 3 _ _ _ (tested h 4 _ _ _ (tested h 6 _ _ _ (tested h 7 _ _ _ (passed _ refl))))))
+
+accept-told : (h : Held) → Told (accept-tests h) (accept h)
+unfolding accept going-on accepted accept-tests
+accept-told h = tested h 1 _ _ _ (tested h 2 _ _ _ (tested h 3 _ _ _ (tested h 4 _ _ _ (passed _ refl))))
+
+callback-told : (h : Held) (y : List Float) (t : Float) → Told (callback-tests h y t) (accept-with-callback h y t)
+unfolding accept-with-callback going-on called-back callback-tests
+callback-told h y t = tested h 1 _ _ _ (tested h 2 _ _ _ (tested h 3 _ _ _ (tested h 4 _ _ _ (tested h 5 _ _ _ (tested h 6 _ _ _ (passed _ refl))))))
+
+abandon-told : (h : Held) → Told (abandon-tests h) (abandon h)
+unfolding abandon abandon-tests
+abandon-told h = tested h 1 _ _ _ (tested h 2 _ _ _ (tested h 3 _ _ _ (tested h 4 _ _ _ (passed _ refl))))
+
+-- ---- a reply: what its phase tests too
+
+candidate-verdict : (t : Bool) (r : Record) (v : Vectors) → all-finite (v candidate) ≡ t → verdict-of (ask-candidate r v .answer) ≡ cond t goes-on (turned-away 10)
+unfolding ask-candidate
+candidate-verdict true r v e = rw e
+candidate-verdict false r v e = rw e
+
+need-verdict : (need : Need) (r : Record) (v : Vectors) (radius : Float) → verdict-of (by-need need r v radius .answer) ≡ first-failing (need-tests need)
+unfolding by-need ask-stage need-tests
+need-verdict (Met s) r v radius = refl
+need-verdict (Unmet i) r v radius = refl
+
+pass-verdict : (t : Bool) (r r′ : Record) (v v′ : Vectors) (radius : Float)
+    → verdict-of (cond t (begin-stages r v radius) (ask-pass r′ v′) .answer) ≡ first-failing (cond t (need-tests (stage-need (family-of (r .family)) radius)) [])
+unfolding begin-stages ask-pass
+pass-verdict true r r′ v v′ radius = need-verdict (stage-need (family-of (r .family)) radius) r v radius
+pass-verdict false r r′ v v′ radius = refl
+
+stage-verdict : (t : Bool) (r r′ : Record) (v v′ : Vectors) → verdict-of (cond t (ask-stage r v) (ask-candidate r′ v′) .answer) ≡ first-failing (cond t [] (10 ∶ all-finite (v′ candidate) ∷ []))
+unfolding ask-stage
+stage-verdict true r r′ v v′ = refl
+stage-verdict false r r′ v v′ = candidate-verdict (all-finite (v′ candidate)) r′ v′ refl
+
+pub replied-verdict : (φ : Phase) (r : Record) (v : Vectors) (d : List Float) → verdict-of (replied φ r v d .answer) ≡ first-failing (replied-tests φ r v d)
+unfolding replied take-first take-callback take-pass take-stage take-candidate with-candidate replied-tests pass-tests stage-tests
+replied-verdict P.Empty r v d = refl
+replied-verdict P.First r v d = refl
+replied-verdict P.Ready r v d = refl
+replied-verdict P.Pass r v d = let w = turned (r .n) v d in let i = r .iteration in let radius = radius-of (i .perturbation) w in
+    pass-verdict (ended (i .pass) (i .«previous_radius») radius || eqb (i .pass) 12) r (at-pass (r .arguments) (i .pass + 1) (i .perturbation) radius r) w w (scaled (r .arguments .step) radius)
+replied-verdict P.Stage r v d = let f = family-of (r .family) in let s = r .staging .stages in let j = r .staging .stage in
+    let row = coefficients f s j (r .staging .recurrence) in let w = with-row f (r .n) (r .arguments .step) row v d in
+    stage-verdict (ltb j s) (at-stage s (j + 1) (next f s (r .staging .recurrence) row) r) r (exchanged w) (with-candidate w)
+replied-verdict P.Candidate r v d = refl
+replied-verdict P.Finished r v d = refl
+replied-verdict P.Callback r v d = refl
+
+reply-told : (h : Held) (d : List Float) → Told (reply-tests h d) (reply h d)
+unfolding reply settled going-on spoiled reply-tests
+reply-told h d = tested h 1 _ _ _ (tested h 2 _ _ _ (tested h 3 _ _ _ (tested h 4 _ _ _ (tested h 8 _ _ _ (go (all-finite d))))))
+  where
+    v : Vectors
+    v = unpack (h .kept .n) (h .area)
+
+    go : (t : Bool) → Told (9 ∶ t ∷ replied-tests (h .kept .phase) (h .kept) v d) (cond t (settled (h .counters) (replied (h .kept .phase) (h .kept) v d)) (spoiled h))
+    go true = record { verdict-is = replied-verdict (h .kept .phase) (h .kept) v d }
+    go false = record { verdict-is = refl }
+
+-- ---- every call
+
+pub told : (h : Held) (c : Call) → Told (tests-of h c) (made h c)
+unfolding tests-of made
+told h (Start f n y t) = start-told h f n y t
+told h (Attempt a) = attempt-told h a
+told h (Reply d) = reply-told h d
+told h Accept = accept-told h
+told h (Accept-with-callback y t) = callback-told h y t
+told h Abandon = abandon-told h
+
+-- an answer that says refused with k is that
+says-refused : (y : Answer) (k : ℕ) → Says y (Refused k) → y ≡ Refused k
+unfolding case-number case-values
+says-refused (Evaluate t b) k s = absurd (omega (arith, s .same-case))
+says-refused (Finished e) k s = absurd (omega (arith, s .same-case))
+says-refused Ready k s = absurd (omega (arith, s .same-case))
+says-refused (Refused i) k s = ap (λ (v : Values). Refused (first (v .numbers))) (s .same-values)
+  where
+    first : List ℕ → ℕ
+    first [] = 0
+    first (i ∷ is) = i
+says-refused Empty k s = absurd (omega (arith, s .same-case))
+
+abbrev is-away : Verdict → Type 0
+is-away goes-on = ⊥
+is-away (turned-away i) = Unit {0}
+
+away-number : Verdict → ℕ
+away-number goes-on = 0
+away-number (turned-away i) = i
+
+-- each number on its own cause and on no other
+pub refused : (h : Held) (c : Call) (k : ℕ) → Says (made h c .answer) (Refused k) ↔ first-failing (tests-of h c) ≡ turned-away k
+unfolding away-number
+refused h c k = (λ s. sym (told h c .verdict-is) ∙ ap verdict-of (says-refused (made h c .answer) k s), λ e. go (made h c .answer) (told h c .verdict-is ∙ e))
+  where
+    go : (y : Answer) → verdict-of y ≡ turned-away k → Says y (Refused k)
+    go (Evaluate s b) e = absurd (subst is-away (sym e) tt)
+    go (Finished s) e = absurd (subst is-away (sym e) tt)
+    go Ready e = absurd (subst is-away (sym e) tt)
+    go (Refused i) e = let same : Refused i ≡ Refused k = ap (λ (x : Verdict). Refused (away-number x)) e in record { same-case = ap case-number same; same-values = ap case-values same }
+    go Empty e = absurd (subst is-away (sym e) tt)
+
+-- ---- no number outside the call's list
+
+abbrev Among : Verdict → List ℕ → Type 0
+Among goes-on ks = Unit {0}
+Among (turned-away i) ks = i ∈ ks
+
+-- the tests fail with a number of the list, or not at all
+record Within (tests : List Test) (ks : List ℕ) : Type 0 where
+  among : Among (first-failing tests) ks
+
+last : (ks : List ℕ) → Within [] ks
+last ks = record { among = tt }
+
+more : (t : Test) (ts : List Test) (ks : List ℕ) → Within ts ks → Within (t ∷ ts) (t .number ∷ ks)
+more t ts ks w = record { among = go (t .passes) (first-failing ts) (w .among) }
+  where
+    go : (b : Bool) (x : Verdict) → Among x ks → Among (cond b x (turned-away (t .number))) (t .number ∷ ks)
+    go true goes-on w = tt
+    go true (turned-away i) w = later w
+    go false x w = here
+
+stage-within : (t u : Bool) → Within (cond t [] (10 ∶ u ∷ [])) (10 ∷ [])
+stage-within true u = last (10 ∷ [])
+stage-within false u = more (10 ∶ u) [] [] (last [])
+
+pass-within : (t : Bool) (r : Record) (radius : Float) → Within (cond t (need-tests (stage-need (family-of (r .family)) radius)) []) (10 ∷ [])
+unfolding need-tests
+pass-within true r radius = rw (need-is (family-of (r .family)) radius) (last (10 ∷ []))
+pass-within false r radius = last (10 ∷ [])
+
+replied-within : (φ : Phase) (r : Record) (v : Vectors) (d : List Float) → Within (replied-tests φ r v d) (10 ∷ [])
+unfolding replied-tests pass-tests stage-tests
+replied-within P.Empty r v d = last (10 ∷ [])
+replied-within P.First r v d = last (10 ∷ [])
+replied-within P.Ready r v d = last (10 ∷ [])
+replied-within P.Pass r v d = let i = r .iteration in let radius = radius-of (i .perturbation) (turned (r .n) v d) in
+    pass-within (ended (i .pass) (i .«previous_radius») radius || eqb (i .pass) 12) r (scaled (r .arguments .step) radius)
+replied-within P.Stage r v d = let f = family-of (r .family) in let s = r .staging .stages in let j = r .staging .stage in
+    stage-within (ltb j s) (all-finite (with-row f (r .n) (r .arguments .step) (coefficients f s j (r .staging .recurrence)) v d next-stage))
+replied-within P.Candidate r v d = last (10 ∷ [])
+replied-within P.Finished r v d = last (10 ∷ [])
+replied-within P.Callback r v d = last (10 ∷ [])
+
+within : (h : Held) (c : Call) → Within (tests-of h c) (numbers-of c)
+unfolding tests-of numbers-of start-tests attempt-tests reply-tests accept-tests callback-tests abandon-tests
+within h (Start f n y t) = more _ _ _ (more _ _ _ (more _ _ _ (more _ _ _ (more _ _ _ (last [])))))
+within h (Attempt a) = more _ _ _ (more _ _ _ (more _ _ _ (more _ _ _ (more _ _ _ (more _ _ _ (last []))))))
+within h (Reply d) = more _ _ _ (more _ _ _ (more _ _ _ (more _ _ _ (more _ _ _ (more _ _ _ (replied-within (h .kept .phase) (h .kept) (unpack (h .kept .n) (h .area)) d))))))
+within h Accept = more _ _ _ (more _ _ _ (more _ _ _ (more _ _ _ (last []))))
+within h (Accept-with-callback y t) = more _ _ _ (more _ _ _ (more _ _ _ (more _ _ _ (more _ _ _ (more _ _ _ (last []))))))
+within h Abandon = more _ _ _ (more _ _ _ (more _ _ _ (more _ _ _ (last []))))
+
+pub listed : (h : Held) (c : Call) (k : ℕ) → Says (made h c .answer) (Refused k) → k ∈ numbers-of c
+listed h c k s = subst (λ (x : Verdict). Among x (numbers-of c)) (refused h c k .0 s) (within h c .among)
+
+-- every number of the lists is from 1 to 10
+abbrev in-range : List ℕ → Bool
+in-range [] = true
+in-range (k ∷ ks) = leb 1 k && leb k largest-number && in-range ks
+
+in-list : (k : ℕ) (ks : List ℕ) → in-range ks ≡ true → k ∈ ks → (1 ≤ k) × (k ≤ largest-number)
+in-list k (i ∷ ks) r here = let p = and-left (leb 1 k && leb k largest-number) (in-range ks) r in
+    (leb-true 1 k (and-left (leb 1 k) (leb k largest-number) p), leb-true k largest-number (and-right (leb 1 k) (leb k largest-number) p))
+in-list k (i ∷ ks) r (later m) = in-list k ks (and-right (leb 1 i && leb i largest-number) (in-range ks) r) m
+
+lists-in-range : (c : Call) → in-range (numbers-of c) ≡ true
+unfolding numbers-of
+lists-in-range (Start f n y t) = refl
+lists-in-range (Attempt a) = refl
+lists-in-range (Reply d) = refl
+lists-in-range Accept = refl
+lists-in-range (Accept-with-callback y t) = refl
+lists-in-range Abandon = refl
+
+pub one-to-ten : (h : Held) (c : Call) (k : ℕ) → Says (made h c .answer) (Refused k) → (1 ≤ k) × (k ≤ largest-number)
+one-to-ten h c k s = in-list k (numbers-of c) (lists-in-range c) (listed h c k s)
+
+-- ---- number 8's two causes
+
+-- no room: evaluations are at the end, or at a reply to the candidate's evaluation finished attempts are
+pub no-room : (φ : Phase) (c : Counters) → has-room φ c ≡ not (not (room (c .evaluations)) || finishes φ && not (room (c .«finished_attempts»)))
+unfolding has-room
+no-room φ c = go (finishes φ) (room (c .«finished_attempts»)) (room (c .evaluations))
+  where
+    go : (p q r : Bool) → r && (not p || q) ≡ not (not r || p && not q)
+    go true true true = refl
+    go true true false = refl
+    go true false true = refl
+    go true false false = refl
+    go false true true = refl
+    go false true false = refl
+    go false false true = refl
+    go false false false = refl
+
+-- a 64 bit counter has no room exactly from 2^64 - 1 on
+pub full : (count : ℕ) → room count ≡ false ↔ 2 ^ 64 - 1 ≤ count
+unfolding room
+full count = (λ e. omega (arith, ltb-false count (2 ^ 64 - 1) e), λ l. le-ltb count (2 ^ 64 - 1) l)

@@ -1,0 +1,148 @@
+-- The stages and the candidate: from stage j on the calls follow the loop of the rows, and after stage s the candidate's evaluation and the end.
+use mathlib.Core.Path.{_≡_, refl, ap, _∙_}
+use mathlib.Core.Bool.{Bool, true, false, cond}
+use mathlib.Core.List.{List}
+use Prim.Native.Nat.{ℕ, zero, suc, _+_, _≤_}
+use native.Mathlib.Omega.{arith}
+use lib.Dec.{ltb, eqb}
+use borrow.Author.Tests.{lt-ltb, le-ltb, le-leb}
+use lib.Ieee.{Float}
+use Rattle.ieee.specs.Double.{_⊕_, _⊗_}
+use Rattle.family.specs.Family.{Family, known, family-of, permitted}
+use Rattle.coefficients.specs.declared.Recurrence.{Recurrence}
+use Rattle.coefficients.specs.Rows.{coefficients, next}
+use Rattle.workspace.specs.declared.Arguments.{Arguments}
+use Rattle.workspace.specs.Vectors.{Vector, Vectors, _with_≔_, number, each, all-finite, first-derivative, last-derivative, derivative, previous-one, state, candidate}
+use Rattle.workspace.specs.Kernel.{with-row, exchanged, with-candidate, with-last, error}
+use Rattle.workspace.proofs.Areas.{long-last}
+use Rattle.driver.specs.declared.Phase.the-variants as P
+use Rattle.driver.specs.declared.Iteration.{Iteration}
+use Rattle.driver.specs.declared.Staging.{Staging}
+use Rattle.driver.specs.declared.Need.the-variants.{Met}
+use Rattle.driver.specs.declared.Counters.{Counters}
+use Rattle.driver.specs.declared.Answer.the-variants.{Evaluate, Refused}
+use Rattle.driver.specs.Calls.{Held, step-to, in-phase, at-stage, ask-stage, stage-need, ask-candidate, take-stage, take-candidate, replied, sized, pending, in-range, awaiting, finishes, going-on, counted, settled}
+use Rattle.session.specs.Attempt.{Asking, done, stopped, _>>=_, evaluate, stage-loop, outcome, close, is-done}
+use Rattle.session.proofs.Truth.{both}
+use Rattle.session.proofs.Follows.{Follows}
+use Rattle.session.proofs.Asked.{Counted, one-more, counted-on, Intact, intact-row, intact-exchanged, intact-candidate, at, pending-at, asked}
+
+abbrev pub staging-at : ℕ → ℕ → Recurrence → Staging
+staging-at s j c = record { stages = s; stage = j; recurrence = c }
+
+abbrev pub iteration-at : ℕ → Float → Float → Float → Iteration
+iteration-at k π ρ r = record { pass = k; perturbation = π; «previous_radius» = ρ; «scaled_radius» = r }
+
+module _ (h : Held) (a : Arguments) (hk : known (h .kept .family) ≡ true) (hs : sized (h .kept .n) ≡ true) where
+  abbrev F : Family
+  F = family-of (h .kept .family)
+
+  close-undone : (s k : ℕ) (r : Float) (v : Vectors) → is-done (close F (h .kept .n) a s k r v) ≡ false
+  unfolding close evaluate _>>=_ is-done
+  close-undone s k r v = go (all-finite (with-candidate v candidate))
+    where
+      go : (t : Bool) → is-done (cond t
+          (evaluate (with-candidate v) (a .time ⊕ a .step) (with-candidate v candidate) >>= λ d. done (outcome F (h .kept .n) a s k r (with-last F (h .kept .n) a (with-candidate v) d)))
+          (stopped 10 (with-candidate v))) ≡ false
+      go true = refl
+      go false = refl
+
+  -- s stages after k passes, at the scaled radius r
+  module _ (s k : ℕ) (r π ρ : Float) (hs′ : permitted F s ≡ true) (hr : stage-need F r ≡ Met s) (1≤k : 1 ≤ k) (k≤ : k ≤ 12) where
+    abbrev I : Iteration
+    I = iteration-at k π ρ r
+
+    -- ---- after stage s
+
+    candidate-follows : (j : ℕ) (rc : Recurrence) (v w : Vectors) (c : Counters) (e : ℕ) → Intact h w → Counted h e c → e + 2 ≡ k + s
+        → Follows h a (suc e) (pending-at h a hk hs P.Stage I (staging-at s j rc) v c) (close F (h .kept .n) a s k r w) (settled c (ask-candidate (at h a P.Stage I (staging-at s j rc)) (with-candidate w)))
+    unfolding Follows close outcome evaluate _>>=_ ask-candidate settled going-on counted in-phase pending in-range awaiting finishes replied take-candidate with-last is-done
+    candidate-follows j rc v w c e hw hc e≡ = go (all-finite (with-candidate w candidate)) refl
+      where
+        last-stands : (d : List Float) (b : Vector) → eqb 1 (number b) ≡ false → eqb 2 (number b) ≡ false → with-last F (h .kept .n) a (with-candidate w) d b ≡ with-candidate w b
+        last-stands d b p q = pick (a .adaptive)
+          where
+            pick : (t : Bool) → cond t (with-candidate w with last-derivative ≔ d with derivative ≔ each (h .kept .n) (with-candidate w with last-derivative ≔ d) (error F (a .step))) (with-candidate w with last-derivative ≔ d) b ≡ with-candidate w b
+            pick true = rw (p, q)
+            pick false = rw p
+
+        last-taken : (d : List Float) → with-last F (h .kept .n) a (with-candidate w) d last-derivative ≡ d
+        last-taken d = pick (a .adaptive)
+          where
+            pick : (t : Bool) → cond t (with-candidate w with last-derivative ≔ d with derivative ≔ each (h .kept .n) (with-candidate w with last-derivative ≔ d) (error F (a .step))) (with-candidate w with last-derivative ≔ d) last-derivative ≡ d
+            pick true = refl
+            pick false = refl
+
+        go : (t : Bool) → all-finite (with-candidate w candidate) ≡ t → Follows h a (suc e) (pending-at h a hk hs P.Stage I (staging-at s j rc) v c)
+            (cond t
+            (evaluate (with-candidate w) (a .time ⊕ a .step) (with-candidate w candidate) >>= λ d. done (outcome F (h .kept .n) a s k r (with-last F (h .kept .n) a (with-candidate w) d)))
+            (stopped 10 (with-candidate w)))
+            (settled c (cond t
+            (step-to (Evaluate (a .time ⊕ a .step) (number candidate)) (at h a P.Candidate I (staging-at s j rc)) (with-candidate w))
+            (step-to (Refused 10) (at h a P.Empty I (staging-at s j rc)) (with-candidate w))))
+        go true finite =
+            asked h a hk hs P.Candidate I (staging-at s j rc) (with-candidate w) (one-more h c) (suc e) (a .time ⊕ a .step) candidate (pending-at h a hk hs P.Stage I (staging-at s j rc) v c)
+            (λ m. m >>= λ d. done (outcome F (h .kept .n) a s k r (with-last F (h .kept .n) a (with-candidate w) d)))
+            (intact-candidate h w hw) (counted-on h hc) hs′ refl (λ d fin. refl)
+            (λ d hd fin. record {
+              answer-is = refl;
+              area-is = refl;
+              vectors-long = long-last (h .kept .n) F a (with-candidate w) d (intact-candidate h w hw .long) hd;
+              state-stands = last-stands d state refl refl ∙ intact-candidate h w hw .state-is;
+              first-stands = last-stands d first-derivative refl refl ∙ intact-candidate h w hw .first-is;
+              candidate-finite = ap all-finite (last-stands d candidate refl refl) ∙ finite;
+              last-finite = ap all-finite (last-taken d) ∙ fin;
+              phase-is = refl;
+              family-is = refl;
+              n-is = refl;
+              arguments-are = refl;
+              stages-are = refl;
+              passes-are = refl;
+              radius-is = refl;
+              evaluations-are = counted-on h (counted-on h hc) .evaluations-are;
+              attempts-are = (let q = hc .attempts-are in omega arith);
+              replies-are = omega arith;
+              one-pass = 1≤k;
+              twelve-passes = k≤;
+              need-met = hr;
+              stages-permitted = hs′;
+            })
+        go false finite = record {
+          answer-is = refl;
+          from-nine = omega arith;
+          to-largest = omega arith;
+          area-is = refl;
+          area-stands = λ nine. absurd (omega arith);
+          record-is = refl;
+          family-is = refl;
+          n-is = refl;
+          vectors-long = intact-candidate h w hw .long;
+          evaluations-are = counted-on h hc .evaluations-are;
+          attempts-are = hc .attempts-are;
+        }
+
+    -- ---- the stages from j on, m of them after j
+
+    abbrev taken : ℕ → Recurrence → Vectors → List Float → Vectors
+    taken j rc v d = with-row F (h .kept .n) (a .step) (coefficients F s j rc) v d
+
+    abbrev on-from : ℕ → ℕ → Recurrence → Vectors → List Float → Asking Vectors
+    on-from m j rc v d = cond (ltb j s) (stage-loop F (h .kept .n) a s m (j + 1) (next F s rc (coefficients F s j rc)) (exchanged (taken j rc v d))) (done (taken j rc v d))
+
+    pub stages-follow : (m j : ℕ) (rc : Recurrence) (v : Vectors) (c : Counters) (e : ℕ) (x : Held) → j + m ≡ s → 2 ≤ j → e + 2 ≡ k + j → Intact h v → Counted h e c
+        → Follows h a e x (stage-loop F (h .kept .n) a s (suc m) j rc v >>= close F (h .kept .n) a s k r) (going-on c (ask-stage (at h a P.Stage (iteration-at k π ρ r) (staging-at s j rc)) v))
+    unfolding stage-loop evaluate _>>=_ ask-stage pending in-range awaiting finishes replied take-stage at-stage settled counted is-done
+    stages-follow zero j rc v c e x j≡ 2≤j e≡ hv hc =
+        asked h a hk hs P.Stage I (staging-at s j rc) v c e (a .time ⊕ a .step ⊗ rc .«theta_previous») previous-one x
+        (λ m. (m >>= on-from zero j rc v) >>= close F (h .kept .n) a s k r)
+        hv hc (both hs′ (both (le-leb 2 j 2≤j) (le-leb j s (omega arith)))) refl
+        (λ d fin. rw (le-ltb j s (omega arith)) (close-undone s k r (taken j rc v d)))
+        (λ d hd fin. rw (le-ltb j s (omega arith)) (candidate-follows j rc v (taken j rc v d) c e (intact-row h F (a .step) (coefficients F s j rc) v d hv hd) hc (omega arith)))
+    stages-follow (suc m) j rc v c e x j≡ 2≤j e≡ hv hc =
+        asked h a hk hs P.Stage I (staging-at s j rc) v c e (a .time ⊕ a .step ⊗ rc .«theta_previous») previous-one x
+        (λ m′. (m′ >>= on-from (suc m) j rc v) >>= close F (h .kept .n) a s k r)
+        hv hc (both hs′ (both (le-leb 2 j 2≤j) (le-leb j s (omega arith)))) refl
+        (λ d fin. rw (lt-ltb j s (omega arith)))
+        (λ d hd fin. rw (lt-ltb j s (omega arith))
+        (stages-follow m (j + 1) (next F s rc (coefficients F s j rc)) (exchanged (taken j rc v d)) (one-more h c) (suc e) (pending-at h a hk hs P.Stage I (staging-at s j rc) v c) (omega arith) (omega arith) (omega arith)
+        (intact-exchanged h (taken j rc v d) (intact-row h F (a .step) (coefficients F s j rc) v d hv hd)) (counted-on h hc)))

@@ -1,0 +1,82 @@
+-- The theorem: an attempt that is not turned away, and then replies of n doubles each, give answer by answer the evaluations of the attempt in one piece, and its end. And what a finished attempt took.
+use Prim.Native.Nat.{ℕ, zero, suc, _+_, _≤_, _<_}
+use mathlib.Core.Path.{_≡_, refl, sym, ap, _∙_, subst}
+use mathlib.Core.List.{List, [], _∷_}
+use native.Mathlib.Nat.{zero-add, not-suc-le-zero}
+use native.Mathlib.Omega.{arith}
+use lib.ListN.{length}
+use lib.Ieee.{Float}
+use Rattle.workspace.specs.declared.Arguments.{Arguments}
+use Rattle.driver.specs.declared.Answer.{Answer}
+use Rattle.driver.specs.declared.Answer.the-variants.{Evaluate, Finished, Ready, Refused, Empty}
+use Rattle.driver.specs.declared.Need.{Need}
+use Rattle.driver.specs.declared.Need.the-variants.{Met, Unmet}
+use Rattle.driver.specs.Answers.{case-number, case-values, Says}
+use Rattle.driver.specs.Calls.{Held, Called, attempt, reply}
+use Rattle.session.specs.Attempt.{Asking, done, stopped, ask, Outcome, Evaluated, evaluated, End, reached, end}
+use Rattle.session.specs.Claim.{called-for, Allowed, Fits, Finishes, Ends, after, last-found, in-one-piece, replies-to, Runs, Took}
+use Rattle.session.proofs.Needs.{need-is}
+use Rattle.session.proofs.Follows.{Ahead, ahead-room, ahead-on, Follows, same-points, same-ends}
+use Rattle.session.proofs.Passes.{attempt-follows}
+
+pub run : (h : Held) (a : Arguments) (d : ℕ → List Float) → Allowed h a → ((i : ℕ) → length (d i) ≡ h .kept .n) → Fits h a d → Runs h a d
+run h a d p long fits = let follows = attempt-follows h a p in let m = in-one-piece h a in let total = replies-to h a d in
+    let le : 0 + total ≤ total = omega arith in record {
+      same-evaluations = same-points h a d long total (fits .evaluations-fit) m 0 0 h (attempt h a) (le, fits .attempts-fit) follows;
+      same-end =
+          subst (λ (replies : ℕ). Ends h a (end m d 0) replies (last-found total d 0 h (attempt h a)) (after total d 0 (attempt h a)))
+          (zero-add total) (same-ends h a d long total (fits .evaluations-fit) m 0 0 h (attempt h a) (le, fits .attempts-fit) follows);
+    }
+
+-- ---- a finished attempt
+
+-- an answer that calls for something is the first case
+abbrev some-empty : List Evaluated → Type 0
+some-empty [] = Unit {0}
+some-empty (x ∷ xs) = ⊥
+
+calls : (y : Answer) (g : Held) (e : Evaluated) → called-for y g ≡ e ∷ [] → case-number y ≡ 1
+unfolding called-for case-number
+calls (Evaluate t b) g e q = refl
+calls (Finished t) g e q = absurd (subst some-empty q tt)
+calls Ready g e q = absurd (subst some-empty q tt)
+calls (Refused i) g e q = absurd (subst some-empty q tt)
+calls Empty g e q = absurd (subst some-empty q tt)
+
+each-calls : (h : Held) (a : Arguments) (d : ℕ → List Float) (long : (i : ℕ) → length (d i) ≡ h .kept .n) (total : ℕ) (fits : _) (m : Asking Outcome) (replies i : ℕ) (b : Held) (x : Called)
+    → Ahead h a d long total fits m replies i → Follows h a replies b m x → (j : ℕ) → j < length (evaluated m d i) → case-number (after j d i x .answer) ≡ 1
+unfolding Follows evaluated after
+each-calls h a d long total fits (done o) replies i b x l f j lt = absurd (not-suc-le-zero lt)
+each-calls h a d long total fits (stopped n v) replies i b x l f j lt = absurd (not-suc-le-zero lt)
+each-calls h a d long total fits (ask t p k) replies i b x l f zero lt = calls (x .answer) (x .held) _ (f .1)
+each-calls h a d long total fits (ask t p k) replies i b x l f (suc j) lt =
+    each-calls h a d long total fits (k (d i)) (suc replies) (suc i) (x .held) (reply (x .held) (d i)) (ahead-on h a d long total fits t p k replies i l)
+    (f .2 (d i) (long i) (ahead-room h a d long total fits t p k replies i b x l f)) j (omega arith)
+
+same-says : (x y : Answer) → x ≡ y → Says x y
+same-says x y e = record { same-case = ap case-number e; same-values = ap case-values e }
+
+met-same : (s t : ℕ) → Met s ≡ Met t → s ≡ t
+met-same s t e = ap count e
+  where
+    count : Need → ℕ
+    count (Met s) = s
+    count (Unmet i) = i
+
+pub took : (h : Held) (a : Arguments) (d : ℕ → List Float) (o : Outcome) → Allowed h a → ((i : ℕ) → length (d i) ≡ h .kept .n) → Fits h a d
+    → end (in-one-piece h a) d 0 ≡ reached o → Took h a d o (after (o .stages + o .passes) d 0 (attempt h a))
+took h a d o p long fits e =
+    let total = replies-to h a d in
+    let le : 0 + total ≤ total = omega arith in
+    let f : Finishes h a o total (after total d 0 (attempt h a)) =
+    subst (λ (z : End Outcome). Ends h a z total (last-found total d 0 h (attempt h a)) (after total d 0 (attempt h a))) e (run h a d p long fits .same-end) in
+    subst (λ (i : ℕ). Took h a d o (after i d 0 (attempt h a))) (f .replies-are) (record {
+      replies-are = f .replies-are;
+      one-pass = f .one-pass;
+      twelve-passes = f .twelve-passes;
+      stages-are = met-same (o .stages) _ (sym (f .need-met) ∙ need-is _ (o .scaled-radius));
+      each-evaluates = λ j lt. each-calls h a d long total (fits .evaluations-fit) (in-one-piece h a) 0 0 h (attempt h a) (le, fits .attempts-fit) (attempt-follows h a p) j (let q = f .replies-are in omega arith);
+      answer-is = same-says _ (Finished (o .norm)) (f .answer-is);
+      evaluations-are = (let q = f .replies-are in let q′ = f .evaluations-are in omega arith);
+      attempts-are = f .attempts-are;
+    })
