@@ -215,57 +215,27 @@ impl Pair {
         first: Reply,
         replies: &Replies,
         stop: Option<(usize, Stop)>,
-        run: impl Fn(
-            &mut Oracle,
-            &dyn Fn(&mut [f64], &[f64], f64) -> Result<(), SolveError>,
-        ) -> Result<f64, SolveError>,
+        run: impl Fn(&mut Oracle, &Rhs) -> Result<f64, SolveError>,
     ) -> Outcome {
-        let evaluated = RefCell::new(Vec::new());
-        let mut whole = self.oracle.clone();
-        let end = run(&mut whole, &|derivative, point, time| {
-            let place = evaluated.borrow().len();
-            replies.evaluate(place, derivative, point, time);
-            evaluated.borrow_mut().push((time, point.to_vec()));
-            Ok(())
-        });
-        let evaluated = evaluated.into_inner();
-        let mut reply = first;
-        let mut passes = 0;
+        let whole = Whole::of(&self.oracle, replies, &run);
+        let (mut reply, mut passes) = (first, 0);
         let mut derivative = vec![0.0; self.n()];
         let mut at = self.oracle.clone();
-        for (place, (time, point)) in evaluated.iter().enumerate() {
-            at = self.oracle.clone();
-            let reached = Cell::new(0);
-            let stopped = run(&mut at, &|derivative, point, time| {
-                if reached.get() == place {
-                    return Err(SolveError::Stopped);
-                }
-                replies.evaluate(reached.get(), derivative, point, time);
-                reached.set(reached.get() + 1);
-                Ok(())
-            });
-            assert_eq!(stopped, Err(SolveError::Stopped));
+        for (place, (time, point)) in whole.evaluated.iter().enumerate() {
+            at = stopped_at(place, &self.oracle, replies, &run);
             let number = asked(self.record.phase);
             expect(&reply.answer, code::EVALUATE, number as u64, *time)?;
             if !all_same(self.vector(number), point) {
                 return Err(format!("another point at evaluation {place}"));
             }
             self.compare(&at, self.strict, &format!("evaluation {place}"))?;
-            if self.record.phase == phase::PASS {
-                passes += 1;
-            }
+            passes += u64::from(self.record.phase == phase::PASS);
             self.something_turned_away()?;
-            match stop {
-                Some((there, Stop::Leave)) if there == place => {
-                    self.oracle = at;
-                    return Ok(Ending::Pending);
-                }
-                Some((there, Stop::Abandon)) if there == place => {
-                    self.engine(&Call::Abandon)?;
-                    self.oracle = at;
-                    return Ok(Ending::Abandoned);
-                }
-                _ => {}
+            if let Some((there, stop)) = stop
+                && there == place
+            {
+                self.oracle = at;
+                return self.stopped(stop);
             }
             let point = self.vector(number).to_vec();
             replies.evaluate(place, &mut derivative, &point, reply.answer.value);
@@ -273,39 +243,43 @@ impl Pair {
                 derivative: &derivative,
             })?;
         }
-        let ending = self.ending(&reply, end, &derivative, evaluated.len() as u64, passes)?;
-        let counted = whole.evaluations();
-        self.oracle = if ending == Ending::BadDerivative {
-            at
-        } else {
-            whole
-        };
-        self.strict |= matches!(ending, Ending::Finished { .. });
-        if self.counters.evaluations != self.counted + counted {
-            return Err(format!(
-                "{} evaluations, the Rust's {}",
-                self.counters.evaluations,
-                self.counted + counted
-            ));
-        }
-        if ending == Ending::BadDerivative {
-            // The Rust counts the evaluation that number 9 turns away; the copy that stopped before it does not.
-            self.counted += 1;
-        }
-        self.compare(&self.oracle, self.strict, "the end")?;
+        let ending = self.ending(&reply, &whole, &derivative, passes)?;
+        self.take_over(whole.oracle, at, ending)?;
         Ok(ending)
     }
 
-    fn ending(
-        &mut self,
-        reply: &Reply,
-        end: Result<f64, SolveError>,
-        last: &[f64],
-        evaluations: u64,
-        passes: u64,
-    ) -> Outcome {
+    fn stopped(&mut self, stop: Stop) -> Outcome {
+        match stop {
+            Stop::Leave => Ok(Ending::Pending),
+            Stop::Abandon => {
+                self.engine(&Call::Abandon)?;
+                Ok(Ending::Abandoned)
+            }
+        }
+    }
+
+    /// Goes on with the Rust's kernel as it is after the call; where number 9 turned a derivative away, as it was before
+    /// that derivative was written.
+    fn take_over(&mut self, whole: Oracle, before: Oracle, ending: Ending) -> Result<(), String> {
+        let counted = self.counted + whole.evaluations();
+        if self.counters.evaluations != counted {
+            let ours = self.counters.evaluations;
+            return Err(format!("{ours} evaluations, the Rust's {counted}"));
+        }
+        self.oracle = if ending == Ending::BadDerivative {
+            before
+        } else {
+            whole
+        };
+        self.counted = counted - self.oracle.evaluations();
+        self.strict |= matches!(ending, Ending::Finished { .. });
+        self.compare(&self.oracle, self.strict, "the end")
+    }
+
+    fn ending(&mut self, reply: &Reply, whole: &Whole, last: &[f64], passes: u64) -> Outcome {
         let answer = &reply.answer;
-        match end {
+        let evaluations = whole.evaluated.len() as u64;
+        match whole.end {
             Ok(_) if passes == 0 => {
                 expect(answer, code::READY, 0, 0.0)?;
                 Ok(Ending::Ready)
@@ -442,6 +416,59 @@ impl Pair {
         }
         Ok(())
     }
+}
+
+type Rhs<'a> = dyn Fn(&mut [f64], &[f64], f64) -> Result<(), SolveError> + 'a;
+
+/// One whole call of the Rust: its kernel afterwards, what it gave, and where it evaluated.
+struct Whole {
+    oracle: Oracle,
+    end: Result<f64, SolveError>,
+    evaluated: Vec<(f64, Vec<f64>)>,
+}
+
+impl Whole {
+    fn of(
+        oracle: &Oracle,
+        replies: &Replies,
+        run: &impl Fn(&mut Oracle, &Rhs) -> Result<f64, SolveError>,
+    ) -> Self {
+        let evaluated = RefCell::new(Vec::new());
+        let mut oracle = oracle.clone();
+        let end = run(&mut oracle, &|derivative, point, time| {
+            let place = evaluated.borrow().len();
+            replies.evaluate(place, derivative, point, time);
+            evaluated.borrow_mut().push((time, point.to_vec()));
+            Ok(())
+        });
+        let evaluated = evaluated.into_inner();
+        Self {
+            oracle,
+            end,
+            evaluated,
+        }
+    }
+}
+
+/// The Rust's kernel inside a call, at an evaluation whose derivative is not yet written.
+fn stopped_at(
+    place: usize,
+    oracle: &Oracle,
+    replies: &Replies,
+    run: &impl Fn(&mut Oracle, &Rhs) -> Result<f64, SolveError>,
+) -> Oracle {
+    let mut oracle = oracle.clone();
+    let reached = Cell::new(0);
+    let end = run(&mut oracle, &|derivative, point, time| {
+        if reached.get() == place {
+            return Err(SolveError::Stopped);
+        }
+        replies.evaluate(reached.get(), derivative, point, time);
+        reached.set(reached.get() + 1);
+        Ok(())
+    });
+    assert_eq!(end, Err(SolveError::Stopped));
+    oracle
 }
 
 /// The vector that is evaluated in a phase.
