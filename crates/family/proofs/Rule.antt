@@ -8,7 +8,7 @@ use lib.Dec.{T}
 use lib.Ieee.{Float, fin, binary64, add, mul, le, toUnsigned}
 use lib.Ieee.Scale.{finite}
 use Rattle.ieee.specs.Double.{_⊕_, _⊖_, _⊗_, _⊘_, nearest, nought, one, two, three, four, eight, nine, sixteen, twenty-four, twenty-five}
-use Rattle.ieee.specs.Sqrt.{sqrt, square}
+use Rattle.ieee.specs.Sqrt.{sqrt, squared-units}
 use Rattle.ieee.specs.Whole.{ceil}
 use Rattle.ieee.proofs.Monotone.{NonNeg, number, least, Some, some-from, times-mono, times-nonneg, plus-mono, plus-nonneg, minus-mono, minus-nonneg, div-by-mono, div-by-nonneg, sqrt-mono, sqrt-nonneg, ceil-mono, ceil-nonneg, round-nonneg, le-both}
 use Rattle.ieee.proofs.Casts.{cast-mono}
@@ -142,7 +142,7 @@ from-shift f r p =
     (sqrt-mono (inner f nought) (inner f r) n n' o o' (inner-mono f nought r z p (least r p)))
 
 -- ---- the count at one double, u, bounds it at another, r. a / L is a bound of the root at u
-pub more-from : (f : Orthogonal) (u r : Float) (a : ℕ) → NonNeg u → NonNeg r → T (le u r) → a * a ≤ square (inner f u) → T (le (shifted f) (nearest a L)) → after f (nearest a L) ≤ before-limits (made-of f) r
+pub more-from : (f : Orthogonal) (u r : Float) (a : ℕ) → NonNeg u → NonNeg r → T (le u r) → a * a ≤ squared-units (inner f u) → T (le (shifted f) (nearest a L)) → after f (nearest a L) ≤ before-limits (made-of f) r
 more-from f u r a p q h w l =
     let n = inner-nonneg f u p in
     let o = inner-some f u p in
@@ -154,7 +154,7 @@ more-from f u r a p q h w l =
     (after-mono f (nearest a L) (sqrt (inner f r)) (nearest-nonneg a L) s' l (from-shift f r q)
     (le-both (nearest a L) (sqrt (inner f u)) (sqrt (inner f r)) (nearest-nonneg a L) s s' (root-from (inner f u) n o a w) (sqrt-mono (inner f u) (inner f r) n n' o o' (inner-mono f u r p q h))))
 
-pub less-to : (f : Orthogonal) (u r : Float) (a : ℕ) → NonNeg u → NonNeg r → T (le r u) → T (finite (inner f u)) → square (inner f u) ≤ a * a → T (le (shifted f) (nearest a L)) → before-limits (made-of f) r ≤ after f (nearest a L)
+pub less-to : (f : Orthogonal) (u r : Float) (a : ℕ) → NonNeg u → NonNeg r → T (le r u) → T (finite (inner f u)) → squared-units (inner f u) ≤ a * a → T (le (shifted f) (nearest a L)) → before-limits (made-of f) r ≤ after f (nearest a L)
 less-to f u r a p q h i w l =
     let n = inner-nonneg f u p in
     let o = inner-some f u p in

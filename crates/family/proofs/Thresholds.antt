@@ -10,7 +10,7 @@ use lib.Ieee.Positive.{num, den}
 use lib.Ieee.Scale.{finite}
 use Rattle.fractions.specs.Frac.{frac, _over_}
 use Rattle.ieee.specs.Double.{nearest}
-use Rattle.ieee.specs.Sqrt.{square}
+use Rattle.ieee.specs.Sqrt.{squared-units}
 use Rattle.ieee.specs.Whole.{ceil}
 use Rattle.ieee.proofs.Every.{every, among}
 use Rattle.ieee.proofs.RootBounds.{L}
@@ -34,15 +34,15 @@ unfoldable pub past : Orthogonal → ℕ → ℕ
 past f k = let m = (2 * k + shift f) * L in m + m / 2 ^ 52
 
 unfoldable good-above : Orthogonal → ℕ → Float → ℕ → Bool
-good-above f k u a = let y = nearest a L in finite u && leb (a * a) (square (inner f u)) && le (shifted f) y && ltb k (after f y) && leb ((2 ^ 49 - 1) * num u * reach-den f k) (2 ^ 49 * reach-num f k * den u)
+good-above f k u a = let y = nearest a L in finite u && leb (a * a) (squared-units (inner f u)) && le (shifted f) y && ltb k (after f y) && leb ((2 ^ 49 - 1) * num u * reach-den f k) (2 ^ 49 * reach-num f k * den u)
 
 unfoldable good-below : Orthogonal → ℕ → Float → ℕ → Bool
-good-below f k u a = let x = inner f u in let y = nearest a L in finite u && finite x && leb (square x) (a * a) && le (shifted f) y && leb (after f y) k && leb (2 ^ 49 * reach-num f k * den u) ((2 ^ 49 + 1) * num u * reach-den f k)
+good-below f k u a = let x = inner f u in let y = nearest a L in finite u && finite x && leb (squared-units x) (a * a) && le (shifted f) y && leb (after f y) k && leb (2 ^ 49 * reach-num f k * den u) ((2 ^ 49 + 1) * num u * reach-den f k)
 
 -- what they say
 pub record Above (f : Orthogonal) (k : ℕ) (u : Float) (a : ℕ) : Type 0 where
   pub finite-u : T (finite u)
-  pub root : a * a ≤ square (inner f u)
+  pub root : a * a ≤ squared-units (inner f u)
   pub from : T (le (shifted f) (nearest a L))
   pub count : k < after f (nearest a L)
   pub near : (2 ^ 49 - 1) * num u * reach-den f k ≤ 2 ^ 49 * reach-num f k * den u
@@ -50,7 +50,7 @@ pub record Above (f : Orthogonal) (k : ℕ) (u : Float) (a : ℕ) : Type 0 where
 pub record Below (f : Orthogonal) (k : ℕ) (u : Float) (a : ℕ) : Type 0 where
   pub finite-u : T (finite u)
   pub finite-x : T (finite (inner f u))
-  pub root : square (inner f u) ≤ a * a
+  pub root : squared-units (inner f u) ≤ a * a
   pub from : T (le (shifted f) (nearest a L))
   pub count : after f (nearest a L) ≤ k
   pub near : 2 ^ 49 * reach-num f k * den u ≤ (2 ^ 49 + 1) * num u * reach-den f k
@@ -59,7 +59,7 @@ above-says : (f : Orthogonal) (k : ℕ) (u : Float) (a : ℕ) → T (good-above 
 unfolding good-above
 above-says f k u a t =
     let a₁ = finite u in
-    let a₂ = leb (a * a) (square (inner f u)) in
+    let a₂ = leb (a * a) (squared-units (inner f u)) in
     let a₃ = le (shifted f) (nearest a L) in
     let a₄ = ltb k (after f (nearest a L)) in
     let a₅ = leb ((2 ^ 49 - 1) * num u * reach-den f k) (2 ^ 49 * reach-num f k * den u) in
@@ -68,7 +68,7 @@ above-says f k u a t =
     let t₂ = and-l (a₁ && a₂) a₃ t₃ in
     record {
       finite-u = and-l a₁ a₂ t₂;
-      root = leb→le (a * a) (square (inner f u)) (and-r a₁ a₂ t₂);
+      root = leb→le (a * a) (squared-units (inner f u)) (and-r a₁ a₂ t₂);
       from = and-r (a₁ && a₂) a₃ t₃;
       count = ltb→lt k (after f (nearest a L)) (and-r (a₁ && a₂ && a₃) a₄ t₄);
       near = leb→le ((2 ^ 49 - 1) * num u * reach-den f k) (2 ^ 49 * reach-num f k * den u) (and-r (a₁ && a₂ && a₃ && a₄) a₅ t);
@@ -79,7 +79,7 @@ unfolding good-below
 below-says f k u a t =
     let a₁ = finite u in
     let a₂ = finite (inner f u) in
-    let a₃ = leb (square (inner f u)) (a * a) in
+    let a₃ = leb (squared-units (inner f u)) (a * a) in
     let a₄ = le (shifted f) (nearest a L) in
     let a₅ = leb (after f (nearest a L)) k in
     let a₆ = leb (2 ^ 49 * reach-num f k * den u) ((2 ^ 49 + 1) * num u * reach-den f k) in
@@ -90,7 +90,7 @@ below-says f k u a t =
     record {
       finite-u = and-l a₁ a₂ t₂;
       finite-x = and-r a₁ a₂ t₂;
-      root = leb→le (square (inner f u)) (a * a) (and-r (a₁ && a₂) a₃ t₃);
+      root = leb→le (squared-units (inner f u)) (a * a) (and-r (a₁ && a₂) a₃ t₃);
       from = and-r (a₁ && a₂ && a₃) a₄ t₄;
       count = leb→le (after f (nearest a L)) k (and-r (a₁ && a₂ && a₃ && a₄) a₅ t₅);
       near = leb→le (2 ^ 49 * reach-num f k * den u) ((2 ^ 49 + 1) * num u * reach-den f k) (and-r (a₁ && a₂ && a₃ && a₄ && a₅) a₆ t);

@@ -12,7 +12,7 @@ use lib.Ieee.Fits.{eq→eqb}
 use lib.Ieee.Order.{round-mono}
 use lib.Ieee.Scale.{finite}
 use Rattle.ieee.specs.Double.{nearest}
-use Rattle.ieee.specs.Sqrt.{sqrt, halves, root, square}
+use Rattle.ieee.specs.Sqrt.{sqrt, halves, root, squared-units}
 use Rattle.ieee.proofs.Monotone.{NonNeg, infinite, number, Some, round-nonneg, le-infinite}
 use Rattle.ieee.proofs.Root.{root-is, square-lt}
 
@@ -38,20 +38,20 @@ root-upper a w h = go (eqb (root w * root w) w) (λ n. lt-of-not-le (λ (g : a �
     go true l = let k = small in omega arith
     go false l = let k = l (λ t. t) in omega arith
 
-pub root-from : (x : Float) → NonNeg x → Some x → (a : ℕ) → a * a ≤ square x → T (le (nearest a L) (sqrt x))
+pub root-from : (x : Float) → NonNeg x → Some x → (a : ℕ) → a * a ≤ squared-units x → T (le (nearest a L) (sqrt x))
 unfolding nearest sqrt
 root-from x infinite o a h = le-infinite (nearest a L) (round-nonneg binary64 a L)
 root-from x (number zero e) o a h = absurd o
-root-from x (number (suc m) e) o a h = go L (pow-pos 1074) (root-lower a (square (fin false (suc m) e)) h)
+root-from x (number (suc m) e) o a h = go L (pow-pos 1074) (root-lower a (squared-units (fin false (suc m) e)) h)
   where
-    go : (l : ℕ) → 0 < l → 2 * a ≤ halves (square (fin false (suc m) e)) → T (le (round binary64 false a l) (round binary64 false (halves (square (fin false (suc m) e))) (2 * l)))
-    go l z k = round-mono binary64 a l (halves (square (fin false (suc m) e))) (2 * l) z (mul-pos (lit< tt) z) (le-trans (le-of-eq (mul-left-comm a 2 l ∙ sym (mul-assoc 2 a l))) (mul-le-mul-right l k))
+    go : (l : ℕ) → 0 < l → 2 * a ≤ halves (squared-units (fin false (suc m) e)) → T (le (round binary64 false a l) (round binary64 false (halves (squared-units (fin false (suc m) e))) (2 * l)))
+    go l z k = round-mono binary64 a l (halves (squared-units (fin false (suc m) e))) (2 * l) z (mul-pos (lit< tt) z) (le-trans (le-of-eq (mul-left-comm a 2 l ∙ sym (mul-assoc 2 a l))) (mul-le-mul-right l k))
 
-pub root-to : (x : Float) → NonNeg x → Some x → T (finite x) → (a : ℕ) → square x ≤ a * a → T (le (sqrt x) (nearest a L))
+pub root-to : (x : Float) → NonNeg x → Some x → T (finite x) → (a : ℕ) → squared-units x ≤ a * a → T (le (sqrt x) (nearest a L))
 unfolding nearest sqrt
 root-to x infinite o i a h = absurd i
 root-to x (number zero e) o i a h = absurd o
-root-to x (number (suc m) e) o i a h = go L (pow-pos 1074) (root-upper a (square (fin false (suc m) e)) h)
+root-to x (number (suc m) e) o i a h = go L (pow-pos 1074) (root-upper a (squared-units (fin false (suc m) e)) h)
   where
-    go : (l : ℕ) → 0 < l → halves (square (fin false (suc m) e)) ≤ 2 * a → T (le (round binary64 false (halves (square (fin false (suc m) e))) (2 * l)) (round binary64 false a l))
-    go l z k = round-mono binary64 (halves (square (fin false (suc m) e))) (2 * l) a l (mul-pos (lit< tt) z) z (le-trans (mul-le-mul-right l k) (le-of-eq (mul-assoc 2 a l ∙ mul-left-comm 2 a l)))
+    go : (l : ℕ) → 0 < l → halves (squared-units (fin false (suc m) e)) ≤ 2 * a → T (le (round binary64 false (halves (squared-units (fin false (suc m) e))) (2 * l)) (round binary64 false a l))
+    go l z k = round-mono binary64 (halves (squared-units (fin false (suc m) e))) (2 * l) a l (mul-pos (lit< tt) z) z (le-trans (mul-le-mul-right l k) (le-of-eq (mul-assoc 2 a l ∙ mul-left-comm 2 a l)))

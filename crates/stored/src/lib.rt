@@ -1,10 +1,9 @@
 // Doubles as they are stored in files of test data: words of eight bytes, the lowest first, each the bit pattern of a double.
 // Programs read such files, work each record out anew and compare bit for bit.
 ghost use mathlib.Core.Path.{_≡_};
-ghost use mathlib.Core.Bool.{true, false};
+ghost use mathlib.Core.Bool.{true};
 ghost use Prim.Native.Nat.{_+_, _^_, _<_, _≤_};
 ghost use lib.ListN.{length};
-ghost use lib.Ieee.{binary64, ofBits, toBits};
 ghost use Rattle.stored.specs.Stored as spec;
 
 // how many records were compared, and how many differ
@@ -42,31 +41,11 @@ pub fn word(s: &[u8], i: usize) -> u64
     }
 }
 
-// The double of a bit pattern; every pattern of a NaN gives the NaN.
-pub fn float_of(bits: u64) -> f64
-    ensures { λ r. ⌜ r ≡ ofBits binary64 bits ⌝ }
-{
-    if bits % 0x8000_0000_0000_0000 > 0x7ff0_0000_0000_0000 {
-        return 0.0 / 0.0;
-    }
-    f64::from_bits(bits)
-}
-
-// The bit pattern of a double; of a NaN always 7FF8000000000000.
-pub fn bits_of(x: f64) -> u64
-    ensures { λ r. ⌜ r ≡ toBits binary64 x ⌝ }
-{
-    if x != x {
-        return 0x7ff8_0000_0000_0000;
-    }
-    f64::to_bits(x)
-}
-
 // Whether x and y are one double: 0 and -0 are two, and a NaN is the same as a NaN.
 pub fn same(x: f64, y: f64) -> bool
     ensures { λ r. ⌜ (r ≡ true → x ≡ y) × (x ≡ y → r ≡ true) ⌝ }
 {
-    bits_of(x) == bits_of(y)
+    ieee::bits_of(x) == ieee::bits_of(y)
 }
 
 // The tally with one more record, which is as it should be or not.

@@ -1,17 +1,11 @@
 -- `ieee::bits_of` meets its contract: what differs from itself is a NaN, and nothing else does. Assumes nothing.
-use mathlib.Core.Path.{_≡_, refl, sym, ap, _∙_, subst}
-use mathlib.Core.Bool.{false, not}
+use mathlib.Core.Path.{_≡_, refl, sym, ap, subst}
 use lib.Dec.{T}
-use lib.Ieee.{Float, nan, inf, fin, binary64, ne, isNan, toBits}
-use lib.Ieee.Compare.{differs-from-itself, nan-differs}
+use lib.Ieee.{Float, nan, binary64, toBits}
+use lib.Ieee.Compare.{differs-from-itself}
+use Rattle.ieee.proofs.Cases.{no-nan}
 use Rattle.ieee.proofs.bits_of.Statement.{statement}
 use Rattle.ieee.proofs.bits_of.Tie as tie
-
-no-nan : (x : Float) → ne x x ≡ false → T (not (isNan x))
-unfolding isNan
-no-nan nan e = absurd (subst T (sym nan-differs ∙ e) tt)
-no-nan (inf s) e = tt
-no-nan (fin s m k) e = tt
 
 pattern : (x : Float) → x ≡ nan → 0x7ff8000000000000 ≡ toBits binary64 x
 unfolding toBits

@@ -19,7 +19,7 @@ mul-double-of : tie.Need-mul-double-of
 mul-double-of c = let p = product (c .args .j + 1) (c .args .j + 2) (omega arith) (omega arith) in omega arith
 
 double-of-requires : tie.Need-double-of-requires
-double-of-requires c κs = let p = product (c .args .j + 1) (c .args .j + 2) (omega arith) (omega arith) in omega arith
+double-of-requires c κs = search needs
 
 returns : tie.Need-returns
 unfolding gegenbauer-one-b double ofBits ofInt neg

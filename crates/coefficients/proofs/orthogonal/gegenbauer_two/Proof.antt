@@ -34,7 +34,7 @@ mul-double-of : tie.Need-mul-double-of
 mul-double-of c = let j = c .before .before .before .before .args .j in let p = product j (j + 1) (omega arith) (omega arith) in omega arith
 
 double-of-requires-2 : tie.Need-double-of-requires-2
-double-of-requires-2 c κs = let j = c .before .before .before .before .args .j in let p = product j (j + 1) (omega arith) (omega arith) in omega arith
+double-of-requires-2 c κs = search needs
 
 with-theta-requires : tie.Need-with-theta-requires
 with-theta-requires c κs = search needs
