@@ -1,0 +1,104 @@
+// The stage counts of all families, held against the Rust's over stored radii: each threshold and its neighbors within 8 units in the last place, random,
+// subnormal, huge and infinite radii, NaNs and negatives. data/counts was written by the Rust (bindings/oracle/src/bin/counts.rs): for each radius its bits, and
+// a word with a byte a family, the lowest RKC's.
+use libc::STDOUT_FILENO;
+use stored::Tally;
+
+pub struct Tallies {
+    pub told: Tally,
+    pub overflowing: Tally,
+}
+
+// Where the Rust's sum overflows it tells no count, 0, and the count is to be 200.
+fn with_count(tallies: Tallies, family: u64, radius: f64, theirs: u64) -> Tallies {
+    let ours = family::stages(family, radius);
+    let told = tallies.told;
+    let overflowing = tallies.overflowing;
+    if theirs == 0 {
+        Tallies {
+            told: told,
+            overflowing: stored::counted(overflowing, ours == 200),
+        }
+    } else {
+        Tallies {
+            told: stored::counted(told, ours == theirs),
+            overflowing: overflowing,
+        }
+    }
+}
+
+fn with_radius(tallies: Tallies, radius: f64, counts: u64) -> Tallies {
+    let a = with_count(tallies, 1, radius, counts % 256);
+    let b = with_count(a, 2, radius, counts / 0x100 % 256);
+    let c = with_count(b, 3, radius, counts / 0x1_0000 % 256);
+    let d = with_count(c, 4, radius, counts / 0x100_0000 % 256);
+    with_count(d, 5, radius, counts / 0x1_0000_0000 % 256)
+}
+
+// All whole records of s.
+fn with_records(tallies: Tallies, s: &[u8]) -> Tallies {
+    let mut all = tallies;
+    let mut i: usize = 0;
+    while i < s.len() / 16 {
+        let radius = ieee::float_of(stored::word(s, 2 * i));
+        let counts = stored::word(s, 2 * i + 1);
+        all = with_radius(all, radius, counts);
+        i += 1;
+    }
+    all
+}
+
+pub struct Part {
+    pub last: bool,
+    pub tallies: Tallies,
+}
+
+// A buffer full of records, or what is left of them.
+fn with_part(tallies: Tallies, fd: i32) -> Part {
+    let mut buf = io::large_buffer();
+    let n = io::read_full(fd, &mut buf);
+    let all = with_records(tallies, &buf[..n]);
+    Part {
+        last: n < 65536,
+        tallies: all,
+    }
+}
+
+fn of_file(fd: i32) -> Tallies {
+    let mut all = Tallies {
+        told: Tally { seen: 0, differ: 0 },
+        overflowing: Tally { seen: 0, differ: 0 },
+    };
+    let mut parts: u64 = 1000;
+    while parts > 0 {
+        let part = with_part(all, fd);
+        all = part.tallies;
+        if part.last {
+            return all;
+        }
+        parts -= 1;
+    }
+    all
+}
+
+fn print_tally(tally: Tally, of: &[u8]) {
+    io::print_decimal(STDOUT_FILENO, tally.seen);
+    io::write_all(STDOUT_FILENO, of);
+    io::print_decimal(STDOUT_FILENO, tally.differ);
+    io::write_all(STDOUT_FILENO, b" differ\n");
+}
+
+fn main() {
+    let fd = os::open_read(b"counts");
+    if fd < 0 {
+        os::fail(b"counts");
+        return;
+    }
+    let all = of_file(fd);
+    libc::close(fd);
+    print_tally(all.told, b" counts of the Rust, ");
+    print_tally(
+        all.overflowing,
+        b" counts of 200 where the Rust's sum overflows, ",
+    );
+}
