@@ -7,7 +7,7 @@ use lib.ListN.{length}
 use Rattle.fractions.specs.Frac.{Frac, _⊕_, _⊗_, _⊖_, opp, _≈_, _⊘_, Between}
 use Rattle.fractions.specs.Lists.{entry, _⊞_, _·_, _≋_}
 use Rattle.fractions.specs.Polynomial.{eval, times-variable}
-use Rattle.fractions.proofs.Ring.{Expr, var, _:+_, _:*_, _:-_, neg}
+use Rattle.fractions.proofs.Ring.{var, _:+_, _:*_, _:-_, neg}
 use Rattle.fractions.proofs.FracLaws.{ring, ≈-sym, ⊗-cong, ≈-refl}
 use Rattle.fractions.proofs.Combine.{_▹_, 0#, 1#, 0ₑ, 1ₑ, 2ₑ, given, combine}
 use Rattle.fractions.proofs.Order.{Nonneg, nonneg-≈, nonneg-+, nonneg-*, nonneg-nat, nonneg-above, ≼-of, of-≼, at-most-one, at-least-minus-one}
@@ -18,6 +18,14 @@ use Rattle.coefficients.specs.Paper.{omega-one, mu, nu, mu-tilde, gamma-
 use Rattle.coefficients.specs.Exact.{row, stage, attempt, multiplier}
 use Rattle.coefficients.proofs.Normalized.{α, β, D, D-rec, D-square}
 use Rattle.coefficients.proofs.PaperValues.{extra, b-hat, mu-is, nu-is, b-hat-fits, first-is, ω-above, gamma-is}
+
+-- the number at which D is taken
+abbrev x : Orthogonal → ℕ → Frac → Frac
+x f s z = 1# ⊕ omega-one f s ⊗ z
+
+-- what multiplies y in stage j: 1 − b̂ + b̂ D(x)
+abbrev factor : Orthogonal → ℕ → Frac → ℕ → Frac
+factor f s z j = 1# ⊕ b-hat f j ⊗ (D (extra f) (x f s z) j ⊖ 1#)
 
 -- a number read off a list, where times-z multiplies it by z
 record Linear (read : List Frac → Frac) (times-z : List Frac → List Frac) (z : Frac) : Type 0 where
@@ -31,9 +39,6 @@ module _ (read : List Frac → Frac) (times-z : List Frac → List Frac) (z : Fr
 
   abbrev e : ℕ
   e = extra f
-
-  abbrev x : Frac
-  x = 1# ⊕ omega-one f s ⊗ z
 
   row-is : (i : ℕ) → let j = suc (suc i) in at j ≈ mu f j ⊗ at (suc i) ⊕ nu f j ⊗ at i ⊕ (1# ⊖ mu f j ⊖ nu f j) ⊗ read y ⊕ z ⊗ (mu-tilde f s j ⊗ at (suc i) ⊕ gamma-tilde f s j ⊗ read y)
   unfolding stage row
@@ -84,17 +89,13 @@ module _ (read : List Frac → Frac) (times-z : List Frac → List Frac) (z : Fr
       W : List Frac
       W = M ⊞ G
 
-  -- 1 − b̂ + b̂ D(x)
-  abbrev factor : ℕ → Frac
-  factor j = 1# ⊕ b-hat f j ⊗ (D e x j ⊖ 1#)
-
-  next : (i : ℕ) → at (suc i) ≈ read y ⊗ factor (suc i) → at i ≈ read y ⊗ factor i → at (suc (suc i)) ≈ read y ⊗ factor (suc (suc i))
+  next : (i : ℕ) → at (suc i) ≈ read y ⊗ factor f s z (suc i) → at i ≈ read y ⊗ factor f s z i → at (suc (suc i)) ≈ read y ⊗ factor f s z (suc (suc i))
   unfolding mu-tilde
   next i h k = cancel-nat (suc (suc (i + e))) (omega arith) (
       let A = var 0 in let B = var 1 in let m = var 2 in let n = var 3 in let B0 = var 4 in let B1 = var 5 in let B2 = var 6 in let D0 = var 7 in
       let D1 = var 8 in let D2 = var 9 in let z′ = var 10 in let w = var 11 in let P = var 12 in let Q = var 13 in let E = var 14 in let g = var 15 in
       let Y = var 16 in let X = 1ₑ :+ w :* z′ in
-      combine (α e i ∷ β e i ∷ mu f j ∷ nu f j ∷ b-hat f i ∷ b-hat f (suc i) ∷ b-hat f j ∷ D e x i ∷ D e x (suc i) ∷ D e x j ∷ z ∷ omega-one f s ∷ at (suc i) ∷ at i ∷ at j ∷ gamma-tilde f s j ∷ read y ∷ [])
+      combine (α e i ∷ β e i ∷ mu f j ∷ nu f j ∷ b-hat f i ∷ b-hat f (suc i) ∷ b-hat f j ∷ D e x′ i ∷ D e x′ (suc i) ∷ D e x′ j ∷ z ∷ omega-one f s ∷ at (suc i) ∷ at i ∷ at j ∷ gamma-tilde f s j ∷ read y ∷ [])
       (A :* E) (A :* (Y :* (1ₑ :+ B2 :* (D2 :- 1ₑ))))
       (given A E (m :* P :+ n :* Q :+ (1ₑ :- m :- n) :* Y :+ z′ :* (w :* m :* P :+ g :* Y)) (row-is i)
       ∷ given (A :* z′ :* Y) g (neg (1ₑ :- B1) :* (w :* m)) (gamma-is f s i)
@@ -102,13 +103,16 @@ module _ (read : List Frac → Frac) (times-z : List Frac → List Frac) (z : Fr
       ∷ given (A :* n) Q (Y :* (1ₑ :+ B0 :* (D0 :- 1ₑ))) k
       ∷ given ((X :* D1 :- 1ₑ) :* Y) (A :* (m :* B1)) ((A :+ B) :* B2) (mu-is f i)
       ∷ given ((D0 :- 1ₑ) :* Y) (A :* (n :* B0)) (neg (B :* B2)) (nu-is f i)
-      ∷ given (neg (B2 :* Y)) (A :* D2) ((A :+ B) :* X :* D1 :- B :* D0) (D-rec e x i)
+      ∷ given (neg (B2 :* Y)) (A :* D2) ((A :+ B) :* X :* D1 :- B :* D0) (D-rec e x′ i)
       ∷ []) tt)
     where
       j : ℕ
       j = suc (suc i)
 
-  stage-is : (j : ℕ) → at j ≈ read y ⊗ factor j
+      x′ : Frac
+      x′ = x f s z
+
+  stage-is : (j : ℕ) → at j ≈ read y ⊗ factor f s z j
   unfolding stage D
   stage-is zero = ring (read y ∷ b-hat f 0 ∷ []) (var 0) (var 0 :* (1ₑ :+ var 1 :* (1ₑ :- 1ₑ))) tt
   stage-is (suc zero) = combine (z ∷ b-hat f 1 ∷ omega-one f s ∷ first-mu-tilde f s ∷ read y ∷ read (times-z y) ∷ read (first-mu-tilde f s · times-z y) ∷ at 1 ∷ [])
@@ -121,19 +125,13 @@ module _ (read : List Frac → Frac) (times-z : List Frac → List Frac) (z : Fr
   stage-is (suc (suc i)) = next i (stage-is (suc i)) (stage-is i)
 
 -- the multiplier's value
-pub multiplier-is : (f : Orthogonal) (s : ℕ) (z : Frac) → eval (multiplier f s) z ≈ 1# ⊕ b-hat f s ⊗ (D (extra f) (1# ⊕ omega-one f s ⊗ z) s ⊖ 1#)
+pub multiplier-is : (f : Orthogonal) (s : ℕ) (z : Frac) → eval (multiplier f s) z ≈ factor f s z s
 unfolding multiplier eval
-multiplier-is f s z = combine (eval (multiplier f s) z ∷ z ∷ B ∷ d ∷ [])
-    (var 0) (1ₑ :+ var 2 :* (var 3 :- 1ₑ))
-    (given 1ₑ (var 0) ((1ₑ :+ var 1 :* 0ₑ) :* (1ₑ :+ var 2 :* (var 3 :- 1ₑ)))
+multiplier-is f s z = combine (eval (multiplier f s) z ∷ z ∷ factor f s z s ∷ [])
+    (var 0) (var 2)
+    (given 1ₑ (var 0) ((1ₑ :+ var 1 :* 0ₑ) :* var 2)
     (stage-is (λ p. eval p z) times-variable z (record { of-sum = λ p q. eval-⊞ p q z; of-multiple = λ k p. eval-· k p z; of-times-z = λ p. eval-times p z }) f s (1# ∷ []) s)
     ∷ []) tt
-  where
-    B : Frac
-    B = b-hat f s
-
-    d : Frac
-    d = D (extra f) (1# ⊕ omega-one f s ⊗ z) s
 
 -- ---- the attempt
 
@@ -150,15 +148,12 @@ unfolding attempt
 attempt-is f s c step y = record {
   lengths = stage-long z f s y s .is ∙ sym (length-· (eval (multiplier f s) z) y);
   entries = λ k. stage-is (λ p. entry p k) (λ p. z · p) z (record { of-sum = λ p q. entry-⊞ p q k; of-multiple = λ a p. entry-· a p k; of-times-z = λ p. entry-· z p k }) f s y s
-      ▹ ring (entry y k ∷ factor-of ∷ []) (var 0 :* var 1) (var 1 :* var 0) tt
+      ▹ ring (entry y k ∷ factor f s z s ∷ []) (var 0 :* var 1) (var 1 :* var 0) tt
       ▹ ⊗-cong (≈-sym (multiplier-is f s z)) (≈-refl (entry y k)) ▹ ≈-sym (entry-· (eval (multiplier f s) z) y k);
 }
   where
     z : Frac
     z = step ⊗ c
-
-    factor-of : Frac
-    factor-of = 1# ⊕ b-hat f s ⊗ (D (extra f) (1# ⊕ omega-one f s ⊗ z) s ⊖ 1#)
 
 -- ---- between −1 and 1
 
@@ -166,22 +161,22 @@ module _ (f : Orthogonal) (i : ℕ) (z : Frac) (range : Between (opp (nat 2 ⊘ 
   abbrev ω : Frac
   ω = omega-one f (suc (suc i))
 
-  abbrev x-of : Frac
-  x-of = 1# ⊕ ω ⊗ z
+  abbrev x′ : Frac
+  x′ = x f (suc (suc i)) z
 
-  x-low : Nonneg (1# ⊕ x-of)
+  x-low : Nonneg (1# ⊕ x′)
   x-low = nonneg-≈ (combine (z ∷ ω ∷ (nat 2 ⊘ ω) ∷ [])
       (var 1 :* (var 0 :- neg (var 2))) (1ₑ :+ (1ₑ :+ var 1 :* var 0))
       (given (1ₑ) (var 2 :* var 1) (2ₑ) (divided (nat 2) ω (ω-above f i))
       ∷ []) tt)
       (nonneg-* (nonneg-above (ω-above f i)) (of-≼ (range .from)))
 
-  x-high : Nonneg (1# ⊖ x-of)
+  x-high : Nonneg (1# ⊖ x′)
   x-high = nonneg-≈ (ring (z ∷ ω ∷ []) (var 1 :* (0ₑ :- var 0)) (1ₑ :- (1ₑ :+ var 1 :* var 0)) tt)
       (nonneg-* (nonneg-above (ω-above f i)) (of-≼ (range .to)))
 
-  square : (j : ℕ) → Nonneg (1# ⊖ D (extra f) x-of j ⊗ D (extra f) x-of j)
-  square = D-square (extra f) x-of (nonneg-≈ (ring (x-of ∷ []) ((1ₑ :- var 0) :* (1ₑ :+ var 0)) (1ₑ :- var 0 :* var 0) tt) (nonneg-* x-high x-low))
+  square : (j : ℕ) → Nonneg (1# ⊖ D (extra f) x′ j ⊗ D (extra f) x′ j)
+  square = D-square (extra f) x′ (nonneg-≈ (ring (x′ ∷ []) ((1ₑ :- var 0) :* (1ₑ :+ var 0)) (1ₑ :- var 0 :* var 0) tt) (nonneg-* x-high x-low))
 
   pub multiplier-bounded : Between (opp 1#) (eval (multiplier f (suc (suc i))) z) 1#
   multiplier-bounded = record {
@@ -204,4 +199,4 @@ module _ (f : Orthogonal) (i : ℕ) (z : Frac) (range : Between (opp (nat 2 ⊘ 
       B = b-hat f s
 
       d : Frac
-      d = D (extra f) x-of s
+      d = D (extra f) x′ s

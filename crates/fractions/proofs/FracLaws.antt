@@ -1,3 +1,4 @@
+-- Fractions are a commutative ring up to ≈, so that `ring` proves their equations by evaluation. From the laws of ℤ, by cross multiplication; `ℤ-ring` does the same over ℤ.
 use mathlib.Core.Path.{_≡_, refl, sym, _∙_, ap, ap₂}
 use mathlib.Core.List.{List, [], _∷_}
 use Prim.Native.Nat.{ℕ, suc, _+_, _<_}
@@ -10,7 +11,24 @@ use Rattle.fractions.proofs.Ring.{Expr, var, con, _:+_, _:*_, _:-_, neg
 use Rattle.fractions.specs.Frac.{Frac, _⊕_, _⊗_, _⊖_, opp, int, _≈_, _over_}
 
 ℤ-laws : Laws ℤ _≡_ _+ℤ_ _*ℤ_ negℤ (λ k. k)
-ℤ-laws = record { rfl = λ a. refl; sm = λ p. sym p; tr = λ p q. p ∙ q; +cong = λ p q. ap₂ _+ℤ_ p q; *cong = λ p q. ap₂ _*ℤ_ p q; +comm = +ℤ-comm; +assoc = +ℤ-assoc; +zero = +ℤ-idr; +neg = +ℤ-invr; *comm = *ℤ-comm; *assoc = *ℤ-assoc; *one = one-*ℤ; *zero = zero-*ℤ; distrib = *ℤ-distrib; int+ = λ k l. refl; int* = λ k l. refl }
+ℤ-laws = record {
+  reflexive = λ a. refl;
+  symmetric = λ p. sym p;
+  transitive = λ p q. p ∙ q;
+  +cong = λ p q. ap₂ _+ℤ_ p q;
+  *cong = λ p q. ap₂ _*ℤ_ p q;
+  +comm = +ℤ-comm;
+  +assoc = +ℤ-assoc;
+  +zero = +ℤ-idr;
+  +neg = +ℤ-invr;
+  *comm = *ℤ-comm;
+  *assoc = *ℤ-assoc;
+  *one = one-*ℤ;
+  *zero = zero-*ℤ;
+  distrib = *ℤ-distrib;
+  int+ = λ k l. refl;
+  int* = λ k l. refl;
+}
 
 pub ℤ-ring : (ρ : List ℤ) (a b : Expr) → T (vanishes (norm (a :- b))) → value ℤ _≡_ _+ℤ_ _*ℤ_ negℤ (λ k. k) ρ a ≡ value ℤ _≡_ _+ℤ_ _*ℤ_ negℤ (λ k. k) ρ b
 ℤ-ring = solve ℤ _≡_ _+ℤ_ _*ℤ_ negℤ (λ k. k) ℤ-laws
@@ -40,12 +58,12 @@ B = record { n = var 2; d = var 3 }
 abbrev C : Pair
 C = record { n = var 4; d = var 5 }
 
--- the two sides of p ≈ q
+-- the left side of p ≈ q; the right side is `left q p`
 abbrev left : Pair → Pair → Expr
 left p q = p .n :* q .d
 
-abbrev at : Frac → Frac → Frac → List ℤ
-at a b c = a .num ∷ pos (a .den) ∷ b .num ∷ pos (b .den) ∷ c .num ∷ pos (c .den) ∷ []
+abbrev at : Frac → Frac → Frac → Frac → List ℤ
+at a b c d = a .num ∷ pos (a .den) ∷ b .num ∷ pos (b .den) ∷ c .num ∷ pos (c .den) ∷ d .num ∷ pos (d .den) ∷ []
 
 cancel : (k l : ℤ) (d : ℕ) → 0 < d → k *ℤ pos d ≡ l *ℤ pos d → k ≡ l
 unfolding up dn
@@ -61,61 +79,61 @@ pub ≈-sym : {a b : Frac} → a ≈ b → b ≈ a
 pub ≈-trans : {a b c : Frac} → a ≈ b → b ≈ c → a ≈ c
 ≈-trans {a} {b} {c} p q = record {
   cross = cancel _ _ (b .den) (b .positive)
-      (ℤ-ring (at a b c) (var 0 :* var 5 :* var 3) ((var 0 :* var 3) :* var 5) tt ∙ ap (λ k. k *ℤ pos (c .den)) (p .cross)
-      ∙ ℤ-ring (at a b c) ((var 2 :* var 1) :* var 5) ((var 2 :* var 5) :* var 1) tt ∙ ap (λ k. k *ℤ pos (a .den)) (q .cross)
-      ∙ ℤ-ring (at a b c) ((var 4 :* var 3) :* var 1) (var 4 :* var 1 :* var 3) tt);
+      (ℤ-ring (at a b c c) (var 0 :* var 5 :* var 3) ((var 0 :* var 3) :* var 5) tt ∙ ap (λ k. k *ℤ pos (c .den)) (p .cross)
+      ∙ ℤ-ring (at a b c c) ((var 2 :* var 1) :* var 5) ((var 2 :* var 5) :* var 1) tt ∙ ap (λ k. k *ℤ pos (a .den)) (q .cross)
+      ∙ ℤ-ring (at a b c c) ((var 4 :* var 3) :* var 1) (var 4 :* var 1 :* var 3) tt);
 }
 
-F-laws : Laws Frac _≈_ _⊕_ _⊗_ opp int
+Frac-laws : Laws Frac _≈_ _⊕_ _⊗_ opp int
 unfolding _⊕_ _⊗_ opp int
-F-laws = record {
-  rfl = ≈-refl;
-  sm = ≈-sym;
-  tr = ≈-trans;
+Frac-laws = record {
+  reflexive = ≈-refl;
+  symmetric = ≈-sym;
+  transitive = ≈-trans;
   +cong = λ {a} {b} {c} {d} p q. record {
     cross =
-        ℤ-ring (a .num ∷ pos (a .den) ∷ b .num ∷ pos (b .den) ∷ c .num ∷ pos (c .den) ∷ d .num ∷ pos (d .den) ∷ [])
+        ℤ-ring (at a b c d)
         ((var 0 :* var 5 :+ var 4 :* var 1) :* (var 3 :* var 7)) ((var 0 :* var 3) :* (var 5 :* var 7) :+ (var 4 :* var 7) :* (var 1 :* var 3)) tt
         ∙ ap₂ (λ k l. k *ℤ (pos (c .den) *ℤ pos (d .den)) +ℤ l *ℤ (pos (a .den) *ℤ pos (b .den))) (p .cross) (q .cross)
-        ∙ ℤ-ring (a .num ∷ pos (a .den) ∷ b .num ∷ pos (b .den) ∷ c .num ∷ pos (c .den) ∷ d .num ∷ pos (d .den) ∷ [])
+        ∙ ℤ-ring (at a b c d)
         ((var 2 :* var 1) :* (var 5 :* var 7) :+ (var 6 :* var 5) :* (var 1 :* var 3)) ((var 2 :* var 7 :+ var 6 :* var 3) :* (var 1 :* var 5)) tt;
   };
   *cong = λ {a} {b} {c} {d} p q. record {
     cross =
-        ℤ-ring (a .num ∷ pos (a .den) ∷ b .num ∷ pos (b .den) ∷ c .num ∷ pos (c .den) ∷ d .num ∷ pos (d .den) ∷ [])
+        ℤ-ring (at a b c d)
         ((var 0 :* var 4) :* (var 3 :* var 7)) ((var 0 :* var 3) :* (var 4 :* var 7)) tt
         ∙ ap₂ _*ℤ_ (p .cross) (q .cross)
-        ∙ ℤ-ring (a .num ∷ pos (a .den) ∷ b .num ∷ pos (b .den) ∷ c .num ∷ pos (c .den) ∷ d .num ∷ pos (d .den) ∷ [])
+        ∙ ℤ-ring (at a b c d)
         ((var 2 :* var 1) :* (var 6 :* var 5)) ((var 2 :* var 6) :* (var 1 :* var 5)) tt;
   };
-  +comm = λ a b. record { cross = ℤ-ring (at a b b) (left (A ⊞ B) (B ⊞ A)) (left (B ⊞ A) (A ⊞ B)) tt };
-  +assoc = λ a b c. record { cross = ℤ-ring (at a b c) (left (A ⊞ B ⊞ C) (A ⊞ (B ⊞ C))) (left (A ⊞ (B ⊞ C)) (A ⊞ B ⊞ C)) tt };
-  +zero = λ a. record { cross = ℤ-ring (at a a a) (left (A ⊞ whole (pos 0)) A) (left A (A ⊞ whole (pos 0))) tt };
-  +neg = λ a. record { cross = ℤ-ring (at a a a) ((var 0 :* var 1 :+ neg (var 0) :* var 1) :* con (pos 1)) (con (pos 0) :* (var 1 :* var 1)) tt };
-  *comm = λ a b. record { cross = ℤ-ring (at a b b) (left (A ⊠ B) (B ⊠ A)) (left (B ⊠ A) (A ⊠ B)) tt };
-  *assoc = λ a b c. record { cross = ℤ-ring (at a b c) (left (A ⊠ B ⊠ C) (A ⊠ (B ⊠ C))) (left (A ⊠ (B ⊠ C)) (A ⊠ B ⊠ C)) tt };
-  *one = λ a. record { cross = ℤ-ring (at a a a) (left (whole (pos 1) ⊠ A) A) (left A (whole (pos 1) ⊠ A)) tt };
-  *zero = λ a. record { cross = ℤ-ring (at a a a) (left (whole (pos 0) ⊠ A) (whole (pos 0))) (left (whole (pos 0)) (whole (pos 0) ⊠ A)) tt };
-  distrib = λ a b c. record { cross = ℤ-ring (at a b c) (left (A ⊠ (B ⊞ C)) (A ⊠ B ⊞ A ⊠ C)) (left (A ⊠ B ⊞ A ⊠ C) (A ⊠ (B ⊞ C))) tt };
+  +comm = λ a b. record { cross = ℤ-ring (at a b b b) (left (A ⊞ B) (B ⊞ A)) (left (B ⊞ A) (A ⊞ B)) tt };
+  +assoc = λ a b c. record { cross = ℤ-ring (at a b c c) (left (A ⊞ B ⊞ C) (A ⊞ (B ⊞ C))) (left (A ⊞ (B ⊞ C)) (A ⊞ B ⊞ C)) tt };
+  +zero = λ a. record { cross = ℤ-ring (at a a a a) (left (A ⊞ whole (pos 0)) A) (left A (A ⊞ whole (pos 0))) tt };
+  +neg = λ a. record { cross = ℤ-ring (at a a a a) ((var 0 :* var 1 :+ neg (var 0) :* var 1) :* con (pos 1)) (con (pos 0) :* (var 1 :* var 1)) tt };
+  *comm = λ a b. record { cross = ℤ-ring (at a b b b) (left (A ⊠ B) (B ⊠ A)) (left (B ⊠ A) (A ⊠ B)) tt };
+  *assoc = λ a b c. record { cross = ℤ-ring (at a b c c) (left (A ⊠ B ⊠ C) (A ⊠ (B ⊠ C))) (left (A ⊠ (B ⊠ C)) (A ⊠ B ⊠ C)) tt };
+  *one = λ a. record { cross = ℤ-ring (at a a a a) (left (whole (pos 1) ⊠ A) A) (left A (whole (pos 1) ⊠ A)) tt };
+  *zero = λ a. record { cross = ℤ-ring (at a a a a) (left (whole (pos 0) ⊠ A) (whole (pos 0))) (left (whole (pos 0)) (whole (pos 0) ⊠ A)) tt };
+  distrib = λ a b c. record { cross = ℤ-ring (at a b c c) (left (A ⊠ (B ⊞ C)) (A ⊠ B ⊞ A ⊠ C)) (left (A ⊠ B ⊞ A ⊠ C) (A ⊠ (B ⊞ C))) tt };
   int+ = λ k l. record { cross = ℤ-ring (k ∷ l ∷ []) ((var 0 :+ var 1) :* con (pos 1)) ((var 0 :* con (pos 1) :+ var 1 :* con (pos 1)) :* con (pos 1)) tt };
   int* = λ k l. record { cross = refl };
 }
 
 -- an equation of fractions by evaluation
 pub ring : (ρ : List Frac) (a b : Expr) → T (vanishes (norm (a :- b))) → value Frac _≈_ _⊕_ _⊗_ opp int ρ a ≈ value Frac _≈_ _⊕_ _⊗_ opp int ρ b
-ring = solve Frac _≈_ _⊕_ _⊗_ opp int F-laws
+ring = solve Frac _≈_ _⊕_ _⊗_ opp int Frac-laws
 
 pub ⊕-cong : {a b c d : Frac} → a ≈ b → c ≈ d → a ⊕ c ≈ b ⊕ d
-⊕-cong p q = F-laws .+cong p q
+⊕-cong p q = Frac-laws .+cong p q
 
 pub ⊗-cong : {a b c d : Frac} → a ≈ b → c ≈ d → a ⊗ c ≈ b ⊗ d
-⊗-cong p q = F-laws .*cong p q
+⊗-cong p q = Frac-laws .*cong p q
 
 pub int-+ : (k l : ℤ) → int (k +ℤ l) ≈ int k ⊕ int l
-int-+ k l = F-laws .int+ k l
+int-+ k l = Frac-laws .int+ k l
 
 pub int-* : (k l : ℤ) → int (k *ℤ l) ≈ int k ⊗ int l
-int-* k l = F-laws .int* k l
+int-* k l = Frac-laws .int* k l
 
 -- (n + 1) · m/(n + 1) is m
 pub over-is : (m n : ℕ) → int (pos (suc n)) ⊗ m over n ≈ int (pos m)
@@ -123,4 +141,4 @@ unfolding int _⊗_ _over_
 over-is m n = record { cross = ℤ-ring (pos m ∷ pos (suc n) ∷ []) (var 1 :* var 0 :* con (pos 1)) (var 0 :* (con (pos 1) :* var 1)) tt }
 
 pub equal : {a b : Frac} → a ⊖ b ≈ int (pos 0) → a ≈ b
-equal {a} {b} h = equal-of-difference Frac _≈_ _⊕_ _⊗_ opp int F-laws a b h
+equal {a} {b} h = equal-of-difference Frac _≈_ _⊕_ _⊗_ opp int Frac-laws a b h

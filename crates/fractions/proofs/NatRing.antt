@@ -1,4 +1,4 @@
--- Equations of natural numbers by evaluation, where omega's 64 monomials do not reach.
+-- Equations of natural numbers by evaluation, from those of ℤ: for the products that are too long for `omega`.
 use mathlib.Core.Path.{_≡_, refl, sym, _∙_, ap, ap₂}
 use mathlib.Core.List.{List, [], _∷_}
 use Prim.Native.Nat.{ℕ, zero, suc, _+_, _*_}

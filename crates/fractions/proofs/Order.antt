@@ -1,4 +1,4 @@
--- The order of fractions.
+-- The order of fractions, by the signs of numerators: sums, products and squares that are not negative, and a ≼ b as b − a not negative.
 use mathlib.Core.Path.{_≡_, refl, sym, _∙_, ap, subst}
 use mathlib.Core.List.{[], _∷_}
 use mathlib.Core.Logic.{_⊎_, inl, inr}
@@ -10,7 +10,6 @@ use Rattle.fractions.specs.Frac.{Frac, _⊕_, _⊗_, _⊖_, opp, int, _�
 use Rattle.fractions.proofs.FracLaws.{ring, ℤ-ring}
 use Rattle.fractions.proofs.Combine.{0#, 1#, 1ₑ, 2ₑ}
 
--- ---- signs
 unfoldable pub Positive : ℤ → Type 0
 Positive (pos zero) = ⊥
 Positive (pos (suc n)) = Unit {0}
