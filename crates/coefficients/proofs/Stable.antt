@@ -1,21 +1,21 @@
 -- `Stable` holds of each family and each permitted number of stages; in fact of any s from 2 on.
 use mathlib.Core.Path.{refl, ap₂}
 use mathlib.Core.List.{[], _∷_}
-use Prim.Native.Nat.{ℕ, zero, suc, _+_, _*_, _%_, _≤_}
+use Prim.Native.Nat.{ℕ, zero, suc, _+_, _*_, _≤_}
 use native.Mathlib.Omega.{arith}
-use mathlib.Core.Bool.{Bool, not, _&&_, _||_}
-use lib.Dec.{T, leb, eqb, leb→le}
-use lib.Ieee.Fits.{and-l}
+use lib.Dec.{T}
 use Rattle.fractions.specs.Frac.{Frac, _⊗_, _⊖_, opp, frac, _⊘_, _≼_, Between}
 use Rattle.fractions.proofs.Ring.{var, _:+_, _:*_, _:-_, neg}
 use Rattle.fractions.proofs.FracLaws.{ring}
 use Rattle.fractions.proofs.Combine.{0#, 1#, 1ₑ, 2ₑ, given, combine}
 use Rattle.fractions.proofs.Order.{Nonneg, nonneg-≈, nonneg-+, nonneg-*, nonneg-nat, nonneg-cancel, ≼-of, of-≼}
 use Rattle.fractions.proofs.Values.{nat, is-frac, is-quotient, is-*, is-at-most-one, divided}
-use Rattle.family.specs.Family.{Family, Orthogonal, Legendre1, Legendre2, Gegenbauer1, Gegenbauer2, made-of, permitted, smallest-count, largest-count, odd-only}
+use Rattle.family.specs.Family.{Orthogonal, Legendre1, Legendre2, Gegenbauer1, Gegenbauer2, made-of, permitted}
+use Rattle.family.specs.Reach.{reach}
+use Rattle.family.proofs.Range.{permitted-range}
 use Rattle.coefficients.specs.Paper.{omega-one}
 use Rattle.coefficients.specs.Exact.{multiplier}
-use Rattle.coefficients.specs.Multiplier.{Begins, Bounded, Stable, reach}
+use Rattle.coefficients.specs.Multiplier.{Begins, Bounded, Stable}
 use Rattle.coefficients.proofs.Multiplier.{attempt-is, multiplier-bounded}
 use Rattle.coefficients.proofs.PaperValues.{ω-L1, ω-L2, ω-G1, ω-G2, ω-above}
 use Rattle.coefficients.proofs.Begins.{begins-0, begins-1, begins-2-L, begins-2-G}
@@ -68,22 +68,5 @@ from-two f (suc (suc i)) h = record {
   bounded-on-reach = λ z r. multiplier-bounded f i z (within _ (reach-is f i) r);
 }
 
-from-smallest : (f : Family) (s : ℕ) → T (permitted f s) → smallest-count f ≤ s
-unfolding permitted
-from-smallest f s t = leb→le (smallest-count f) s (and-l low high (and-l (low && high) (not (odd-only f) || eqb (s % 2) 1) t))
-  where
-    low : Bool
-    low = leb (smallest-count f) s
-
-    high : Bool
-    high = leb s (largest-count f)
-
-two-or-more : (f : Orthogonal) → 2 ≤ smallest-count (made-of f)
-unfolding made-of smallest-count
-two-or-more Legendre1 = omega arith
-two-or-more Legendre2 = omega arith
-two-or-more Gegenbauer1 = omega arith
-two-or-more Gegenbauer2 = omega arith
-
 pub stable : (f : Orthogonal) (s : ℕ) → T (permitted (made-of f) s) → Stable f s
-stable f s t = from-two f s (let h = two-or-more f in let k = from-smallest (made-of f) s t in omega arith)
+stable f s t = from-two f s (permitted-range (made-of f) s t .0)

@@ -1,11 +1,12 @@
 -- What is claimed of the multiplier. Document 01, "Demand 3's attempt with fractions", and demand 3.
 use mathlib.Core.List.{List, [], _∷_}
-use Prim.Native.Nat.{ℕ, _+_, _-_, _*_}
+use Prim.Native.Nat.{ℕ}
 use lib.IntN.{pos}
 use Rattle.fractions.specs.Frac.{Frac, _⊗_, opp, int, frac, _⊘_, _≈_, _≼_, Between}
 use Rattle.fractions.specs.Lists.{entry, _·_, _≋_}
 use Rattle.fractions.specs.Polynomial.{eval}
 use Rattle.family.specs.Family.{Orthogonal, Legendre1, Legendre2, Gegenbauer1, Gegenbauer2}
+use Rattle.family.specs.Reach.{reach}
 use Rattle.coefficients.specs.Paper.{omega-one, mu, nu, mu-tilde, gamma-tilde}
 use Rattle.coefficients.specs.Exact.{attempt, multiplier}
 
@@ -28,12 +29,6 @@ Begins Gegenbauer2 p = Second-order p
 -- between −1 and 1 for every fraction z from −far to 0
 unfoldable pub Bounded : List Frac → Frac → Type 0
 Bounded p far = (z : Frac) → Between (opp far) z (int (pos 0)) → Between (opp (int (pos 1))) (eval p z) (int (pos 1))
-
-unfoldable pub reach : Orthogonal → ℕ → Frac
-reach Legendre1 s = frac (s * (s + 1)) 1
-reach Legendre2 s = frac ((s - 1) * (s + 2)) 2
-reach Gegenbauer1 s = frac (s * (s + 3)) 4
-reach Gegenbauer2 s = frac ((s - 1) * (s + 4)) 6
 
 pub record Stable (f : Orthogonal) (s : ℕ) : Type 0 where
   pub multiplies : (c step : Frac) (y : List Frac) → attempt f s c step y ≋ eval (multiplier f s) (step ⊗ c) · y
