@@ -30,6 +30,7 @@ Begins Gegenbauer2 p = Second-order p
 unfoldable pub Bounded : List Frac → Frac → Type 0
 Bounded p far = (z : Frac) → Between (opp far) z (int (pos 0)) → Between (opp (int (pos 1))) (eval p z) (int (pos 1))
 
+-- What is proved for every permitted s. The multiplier is given by family and s alone: c, step and y come after it.
 pub record Stable (f : Orthogonal) (s : ℕ) : Type 0 where
   pub multiplies : (c step : Frac) (y : List Frac) → attempt f s c step y ≋ eval (multiplier f s) (step ⊗ c) · y
   pub begins : Begins f (multiplier f s)
