@@ -68,11 +68,13 @@ room m k n h = omega (arith, mul-le-mul-right n h, suc-mul k n)
 
 -- ---- the vectors of an area
 
+pub long-at : (n : ℕ) (area : List Float) (b : Vector) → number b * n + n ≤ length area → length (unpack n area b) ≡ n
+unfolding unpack
+long-at n area b h = length-take-le n (drop (number b * n) area) (omega (arith, length-drop (number b * n) area))
+
 -- an area of eleven vectors, or more, has them all whole
 pub long-unpack : (n : ℕ) (area : List Float) → 11 * n ≤ length area → Long n (unpack n area)
-unfolding unpack
-long-unpack n area h b =
-    length-take-le n (drop (number b * n) area) (omega (arith, length-drop (number b * n) area, room 11 (number b) n (number-below b)))
+long-unpack n area h b = long-at n area b (omega (arith, room 11 (number b) n (number-below b)))
 
 -- so has every family's
 pub whole : (f : Family) (n : ℕ) (area : List Float) → length area ≡ vector-count f * n → 11 * n ≤ length area

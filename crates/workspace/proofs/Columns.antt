@@ -184,6 +184,9 @@ unpack-column : (n j : ℕ) (l : List Float) → j < n → at (unpack n l) j ≡
 unfolding unpack
 unpack-column n j l h = fun-ext (λ b. getD-take n (drop (number b * n) l) j nan h ∙ getD-drop (number b * n) l j nan)
 
+pub each-column : (n : ℕ) (l : List Float) (f : (Vector → Float) → Float) (j : ℕ) → j < n → getD (each n (unpack n l) f) j nan ≡ f (column n l j)
+each-column n l f j h = each-at n (unpack n l) f j h ∙ ap f (unpack-column n j l h)
+
 unpack-length : (n : ℕ) (l m : List Float) → length l ≡ length m → (b : Vector) → length (unpack n l b) ≡ length (unpack n m b)
 unfolding unpack
 unpack-length n l m e b = simp (length-take, length-drop) (ap (λ (k : ℕ). min n (k - number b * n)) e)

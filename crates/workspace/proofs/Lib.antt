@@ -4,3 +4,4 @@ pub mod Parts
 pub mod Front
 pub mod Finite
 pub mod Columns
+pub mod Rows

@@ -4,12 +4,12 @@ use mathlib.Core.Logic.{_⊎_, inl, inr, ⊎-elim}
 use mathlib.Core.Bool.{Bool, true, false, cond}
 use mathlib.Core.List.{List, [], _∷_, _++_}
 use Prim.Native.Nat.{ℕ, zero, suc, _+_, _-_, _*_, _≤_, _<_}
-use native.Mathlib.Nat.{suc-add, zero-add, suc-mul, mul-le-mul-right, eq-or-lt-of-le}
+use native.Mathlib.Nat.{suc-add, zero-add, suc-mul, mul-le-mul-right, eq-or-lt-of-le, le-refl}
 use native.Mathlib.Omega.{arith}
-use borrow.Author.Tests.{eq-eqb, ne-eqb}
+use borrow.Author.Tests.{eq-eqb, ne-eqb, ltb-true, ltb-false}
 use borrow.Rule.Slice.PartMut.{putMid, take-put, drop-put}
 use lib.Dec.{eqb, ltb}
-use lib.ListN.{length, take, drop}
+use lib.ListN.{length, take, drop, length-drop}
 use lib.Seq.{take-nil, take-take, drop-drop, take-at, drop-at, length-take-le, drop-append-le, take-append-le}
 use lib.Ieee.{Float}
 use Rattle.workspace.specs.Vectors.{Vector, Vectors, _with_≔_, number, named, unpack}
@@ -92,3 +92,43 @@ written-part k n a {ys} {x} h l long e =
     ap (λ (y : List Float). unpack n (putMid (k * n) (k * n + n - k * n) a y)) e
     ∙ ap (λ (m : ℕ). unpack n (putMid (m * n) (m * n + n - m * n) a x)) (sym q)
     ∙ unpack-back (named k) n a x long (omega (arith, room 11 (number (named k)) n (number-below (named k))))
+
+-- ---- the first ten vectors: the area without the candidate
+
+-- the first ten of one, and the others of the other
+infixl 10 _beside_
+abbrev pub _beside_ : Vectors → Vectors → Vectors
+(low beside high) b = cond (ltb (number b) 10) (low b) (high b)
+
+module _ (n : ℕ) (a : List Float) (fits : 11 * n ≤ length a) where
+  -- what is lent
+  ten-lent : (unpack n (take (10 * n - 0) a) beside unpack n a) ≡ unpack n a
+  unfolding unpack
+  ten-lent = fun-ext (λ b. go b (ltb (number b) 10) refl)
+    where
+      go : (b : Vector) (t : Bool) → ltb (number b) 10 ≡ t → cond t (take n (drop (number b * n) (take (10 * n - 0) a))) (take n (drop (number b * n) a)) ≡ take n (drop (number b * n) a)
+      go b true e = same-before (number b * n) n (take (10 * n - 0) a) a (10 * n - 0) (omega (arith, room 10 (number b) n (ltb-true (number b) 10 e))) (take-take (10 * n - 0) (10 * n - 0) a (le-refl (10 * n - 0)))
+      go b false e = refl
+
+  -- and what comes back
+  ten-back : (ys : List Float) → length ys ≡ 10 * n → unpack n (putMid 0 (10 * n - 0) a ys) ≡ (unpack n ys beside unpack n a)
+  unfolding unpack
+  ten-back ys long = fun-ext (λ b. go b (ltb (number b) 10) refl)
+    where
+      go : (b : Vector) (t : Bool) → ltb (number b) 10 ≡ t → take n (drop (number b * n) (putMid 0 (10 * n - 0) a ys)) ≡ cond t (take n (drop (number b * n) ys)) (take n (drop (number b * n) a))
+      go b true e =
+          let h : number b * n + n ≤ 10 * n = room 10 (number b) n (ltb-true (number b) 10 e) in
+          ap (take n) (drop-append-le (number b * n) ys (drop (10 * n - 0) a) (omega arith))
+          ∙ take-append-le n (drop (number b * n) ys) (drop (10 * n - 0) a) (omega (arith, length-drop (number b * n) ys))
+      go b false e =
+          let h : 10 ≤ number b = ltb-false (number b) 10 e in
+          same-after (number b * n) n (putMid 0 (10 * n - 0) a ys) a (10 * n) (mul-le-mul-right n h) (drop-put 0 (10 * n) a ys (omega arith) (omega arith) (omega arith))
+
+  -- a step that is done to the ten vectors lent, and leaves the others, is done to all
+  pub ten : (f : Vectors → Vectors) → ((v w : Vectors) → f (v beside w) ≡ (f v beside w)) → (ys : List Float) → length ys ≡ 10 * n
+      → unpack n ys ≡ f (unpack n (take (10 * n - 0) a)) → unpack n (putMid 0 (10 * n - 0) a ys) ≡ f (unpack n a)
+  ten f apart ys long e =
+      ten-back ys long
+      ∙ ap (λ (v : Vectors). v beside unpack n a) e
+      ∙ sym (apart (unpack n (take (10 * n - 0) a)) (unpack n a))
+      ∙ ap f ten-lent

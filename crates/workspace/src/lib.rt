@@ -4,12 +4,29 @@ ghost use Rattle.family.specs.Family.{family-of};
 ghost use Rattle.workspace.specs.Vectors.{vector-count};
 
 pub mod area;
+pub mod error;
+pub mod iteration;
+pub mod stages;
 
 pub use area::all_finite;
 pub use area::copy_vector;
 pub use area::fill_vector;
 pub use area::finite_vector;
 pub use area::put_vector;
+pub use error::error_norm;
+pub use error::last;
+pub use iteration::choose_direction;
+pub use iteration::iteration_ended;
+pub use iteration::perturb;
+pub use iteration::perturbation;
+pub use iteration::radius;
+pub use iteration::scaled_radius;
+pub use iteration::turn;
+pub use iteration::vector_norm;
+pub use stages::first_stage;
+pub use stages::keep_candidate;
+pub use stages::row;
+pub use stages::row_and_exchange;
 
 // What an attempt brings.
 pub struct Arguments {

@@ -1,0 +1,47 @@
+-- `last` meets its contract, with and without `adaptive`.
+use mathlib.Core.Path.{_≡_, sym, ap, _∙_}
+use mathlib.Core.Bool.{Bool, true, false, cond}
+use mathlib.Core.List.{List}
+use Prim.Native.Nat.{ℕ}
+use lib.Ieee.{Float}
+use Rattle.family.specs.Family.{Family, family-of}
+use Rattle.workspace.specs.declared.Arguments.{Arguments}
+use Rattle.workspace.specs.Vectors.{Vectors, _with_≔_, each, unpack, derivative, last-derivative}
+use Rattle.workspace.specs.Kernel.{with-last, error}
+use borrow.Author.Needs.{needs}
+use Rattle.workspace.proofs.error.last.Statement.{statement}
+use Rattle.workspace.proofs.error.last.Tie as tie
+
+taken : (f : Family) (n : ℕ) (a : Arguments) (v : Vectors) (d : List Float) {t : Bool} → a .adaptive ≡ t
+    → (let w = v with last-derivative ≔ d in cond t (w with derivative ≔ each n w (error f (a .step))) w) ≡ with-last f n a v d
+unfolding with-last
+taken f n a v d e = let w = v with last-derivative ≔ d in sym (ap (λ (t : Bool). cond t (w with derivative ≔ each n w (error f (a .step))) w) e)
+
+put-vector-requires : tie.Need-put-vector-requires
+put-vector-requires c κs = search needs
+
+put-error-requires : tie.Need-put-error-requires
+put-error-requires c κs = search needs
+
+same-length : tie.Need-same-length
+same-length c = search needs
+
+returns : tie.Need-returns
+returns c =
+    let x = c .before .before .before .before .before .before .before .before .before .before .before .args in
+    c .before .before .put-error .ensures
+    ∙ ap (λ (w : Vectors). w with derivative ≔ each (x .n) w (error (family-of (x .family)) (x .arguments .step))) (c .before .before .before .before .before .before .before .put-vector .ensures)
+    ∙ taken (family-of (x .family)) (x .n) (x .arguments) (unpack (x .n) (x .area .now)) (x .derivative .now) (c .before .before .before .before .if1 .taken)
+
+same-length-2 : tie.Need-same-length-2
+same-length-2 c = search needs
+
+returns-2 : tie.Need-returns-2
+returns-2 c =
+    let x = c .before .before .before .before .before .before .before .args in
+    c .before .before .before .put-vector .ensures ∙ taken (family-of (x .family)) (x .n) (x .arguments) (unpack (x .n) (x .area .now)) (x .derivative .now) (c .if1 .left)
+
+pub last-spec : {M : Type 1} → statement M
+last-spec =
+    tie.close
+    (tie.spec put-vector-requires put-error-requires same-length returns same-length-2 returns-2)

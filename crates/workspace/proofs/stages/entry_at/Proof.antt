@@ -1,0 +1,106 @@
+-- `entry_at` meets its contract: only the first family has a form of its own.
+use Rattle.workspace.proofs.Rows.{first-entry, later-entry}
+use mathlib.Core.Path.{_≡_, refl}
+use lib.Ieee.{ofBits}
+use Rattle.family.specs.Family.{family-of}
+use Rattle.coefficients.proofs.Numbers.{orthogonal}
+use Rattle.workspace.specs.Vectors.{column}
+use Rattle.workspace.specs.Kernel.{entry, chebyshev-entry, orthogonal-entry}
+use native.Mathlib.Omega.{arith}
+use Rattle.workspace.proofs.stages.entry_at.Statement.{statement}
+use Rattle.workspace.proofs.stages.entry_at.Tie as tie
+
+mul-one : tie.Need-mul-one
+mul-one c = omega arith
+
+add-one : tie.Need-add-one
+add-one c = omega arith
+
+mul-one-2 : tie.Need-mul-one-2
+mul-one-2 c = omega arith
+
+shared-slice-read-one : tie.Need-shared-slice-read-one
+shared-slice-read-one c = omega arith
+
+mul-two : tie.Need-mul-two
+mul-two c = omega arith
+
+add-two : tie.Need-add-two
+add-two c = omega arith
+
+mul-two-2 : tie.Need-mul-two-2
+mul-two-2 c = omega arith
+
+shared-slice-read-two : tie.Need-shared-slice-read-two
+shared-slice-read-two c = omega arith
+
+mul-initial : tie.Need-mul-initial
+mul-initial c = omega arith
+
+add-initial : tie.Need-add-initial
+add-initial c = omega arith
+
+mul-initial-2 : tie.Need-mul-initial-2
+mul-initial-2 c = omega arith
+
+shared-slice-read-initial : tie.Need-shared-slice-read-initial
+shared-slice-read-initial c = omega arith
+
+mul-slope : tie.Need-mul-slope
+mul-slope c = omega arith
+
+add-slope : tie.Need-add-slope
+add-slope c = omega arith
+
+mul-slope-2 : tie.Need-mul-slope-2
+mul-slope-2 c = omega arith
+
+shared-slice-read-slope : tie.Need-shared-slice-read-slope
+shared-slice-read-slope c = omega arith
+
+mul-first : tie.Need-mul-first
+mul-first c = omega arith
+
+add-first : tie.Need-add-first
+add-first c = omega arith
+
+mul-first-2 : tie.Need-mul-first-2
+mul-first-2 c = omega arith
+
+shared-slice-read-first : tie.Need-shared-slice-read-first
+shared-slice-read-first c = omega arith
+
+returns : tie.Need-returns
+unfolding chebyshev-entry ofBits
+returns c = let a = c .before .before .before .before .before .before .before .before .before .before .before .before .args in first-entry (a .family) (a .step) (a .c) (column (a .n) (a .ten .now) (a .i)) (c .before .before .match .keys1)
+
+returns-2 : tie.Need-returns-2
+unfolding orthogonal-entry ofBits
+returns-2 c = let a = c .before .before .before .before .before .before .before .before .before .before .before .before .args in later-entry (a .family) (a .step) (a .c) (column (a .n) (a .ten .now) (a .i)) (c .before .before .match .rest .1)
+
+pub entry-at-spec : {M : Type 1} → statement M
+entry-at-spec =
+    tie.close
+    (tie.spec
+    mul-one
+    add-one
+    mul-one-2
+    shared-slice-read-one
+    mul-two
+    add-two
+    mul-two-2
+    shared-slice-read-two
+    mul-initial
+    add-initial
+    mul-initial-2
+    shared-slice-read-initial
+    mul-slope
+    add-slope
+    mul-slope-2
+    shared-slice-read-slope
+    mul-first
+    add-first
+    mul-first-2
+    shared-slice-read-first
+    returns
+    returns-2)

@@ -1,0 +1,56 @@
+-- `row` meets its contract: the derivative written, then the loop over the ten vectors lent.
+use mathlib.Core.Path.{_≡_, ap, _∙_}
+use Prim.Native.Nat.{_*_}
+use lib.ListN.{length}
+use Rattle.family.specs.Family.{family-of}
+use Rattle.workspace.specs.Vectors.{Vectors, unpack}
+use Rattle.workspace.specs.Kernel.{entry, with-row}
+use Rattle.workspace.proofs.Parts.{ten}
+use Rattle.workspace.proofs.Rows.{rowed, row-beside}
+use native.Mathlib.Omega.{arith}
+use borrow.Author.Needs.{needs}
+use Rattle.workspace.proofs.stages.row.Statement.{statement}
+use Rattle.workspace.proofs.stages.row.Tie as tie
+
+put-vector-requires : tie.Need-put-vector-requires
+put-vector-requires c κs = search needs
+
+mul-end : tie.Need-mul-end
+mul-end c = search needs
+
+sub-row-in : tie.Need-sub-row-in
+sub-row-in c = search needs
+
+part-row-in-start : tie.Need-part-row-in-start
+part-row-in-start c = search needs
+
+part-row-in-end : tie.Need-part-row-in-end
+part-row-in-end c = search needs
+
+row-in-requires : tie.Need-row-in-requires
+row-in-requires c κs = search needs
+
+same-length : tie.Need-same-length
+same-length c = search needs
+
+returns : tie.Need-returns
+unfolding with-row
+returns c =
+    let x = c .before .before .before .before .before .before .before .before .before .before .args in
+    let a = c .before .before .before .before .before .before .put-vector .last .0 in
+    let f : Vectors → Vectors = rowed (x .n) (entry (family-of (x .family)) (x .step) (x .c)) in
+    ten (x .n) a (omega arith) f (row-beside (family-of (x .family)) (x .n) (x .step) (x .c)) (c .before .before .row-in .last .0) (omega arith) (c .before .before .row-in .ensures)
+    ∙ ap f (c .before .before .before .before .before .before .put-vector .ensures)
+
+pub row-spec : {M : Type 1} → statement M
+row-spec =
+    tie.close
+    (tie.spec
+    put-vector-requires
+    mul-end
+    sub-row-in
+    part-row-in-start
+    part-row-in-end
+    row-in-requires
+    same-length
+    returns)

@@ -1,0 +1,135 @@
+-- `row_and_exchange_in` meets its contract, by the law of a loop over columns with three rules.
+use mathlib.Core.Path.{_≡_, refl, _∙_}
+use mathlib.Core.List.{[], _∷_}
+use Prim.Native.Nat.{_-_, _*_}
+use lib.ListN.{length, length-set}
+use Rattle.family.specs.Family.{family-of}
+use Rattle.workspace.specs.Kernel.{entry}
+use Rattle.workspace.proofs.Rows.{exchange-rules, exchange-law}
+use Rattle.workspace.proofs.Columns.{Working, begin-among, turn, finish}
+use native.Mathlib.Omega.{arith}
+use Rattle.workspace.proofs.stages.row_and_exchange_in.Statement.{statement}
+use Rattle.workspace.proofs.stages.row_and_exchange_in.Tie as tie
+
+abbrev Inv-loop : tie.InvT-loop
+Inv-loop ten₀ n family c step i₀ ten i = Working 10 n (exchange-rules (entry (family-of family) step c)) ten₀ ten i × (length ten₀ ≡ 10 * n)
+
+abbrev μ-loop : tie.MeasureT-loop
+μ-loop ten₀ n family c step i₀ ten i = n - i
+
+loop-holds : tie.Need-loop-holds Inv-loop μ-loop
+loop-holds c = (begin-among 10 _ _ _ refl (omega arith), c .before .pre)
+
+entry-at-requires : tie.Need-entry-at-requires Inv-loop μ-loop
+entry-at-requires c κs = omega arith
+
+mul-one : tie.Need-mul-one Inv-loop μ-loop
+mul-one c = omega arith
+
+add-one : tie.Need-add-one Inv-loop μ-loop
+add-one c = omega arith
+
+mul-one-2 : tie.Need-mul-one-2 Inv-loop μ-loop
+mul-one-2 c = omega arith
+
+slice-read-one : tie.Need-slice-read-one Inv-loop μ-loop
+slice-read-one c = omega arith
+
+mul-two : tie.Need-mul-two Inv-loop μ-loop
+mul-two c = omega arith
+
+add-two : tie.Need-add-two Inv-loop μ-loop
+add-two c = omega arith
+
+mul-two-2 : tie.Need-mul-two-2 Inv-loop μ-loop
+mul-two-2 c = omega arith
+
+slice-read-two : tie.Need-slice-read-two Inv-loop μ-loop
+slice-read-two c = omega arith
+
+mul-ten : tie.Need-mul-ten Inv-loop μ-loop
+mul-ten c = omega arith
+
+add-ten : tie.Need-add-ten Inv-loop μ-loop
+add-ten c = omega arith
+
+mul-ten-2 : tie.Need-mul-ten-2 Inv-loop μ-loop
+mul-ten-2 c = omega arith
+
+slice-write-ten : tie.Need-slice-write-ten Inv-loop μ-loop
+slice-write-ten c = omega arith
+
+mul-ten-3 : tie.Need-mul-ten-3 Inv-loop μ-loop
+mul-ten-3 c = omega arith
+
+add-ten-2 : tie.Need-add-ten-2 Inv-loop μ-loop
+add-ten-2 c = omega arith
+
+mul-ten-4 : tie.Need-mul-ten-4 Inv-loop μ-loop
+mul-ten-4 c = omega arith
+
+slice-write-ten-2 : tie.Need-slice-write-ten-2 Inv-loop μ-loop
+slice-write-ten-2 c = simp length-set (omega arith)
+
+mul-ten-5 : tie.Need-mul-ten-5 Inv-loop μ-loop
+mul-ten-5 c = omega arith
+
+add-ten-3 : tie.Need-add-ten-3 Inv-loop μ-loop
+add-ten-3 c = omega arith
+
+mul-ten-6 : tie.Need-mul-ten-6 Inv-loop μ-loop
+mul-ten-6 c = omega arith
+
+slice-write-ten-3 : tie.Need-slice-write-ten-3 Inv-loop μ-loop
+slice-write-ten-3 c = simp length-set (omega arith)
+
+add-i : tie.Need-add-i Inv-loop μ-loop
+add-i c = omega arith
+
+loop-less : tie.Need-loop-less Inv-loop μ-loop
+loop-less c = omega arith
+
+loop-again : tie.Need-loop-again Inv-loop μ-loop
+loop-again c =
+    let r = c .before .before .before .before .before in
+    (turn (_ ∷ _ ∷ _ ∷ []) (r .loop .inv .0) (omega arith) (refl, (refl, (c .before .before .entry-at .ensures, tt))), r .loop .inv .1)
+
+same-length : tie.Need-same-length Inv-loop μ-loop
+same-length c = omega arith
+
+returns : tie.Need-returns Inv-loop μ-loop
+returns c = finish (c .before .loop .inv .0) (c .loop-test .left) ∙ exchange-law _ _ _ (omega arith)
+
+pub row-and-exchange-in-spec : {M : Type 1} → statement M
+row-and-exchange-in-spec =
+    tie.close
+    (tie.spec
+    Inv-loop
+    μ-loop
+    loop-holds
+    entry-at-requires
+    mul-one
+    add-one
+    mul-one-2
+    slice-read-one
+    mul-two
+    add-two
+    mul-two-2
+    slice-read-two
+    mul-ten
+    add-ten
+    mul-ten-2
+    slice-write-ten
+    mul-ten-3
+    add-ten-2
+    mul-ten-4
+    slice-write-ten-2
+    mul-ten-5
+    add-ten-3
+    mul-ten-6
+    slice-write-ten-3
+    add-i
+    loop-less
+    loop-again
+    same-length
+    returns)

@@ -1,0 +1,108 @@
+// The end of `attempt_step`: the error vector of each family and its norm.
+ghost use mathlib.Core.Path.{_≡_};
+ghost use Prim.Native.Nat.{_*_, _^_, _≤_, _<_};
+ghost use lib.ListN.{length};
+ghost use Rattle.family.specs.Family.{family-of};
+ghost use Rattle.workspace.specs.Vectors.{column, unpack, _with_≔_, each, sum-of-squares, derivative};
+ghost use Rattle.workspace.specs.Kernel as kernel;
+ghost use Rattle.workspace.specs.Kernel.{with-last, scaled-error, error-norm};
+use crate::Arguments;
+use crate::CANDIDATE;
+use crate::DERIVATIVE;
+use crate::FIRST_DERIVATIVE;
+use crate::LAST_DERIVATIVE;
+use crate::STATE;
+use crate::area::put_vector;
+use crate::iteration::root_of;
+
+// An element of the error, from its column.
+fn error_at(area: &[f64], n: usize, i: usize, family: u64, step: f64) -> f64
+    requires { ⌜ 11 * n ≤ length (now area) ⌝ }
+    requires { ⌜ i < n ⌝ }
+    ensures { λ r. ⌜ r ≡ kernel.error (family-of family) step (column n (now (area .entry)) i) ⌝ }
+{
+    let initial = area[STATE * n + i];
+    let last = area[CANDIDATE * n + i];
+    let first = area[FIRST_DERIVATIVE * n + i];
+    match family {
+        1 => (4.0 * (initial - last) + 2.0 * step * (first + area[LAST_DERIVATIVE * n + i])) / 5.0,
+        _ => last - (initial + step * first),
+    }
+}
+
+// The error goes where the derivative stood.
+fn put_error(area: &mut [f64], n: usize, family: u64, step: f64)
+    requires { ⌜ 11 * n ≤ length (now area) ⌝ }
+    ensures { λ _. ⌜ unpack n (now (area .exit)) ≡ (unpack n (now (area .entry)) with derivative ≔ each n (unpack n (now (area .entry))) (kernel.error (family-of family) step)) ⌝ }
+{
+    let mut i = 0;
+    while i < n {
+        let x = error_at(area, n, i, family, step);
+        area[DERIVATIVE * n + i] = x;
+        i += 1;
+    }
+}
+
+// The last derivative taken, and the error with `adaptive`.
+pub fn last(area: &mut [f64], n: usize, family: u64, arguments: Arguments, derivative: &[f64])
+    requires { ⌜ 11 * n ≤ length (now area) ⌝ }
+    requires { ⌜ length (now derivative) ≡ n ⌝ }
+    ensures { λ _. ⌜ unpack n (now (area .exit)) ≡ with-last (family-of family) n arguments (unpack n (now (area .entry))) (now (derivative .entry)) ⌝ }
+{
+    put_vector(area, n, LAST_DERIVATIVE, derivative);
+    if arguments.adaptive {
+        put_error(area, n, family, arguments.step);
+    }
+}
+
+// An element of the error over its tolerance.
+fn scaled_error_at(area: &[f64], n: usize, i: usize, arguments: Arguments) -> f64
+    requires { ⌜ 11 * n ≤ length (now area) ⌝ }
+    requires { ⌜ i < n ⌝ }
+    ensures { λ r. ⌜ r ≡ scaled-error arguments (column n (now (area .entry)) i) ⌝ }
+{
+    let size = ieee::max(
+        ieee::abs(area[STATE * n + i]),
+        ieee::abs(area[CANDIDATE * n + i]),
+    );
+    area[DERIVATIVE * n + i] / (arguments.absolute_tolerance + arguments.relative_tolerance * size)
+}
+
+fn sum_of_scaled(area: &[f64], n: usize, arguments: Arguments) -> f64
+    requires { ⌜ 11 * n ≤ length (now area) ⌝ }
+    ensures { λ r. ⌜ r ≡ sum-of-squares (each n (unpack n (now (area .entry))) (scaled-error arguments)) ⌝ }
+{
+    let mut t = 0.0;
+    let mut i = 0;
+    while i < n {
+        let x = scaled_error_at(area, n, i, arguments);
+        t = t + x * x;
+        i += 1;
+    }
+    t
+}
+
+// What the norm is divided by.
+fn divisor(family: u64, stages: u64) -> f64
+    requires { ⌜ stages < 2 ^ 53 ⌝ }
+    ensures { λ r. ⌜ r ≡ kernel.divisor (family-of family) stages ⌝ }
+{
+    match family {
+        1 => 1.0,
+        _ => ieee::double_of(stages),
+    }
+}
+
+// The scaled error norm; 0 without `adaptive`.
+pub fn error_norm(area: &[f64], n: usize, family: u64, stages: u64, arguments: Arguments) -> f64
+    requires { ⌜ 11 * n ≤ length (now area) ⌝ }
+    requires { ⌜ (n < 2 ^ 53) × (stages < 2 ^ 53) ⌝ }
+    ensures { λ r. ⌜ r ≡ error-norm (family-of family) n stages arguments (unpack n (now (area .entry))) ⌝ }
+{
+    if arguments.adaptive {
+        let norm = root_of(sum_of_scaled(area, n, arguments), ieee::double_of(n as u64));
+        norm / divisor(family, stages)
+    } else {
+        0.0
+    }
+}

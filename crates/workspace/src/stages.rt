@@ -1,0 +1,116 @@
+// The stages of `run_orthogonal_polynomial` and `run_rkc`: stages 0 and 1, the rows, the exchange after a row, the candidate.
+ghost use mathlib.Core.Path.{_≡_};
+ghost use Prim.Native.Nat.{_*_, _≤_, _<_};
+ghost use lib.ListN.{length};
+ghost use Rattle.family.specs.Family.{family-of};
+ghost use Rattle.workspace.specs.Vectors.{column, unpack, _with_≔_, each, next-stage};
+ghost use Rattle.workspace.specs.Kernel.{first-stage, entry, with-row, exchanged, with-candidate};
+use crate::CANDIDATE;
+use crate::DERIVATIVE;
+use crate::FIRST_DERIVATIVE;
+use crate::NEXT_STAGE;
+use crate::PREVIOUS_ONE;
+use crate::PREVIOUS_TWO;
+use crate::STATE;
+use crate::area::copy_vector;
+use crate::area::put_vector;
+use coefficients::Coefficients;
+
+// Stages 0 and 1.
+pub fn first_stage(area: &mut [f64], n: usize, step: f64, mu_tilde: f64)
+    requires { ⌜ 11 * n ≤ length (now area) ⌝ }
+    ensures { λ _. ⌜ unpack n (now (area .exit)) ≡ first-stage n step «mu_tilde» (unpack n (now (area .entry))) ⌝ }
+{
+    let mut i = 0;
+    while i < n {
+        let initial = area[STATE * n + i];
+        let first = area[FIRST_DERIVATIVE * n + i];
+        area[PREVIOUS_TWO * n + i] = initial;
+        area[PREVIOUS_ONE * n + i] = initial + step * mu_tilde * first;
+        i += 1;
+    }
+}
+
+// An element of the row, from its column. `ten` is the area without the candidate: a row reads other vectors
+// than the one it writes, so it is lent the shortest part that holds them all.
+fn entry_at(ten: &[f64], n: usize, i: usize, family: u64, c: Coefficients, step: f64) -> f64
+    requires { ⌜ length (now ten) ≡ 10 * n ⌝ }
+    requires { ⌜ i < n ⌝ }
+    ensures { λ r. ⌜ r ≡ entry (family-of family) step c (column n (now (ten .entry)) i) ⌝ }
+{
+    let one = ten[PREVIOUS_ONE * n + i];
+    let two = ten[PREVIOUS_TWO * n + i];
+    let initial = ten[STATE * n + i];
+    let slope = ten[DERIVATIVE * n + i];
+    let first = ten[FIRST_DERIVATIVE * n + i];
+    let sum = c.mu * one + c.nu * two + (1.0 - c.mu - c.nu) * initial;
+    match family {
+        1 => sum + step * c.mu_tilde * (slope - c.gamma_tilde * first),
+        _ => sum + step * c.mu_tilde * slope + step * c.gamma_tilde * first,
+    }
+}
+
+fn row_in(ten: &mut [f64], n: usize, family: u64, c: Coefficients, step: f64)
+    requires { ⌜ length (now ten) ≡ 10 * n ⌝ }
+    ensures { λ _. ⌜ unpack n (now (ten .exit)) ≡ (unpack n (now (ten .entry)) with next-stage ≔ each n (unpack n (now (ten .entry))) (entry (family-of family) step c)) ⌝ }
+{
+    let mut i = 0;
+    while i < n {
+        let x = entry_at(ten, n, i, family, c, step);
+        ten[NEXT_STAGE * n + i] = x;
+        i += 1;
+    }
+}
+
+// The row and the exchange in one pass over the columns.
+fn row_and_exchange_in(ten: &mut [f64], n: usize, family: u64, c: Coefficients, step: f64)
+    requires { ⌜ length (now ten) ≡ 10 * n ⌝ }
+    ensures { λ _. ⌜ unpack n (now (ten .exit)) ≡ exchanged (unpack n (now (ten .entry)) with next-stage ≔ each n (unpack n (now (ten .entry))) (entry (family-of family) step c)) ⌝ }
+{
+    let mut i = 0;
+    while i < n {
+        let x = entry_at(ten, n, i, family, c, step);
+        let one = ten[PREVIOUS_ONE * n + i];
+        let two = ten[PREVIOUS_TWO * n + i];
+        ten[NEXT_STAGE * n + i] = two;
+        ten[PREVIOUS_TWO * n + i] = one;
+        ten[PREVIOUS_ONE * n + i] = x;
+        i += 1;
+    }
+}
+
+// A stage's derivative taken: the row. So it stands after the last stage.
+pub fn row(area: &mut [f64], n: usize, family: u64, c: Coefficients, step: f64, derivative: &[f64])
+    requires { ⌜ 11 * n ≤ length (now area) ⌝ }
+    requires { ⌜ length (now derivative) ≡ n ⌝ }
+    ensures { λ _. ⌜ unpack n (now (area .exit)) ≡ with-row (family-of family) n step c (unpack n (now (area .entry))) (now (derivative .entry)) ⌝ }
+{
+    put_vector(area, n, DERIVATIVE, derivative);
+    let end = 10 * n;
+    row_in(&mut area[0..end], n, family, c, step);
+}
+
+// The row, and the exchange of the two stages before it, after any other stage.
+pub fn row_and_exchange(
+    area: &mut [f64],
+    n: usize,
+    family: u64,
+    c: Coefficients,
+    step: f64,
+    derivative: &[f64],
+)
+    requires { ⌜ 11 * n ≤ length (now area) ⌝ }
+    requires { ⌜ length (now derivative) ≡ n ⌝ }
+    ensures { λ _. ⌜ unpack n (now (area .exit)) ≡ exchanged (with-row (family-of family) n step c (unpack n (now (area .entry))) (now (derivative .entry))) ⌝ }
+{
+    put_vector(area, n, DERIVATIVE, derivative);
+    let end = 10 * n;
+    row_and_exchange_in(&mut area[0..end], n, family, c, step);
+}
+
+pub fn keep_candidate(area: &mut [f64], n: usize)
+    requires { ⌜ 11 * n ≤ length (now area) ⌝ }
+    ensures { λ _. ⌜ unpack n (now (area .exit)) ≡ with-candidate (unpack n (now (area .entry))) ⌝ }
+{
+    copy_vector(area, n, NEXT_STAGE, CANDIDATE);
+}
