@@ -1,0 +1,46 @@
+-- `cases::intervals` is safe and ends: s runs from 2 to 200.
+use Prim.Native.Nat.{_-_, _≤_}
+use borrow.Author.Needs.{needs}
+use Rattle.cases.proofs.intervals.Statement.{statement}
+use Rattle.cases.proofs.intervals.Tie as tie
+
+abbrev Inv-loop : tie.InvT-loop
+Inv-loop t₀ s₀ t s = s ≤ 201
+
+abbrev μ-loop : tie.MeasureT-loop
+μ-loop t₀ s₀ t s = 201 - s
+
+loop-holds : tie.Need-loop-holds Inv-loop μ-loop
+loop-holds c = search needs
+
+interval-agrees-requires : tie.Need-interval-agrees-requires Inv-loop μ-loop
+interval-agrees-requires c κs = search needs
+
+counted-requires : tie.Need-counted-requires Inv-loop μ-loop
+counted-requires c κs = search needs
+
+add-s : tie.Need-add-s Inv-loop μ-loop
+add-s c = search needs
+
+loop-less : tie.Need-loop-less Inv-loop μ-loop
+loop-less c = search needs
+
+loop-again : tie.Need-loop-again Inv-loop μ-loop
+loop-again c = search needs
+
+returns : tie.Need-returns Inv-loop μ-loop
+returns c = search needs
+
+pub intervals-spec : {M : Type 1} → statement M
+intervals-spec =
+    tie.close
+    (tie.spec
+    Inv-loop
+    μ-loop
+    loop-holds
+    interval-agrees-requires
+    counted-requires
+    add-s
+    loop-less
+    loop-again
+    returns)
