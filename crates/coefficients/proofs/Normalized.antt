@@ -25,7 +25,7 @@ module _ (e : ℕ) where
   D x (suc zero) = x
   D x (suc (suc i)) = ((α i ⊕ β i) ⊗ x ⊗ D x (suc i) ⊖ β i ⊗ D x i) ⊗ 1 over (suc (i + e))
 
-  pub α-is : (i : ℕ) → α i ≈ β i ⊕ int (pos (suc e))
+  α-is : (i : ℕ) → α i ≈ β i ⊕ int (pos (suc e))
   α-is i = subst (λ (n : ℕ). int (pos n) ≈ β i ⊕ int (pos (suc e))) (let p : suc i + suc e ≡ suc (suc (i + e)) = omega arith in p) (int-+ (pos (suc i)) (pos (suc e)))
 
   pub D-rec : (x : Frac) (i : ℕ) → α i ⊗ D x (suc (suc i)) ≈ (α i ⊕ β i) ⊗ x ⊗ D x (suc i) ⊖ β i ⊗ D x i

@@ -1,4 +1,4 @@
--- What the papers' fractions come to, multiplied out: mu, nu, gamma-tilde and first-mu-tilde by ω1 and b times the polynomial's value at 1.
+-- What the papers' fractions come to, multiplied out: mu, nu, gamma-tilde and first-mu-tilde by ω1 and b̂, which is b times the polynomial's value at 1; and ω1 and b̂ in whole numbers. From specs/Paper alone.
 use mathlib.Core.Path.{_≡_, refl, ap, ap₂, subst}
 use mathlib.Core.List.{[], _∷_}
 use Prim.Native.Nat.{ℕ, zero, suc, _+_, _*_, _-_}
@@ -14,16 +14,18 @@ use Rattle.coefficients.proofs.Normalized.{α, β}
 use Rattle.family.specs.Family.{Orthogonal, Legendre1, Legendre2, Gegenbauer1, Gegenbauer2}
 use Rattle.coefficients.specs.Paper.{omega-one, b, b-later, b-zero, b-one, value-at-one, a, mu-factor, nu-factor, mu, nu, mu-tilde, gamma-tilde, first-mu-tilde}
 
+-- the e of Normalized
 abbrev pub extra : Orthogonal → ℕ
 extra Legendre1 = 0
 extra Legendre2 = 0
 extra Gegenbauer1 = 2
 extra Gegenbauer2 = 2
 
+-- b̂, from 0 to 1: b times the polynomial's value at 1
 abbrev pub b-hat : Orthogonal → ℕ → Frac
 b-hat f j = b f j ⊗ value-at-one f j
 
-pub b-above : (f : Orthogonal) (j : ℕ) → Above (b f j)
+b-above : (f : Orthogonal) (j : ℕ) → Above (b f j)
 unfolding b b-later b-zero b-one
 b-above Legendre1 zero = above-nat 0
 b-above Legendre1 (suc zero) = above-nat 0
@@ -133,7 +135,7 @@ nu-is f i = subst (λ (k : ℕ). A ⊗ (opp (F ⊗ (b2 ⊘ b f k)) ⊗ (b0 ⊗ t
     b2 : Frac
     b2 = b f (suc (suc i))
 
--- b times the polynomial's largest value, from stage 2 on
+-- b̂ from stage 2 on
 pub b-hat-L1 : (i : ℕ) → Is (b-hat Legendre1 (suc (suc i))) (1 * 1) (1 * 1)
 unfolding b b-later value-at-one
 b-hat-L1 i = is-* (is-nat 1) (is-nat 1)
