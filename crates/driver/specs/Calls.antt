@@ -158,13 +158,19 @@ pending P.Candidate = true
 pending P.Finished = false
 pending P.Callback = true
 
+abbrev pub good-pass : ℕ → Bool
+good-pass k = leb 1 k && leb k 12
+
+abbrev pub good-stage : ℕ → ℕ → ℕ → Bool
+good-stage f s j = permitted (family-of f) s && (leb 2 j && leb j s)
+
 -- what a phase uses of the record is in range: the pass, s, the stage
 unfoldable pub in-range : Phase → Record → Bool
 in-range P.Empty r = true
 in-range P.First r = true
 in-range P.Ready r = true
-in-range P.Pass r = leb 1 (r .iteration .pass) && leb (r .iteration .pass) 12
-in-range P.Stage r = permitted (family-of (r .family)) (r .staging .stages) && (leb 2 (r .staging .stage) && leb (r .staging .stage) (r .staging .stages))
+in-range P.Pass r = good-pass (r .iteration .pass)
+in-range P.Stage r = good-stage (r .family) (r .staging .stages) (r .staging .stage)
 in-range P.Candidate r = permitted (family-of (r .family)) (r .staging .stages)
 in-range P.Finished r = true
 in-range P.Callback r = true

@@ -1,7 +1,14 @@
 // driver.rs: the six calls. A record goes in by value and comes back by value; the area and the inputs
 // are slices; no call requires anything of its caller.
+ghost use mathlib.Core.Path.{_≡_};
+ghost use Rattle.driver.specs.Calls as calls;
+ghost use Rattle.driver.specs.Promises.{Meets, Keeps, holding, refusal, new-record, no-recurrence};
+use coefficients::Polynomials;
 use coefficients::Recurrence;
 use workspace::Arguments;
+
+mod checks;
+mod position;
 
 // Where a record is between two calls.
 pub enum Phase {
@@ -71,4 +78,191 @@ pub struct Replied {
 pub enum Need {
     Met(u64),
     Unmet(u64),
+}
+
+// A record that was never started: in the empty phase, of no family.
+pub fn new_record() -> Record
+    ensures { λ r. ⌜ r ≡ new-record ⌝ }
+{
+    Record {
+        family: 0,
+        n: 0,
+        phase: Phase::Empty,
+        arguments: Arguments {
+            time: 0.0,
+            step: 0.0,
+            absolute_tolerance: 0.0,
+            relative_tolerance: 0.0,
+            adaptive: false,
+        },
+        iteration: Iteration {
+            pass: 0,
+            perturbation: 0.0,
+            previous_radius: 0.0,
+            scaled_radius: 0.0,
+        },
+        staging: Staging {
+            stages: 0,
+            stage: 0,
+            recurrence: no_recurrence(),
+        },
+    }
+}
+
+fn no_recurrence() -> Recurrence
+    ensures { λ r. ⌜ r ≡ no-recurrence ⌝ }
+{
+    Recurrence {
+        theta_previous: 0.0,
+        theta_previous_two: 0.0,
+        polynomials: Polynomials {
+            b_previous: 0.0,
+            b_previous_two: 0.0,
+            value_previous: 0.0,
+            value_previous_two: 0.0,
+            first_previous: 0.0,
+            first_previous_two: 0.0,
+            second_previous: 0.0,
+            second_previous_two: 0.0,
+        },
+    }
+}
+
+// Turned away: the record stands.
+fn refused(record: Record, number: u64) -> Next
+    ensures { λ r. ⌜ r ≡ refusal number «record» ⌝ }
+{
+    Next {
+        answer: Answer::Refused(number),
+        record,
+    }
+}
+
+// Keeps the state and calls for its derivative. Allowed in every phase.
+pub fn start(
+    record: Record,
+    area: &mut [f64],
+    family: u64,
+    n: usize,
+    state: &[f64],
+    time: f64,
+) -> Next
+    ensures { λ r. ⌜ Keeps (λ c. calls.start (holding «record» c (now (area .entry))) family n (now (state .entry)) time) r (now (area .exit)) ⌝ }
+{
+    if !checks::known(family) {
+        return refused(record, 1);
+    }
+    if !checks::sized(n) {
+        return refused(record, 2);
+    }
+    if !checks::both_long(family, n, area, state) {
+        return refused(record, 3);
+    }
+    if !workspace::all_finite(state) {
+        return refused(record, 5);
+    }
+    if !ieee::is_finite(time) {
+        return refused(record, 6);
+    }
+    workspace::put_vector(area, n, workspace::STATE, state);
+    workspace::fill_vector(area, n, workspace::EIGENVECTOR, 0.0);
+    let waiting = position::first_at(record, Phase::First, family, n, time);
+    Next {
+        answer: Answer::Evaluate {
+            time,
+            vector: workspace::STATE,
+        },
+        record: waiting,
+    }
+}
+
+// After a finished attempt: its candidate and last derivative are where the next attempt begins.
+pub fn accept(record: Record, area: &mut [f64]) -> Next
+    ensures { λ r. ⌜ Keeps (λ c. calls.accept (holding «record» c (now (area .entry)))) r (now (area .exit)) ⌝ }
+{
+    let n = record.n;
+    let phase = record.phase;
+    if !checks::known(record.family) {
+        return refused(record, 1);
+    }
+    if !checks::sized(n) {
+        return refused(record, 2);
+    }
+    if !checks::whole_area(record.family, n, area) {
+        return refused(record, 3);
+    }
+    if !checks::may_accept(phase) {
+        return refused(record, 4);
+    }
+    workspace::copy_vector(
+        area,
+        n,
+        workspace::LAST_DERIVATIVE,
+        workspace::FIRST_DERIVATIVE,
+    );
+    workspace::copy_vector(area, n, workspace::CANDIDATE, workspace::STATE);
+    let ready = position::in_phase(record, Phase::Ready);
+    Next {
+        answer: Answer::Ready,
+        record: ready,
+    }
+}
+
+// After a finished attempt: the caller's own state and time are where the next attempt begins.
+pub fn accept_with_callback(record: Record, area: &mut [f64], state: &[f64], time: f64) -> Next
+    ensures { λ r. ⌜ Keeps (λ c. calls.accept-with-callback (holding «record» c (now (area .entry))) (now (state .entry)) time) r (now (area .exit)) ⌝ }
+{
+    let n = record.n;
+    let phase = record.phase;
+    if !checks::known(record.family) {
+        return refused(record, 1);
+    }
+    if !checks::sized(n) {
+        return refused(record, 2);
+    }
+    if !checks::both_long(record.family, n, area, state) {
+        return refused(record, 3);
+    }
+    if !checks::may_accept(phase) {
+        return refused(record, 4);
+    }
+    if !workspace::all_finite(state) {
+        return refused(record, 5);
+    }
+    if !ieee::is_finite(time) {
+        return refused(record, 6);
+    }
+    workspace::put_vector(area, n, workspace::STATE, state);
+    let waiting = position::first_at(record, Phase::Callback, record.family, n, time);
+    Next {
+        answer: Answer::Evaluate {
+            time,
+            vector: workspace::STATE,
+        },
+        record: waiting,
+    }
+}
+
+// Ends the pending evaluation, uncounted.
+pub fn abandon(record: Record, area: &[f64]) -> Next
+    ensures { λ r. ⌜ Keeps (λ c. calls.abandon (holding «record» c (now (area .entry)))) r (now (area .entry)) ⌝ }
+{
+    let n = record.n;
+    if !checks::known(record.family) {
+        return refused(record, 1);
+    }
+    if !checks::sized(n) {
+        return refused(record, 2);
+    }
+    if !checks::whole_area(record.family, n, area) {
+        return refused(record, 3);
+    }
+    if !checks::awaiting(record) {
+        return refused(record, 4);
+    }
+    let empty = position::in_phase(record, Phase::Empty);
+    Next {
+        answer: Answer::Empty,
+        record: empty,
+    }
 }

@@ -1,0 +1,57 @@
+-- Tests in a row: what a conjunction, and a chain of checks, is where the code has found its tests to hold or to fail.
+use mathlib.Core.Path.{_≡_, refl, sym, ap, subst, _∙_}
+use mathlib.Core.Bool.{Bool, true, false, not, _&&_, _||_}
+use mathlib.Core.List.{List}
+use Prim.Native.Nat.{ℕ}
+use borrow.Author.Tests.{not-true, not-false}
+use lib.Ieee.{Float}
+use Rattle.driver.specs.declared.Answer.{Answer}
+use Rattle.driver.specs.declared.Record.{Record}
+use Rattle.driver.specs.declared.Counters.{Counters}
+use Rattle.driver.specs.declared.Next.{Next}
+use Rattle.driver.specs.Answers.{Says}
+use Rattle.driver.specs.Calls.{Held, Called, check}
+use Rattle.driver.specs.Promises.{Keeps, holding, refusal}
+
+-- a test as the code has it, r, and as the definition has it, t
+pub fails : {r t : Bool} → r ≡ t → not r ≡ true → t ≡ false
+fails e h = sym e ∙ not-true _ h
+
+pub passes : {r t : Bool} → r ≡ t → not r ≡ false → t ≡ true
+passes e h = sym e ∙ not-false _ h
+
+-- ---- two tests
+
+pub stop : {a : Bool} (b : Bool) → a ≡ false → false ≡ (a && b)
+stop b e = sym (ap (λ (x : Bool). x && b) e)
+
+pub go-on : {a b r : Bool} → a ≡ true → r ≡ b → r ≡ (a && b)
+go-on {b = b} e h = h ∙ sym (ap (λ (x : Bool). x && b) e)
+
+-- a test that only some are put to
+pub put-to : {a b r : Bool} → a ≡ true → r ≡ b → r ≡ (not a || b)
+put-to {b = b} e h = h ∙ sym (ap (λ (x : Bool). not x || b) e)
+
+pub spared : {a : Bool} (b : Bool) → a ≡ false → true ≡ (not a || b)
+spared b e = sym (ap (λ (x : Bool). not x || b) e)
+
+-- an arm of a match: what holds of the arm's own case, said of the value as it came
+pub arm : {A : Type 0} {p q : A} {b : Bool} (test : A → Bool) → q ≡ p → b ≡ test p → b ≡ test q
+arm test e h = h ∙ ap test (sym e)
+
+-- ---- a call's tests
+
+pub says : {a b : Answer} → a ≡ b → Says a b
+says {a} e = subst (λ (b : Answer). Says a b) e (record { same-case = refl; same-values = refl })
+
+-- turned away by this test
+pub away : {r : Record} {k : ℕ} {test : Bool} (area : List Float) (go : Counters → Called) {x : Next} → test ≡ false → x ≡ refusal k r
+    → Keeps (λ c. check (holding r c area) k test (go c)) x area
+unfolding check
+away area go e q = λ c. rw e (record { answer = says (ap (λ (x : Next). x .answer) q); kept = ap (λ (x : Next). x .«record») q; counters = refl; area = refl })
+
+-- not by this one
+pub past : (h : Counters → Held) (k : ℕ) {test : Bool} {go : Counters → Called} {x : Next} {left : List Float} → test ≡ true → Keeps go x left
+    → Keeps (λ c. check (h c) k test (go c)) x left
+unfolding check
+past h k e m = λ c. rw e (m c)

@@ -1,0 +1,3 @@
+pub mod Ladder
+pub mod Sizes
+pub mod Steps

@@ -1,0 +1,42 @@
+-- Lengths, from the tests of them.
+use mathlib.Core.Path.{_≡_, refl}
+use mathlib.Core.Bool.{Bool, true, false, _&&_, false≢true}
+use mathlib.Core.List.{List}
+use Prim.Native.Nat.{ℕ, _*_, _≤_}
+use native.Mathlib.Omega.{arith}
+use borrow.Author.Tests.{leb-true, eqb-true}
+use lib.Dec.{leb}
+use lib.ListN.{length}
+use lib.Ieee.{Float}
+use Rattle.family.specs.Family.{Family, family-of, RKC, RKL1, RKL2, RKG1, RKG2}
+use Rattle.workspace.specs.Vectors.{vector-count}
+use Rattle.driver.specs.Calls.{sized, whole-area, as-long}
+
+pub eleven : (f : Family) → vector-count f ≡ 11
+unfolding vector-count
+eleven RKC = refl
+eleven RKL1 = refl
+eleven RKL2 = refl
+eleven RKG1 = refl
+eleven RKG2 = refl
+
+pub both : (a b : Bool) → (a && b) ≡ true → (a ≡ true) × (b ≡ true)
+both true b e = (refl, e)
+both false b e = absurd (false≢true e)
+
+pub most : (n : ℕ) → sized n ≡ true → n ≤ 512
+unfolding sized
+most n e = leb-true n 512 (both (leb 1 n) (leb n 512) e .1)
+
+pub area-long : (f n : ℕ) (area : List Float) → whole-area f n area ≡ true → length area ≡ vector-count (family-of f) * n
+unfolding whole-area
+area-long f n area e = eqb-true (length area) (vector-count (family-of f) * n) e
+
+-- the area's and the brought vector's
+pub both-long : (f n : ℕ) (area v : List Float) → (whole-area f n area && as-long n v) ≡ true → (length area ≡ vector-count (family-of f) * n) × (length v ≡ n)
+unfolding as-long
+both-long f n area v e = let t = both (whole-area f n area) (as-long n v) e in (area-long f n area (t .0), eqb-true (length v) n (t .1))
+
+-- the area of the largest n
+pub at-most : (k n : ℕ) → k ≡ 11 → n ≤ 512 → k * n ≤ 5632
+at-most k n e h = rw e (omega arith)

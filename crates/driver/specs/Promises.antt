@@ -1,0 +1,59 @@
+-- The promises of the calls in code: answer, record, counters and area, each an equation with the definition, for every input.
+use Prim.Native.Nat.{ℕ}
+use mathlib.Core.Path.{_≡_}
+use mathlib.Core.Bool.{false}
+use mathlib.Core.List.{List}
+use lib.Ieee.{Float}
+use Rattle.ieee.specs.Double.{nought}
+use Rattle.workspace.specs.declared.Arguments.{Arguments}
+use Rattle.workspace.specs.Vectors.{Vectors}
+use Rattle.coefficients.specs.declared.Polynomials.{Polynomials}
+use Rattle.coefficients.specs.declared.Recurrence.{Recurrence}
+use Rattle.driver.specs.declared.Phase.the-variants as P
+use Rattle.driver.specs.declared.Iteration.{Iteration}
+use Rattle.driver.specs.declared.Staging.{Staging}
+use Rattle.driver.specs.declared.Record.{Record}
+use Rattle.driver.specs.declared.Counters.{Counters}
+use Rattle.driver.specs.declared.Answer.{Answer}
+use Rattle.driver.specs.declared.Answer.the-variants.{Refused}
+use Rattle.driver.specs.declared.Next.{Next}
+use Rattle.driver.specs.Answers.{Says}
+use Rattle.driver.specs.Calls.{Held, Called, Step}
+
+-- what a call is handed
+abbrev pub holding : Record → Counters → List Float → Held
+holding r c area = record { kept = r; counters = c; area = area }
+
+-- what it hands back and leaves
+pub record Meets (promised : Called) (given : Answer) (r : Record) (c : Counters) (left : List Float) : Type 0 where
+  pub answer : Says given (promised .answer)
+  pub kept : r ≡ promised .held .kept
+  pub counters : c ≡ promised .held .counters
+  pub area : left ≡ promised .held .area
+
+abbrev pub refusal : ℕ → Record → Next
+refusal k r = record { answer = Refused k; «record» = r }
+
+-- a call that is lent no counters: whatever they are, they stand
+abbrev pub Keeps : (Counters → Called) → Next → List Float → Type 0
+Keeps promised x left = (c : Counters) → Meets (promised c) (x .answer) (x .«record») c left
+
+-- a step of a reply or an attempt, before the area is taken as a whole
+pub record Steps (promised : Step) (x : Next) (left : Vectors) : Type 0 where
+  pub answer : Says (x .answer) (promised .answer)
+  pub kept : x .«record» ≡ promised .kept
+  pub vectors : left ≡ promised .vectors
+
+-- ---- a record that was never started: it is refused by every call but start (its family is none)
+
+abbrev pub no-recurrence : Recurrence
+no-recurrence =
+    let p : Polynomials = record { «b_previous» = nought; «b_previous_two» = nought; «value_previous» = nought; «value_previous_two» = nought; «first_previous» = nought; «first_previous_two» = nought; «second_previous» = nought; «second_previous_two» = nought } in
+    record { «theta_previous» = nought; «theta_previous_two» = nought; polynomials = p }
+
+abbrev pub new-record : Record
+new-record =
+    let staging : Staging = record { stages = 0; stage = 0; recurrence = no-recurrence } in
+    let iteration : Iteration = record { pass = 0; perturbation = nought; «previous_radius» = nought; «scaled_radius» = nought } in
+    let arguments : Arguments = record { time = nought; step = nought; «absolute_tolerance» = nought; «relative_tolerance» = nought; adaptive = false } in
+    record { family = 0; n = 0; phase = P.Empty; arguments = arguments; iteration = iteration; staging = staging }

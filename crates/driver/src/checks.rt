@@ -1,0 +1,206 @@
+// The tests that turn a call away, each the test of that name in the definition.
+ghost use mathlib.Core.Path.{_≡_};
+ghost use mathlib.Core.Bool.{_&&_};
+ghost use Prim.Native.Nat.{_≤_};
+ghost use Rattle.family.specs.Family as families;
+ghost use Rattle.driver.specs.Calls as calls;
+use crate::Counters;
+use crate::Phase;
+use crate::Record;
+use workspace::Arguments;
+
+pub fn known(family: u64) -> bool
+    ensures { λ r. ⌜ r ≡ families.known family ⌝ }
+{
+    if family < 1 {
+        return false;
+    }
+    family <= 5
+}
+
+pub fn sized(n: usize) -> bool
+    ensures { λ r. ⌜ r ≡ calls.sized n ⌝ }
+{
+    if n < 1 {
+        return false;
+    }
+    n <= 512
+}
+
+pub fn whole_area(family: u64, n: usize, area: &[f64]) -> bool
+    requires { ⌜ n ≤ 512 ⌝ }
+    ensures { λ r. ⌜ r ≡ calls.whole-area family n (now (area .entry)) ⌝ }
+{
+    let whole = workspace::vector_count(family) * n;
+    area.len() == whole
+}
+
+// The area and a vector that a call brings.
+pub fn both_long(family: u64, n: usize, area: &[f64], vector: &[f64]) -> bool
+    requires { ⌜ n ≤ 512 ⌝ }
+    ensures { λ r. ⌜ r ≡ (calls.whole-area family n (now (area .entry)) && calls.as-long n (now (vector .entry))) ⌝ }
+{
+    if !whole_area(family, n, area) {
+        return false;
+    }
+    vector.len() == n
+}
+
+// Whether an evaluation is pending.
+pub fn pending(phase: Phase) -> bool
+    ensures { λ r. ⌜ r ≡ calls.pending phase ⌝ }
+{
+    match phase {
+        Phase::Empty => false,
+        Phase::First => true,
+        Phase::Ready => false,
+        Phase::Pass => true,
+        Phase::Stage => true,
+        Phase::Candidate => true,
+        Phase::Finished => false,
+        Phase::Callback => true,
+    }
+}
+
+pub fn good_pass(pass: u64) -> bool
+    ensures { λ r. ⌜ r ≡ calls.good-pass pass ⌝ }
+{
+    if pass < 1 {
+        return false;
+    }
+    pass <= 12
+}
+
+pub fn good_stage(family: u64, stages: u64, stage: u64) -> bool
+    ensures { λ r. ⌜ r ≡ calls.good-stage family stages stage ⌝ }
+{
+    if !family::permitted(family, stages) {
+        return false;
+    }
+    if stage < 2 {
+        return false;
+    }
+    stage <= stages
+}
+
+// Whether what the phase uses of the record is in range.
+pub fn in_range(record: Record) -> bool
+    ensures { λ r. ⌜ r ≡ calls.in-range («record» .phase) «record» ⌝ }
+{
+    let phase = record.phase;
+    match phase {
+        Phase::Empty => true,
+        Phase::First => true,
+        Phase::Ready => true,
+        Phase::Pass => good_pass(record.iteration.pass),
+        Phase::Stage => good_stage(record.family, record.staging.stages, record.staging.stage),
+        Phase::Candidate => family::permitted(record.family, record.staging.stages),
+        Phase::Finished => true,
+        Phase::Callback => true,
+    }
+}
+
+pub fn awaiting(record: Record) -> bool
+    ensures { λ r. ⌜ r ≡ calls.awaiting «record» ⌝ }
+{
+    let phase = record.phase;
+    if !pending(phase) {
+        return false;
+    }
+    in_range(record)
+}
+
+pub fn may_attempt(phase: Phase) -> bool
+    ensures { λ r. ⌜ r ≡ calls.may-attempt phase ⌝ }
+{
+    match phase {
+        Phase::Empty => false,
+        Phase::First => false,
+        Phase::Ready => true,
+        Phase::Pass => false,
+        Phase::Stage => false,
+        Phase::Candidate => false,
+        Phase::Finished => true,
+        Phase::Callback => false,
+    }
+}
+
+pub fn may_accept(phase: Phase) -> bool
+    ensures { λ r. ⌜ r ≡ calls.may-accept phase ⌝ }
+{
+    match phase {
+        Phase::Empty => false,
+        Phase::First => false,
+        Phase::Ready => false,
+        Phase::Pass => false,
+        Phase::Stage => false,
+        Phase::Candidate => false,
+        Phase::Finished => true,
+        Phase::Callback => false,
+    }
+}
+
+pub fn good_times(arguments: Arguments) -> bool
+    ensures { λ r. ⌜ r ≡ calls.good-times arguments ⌝ }
+{
+    if !ieee::is_finite(arguments.time) {
+        return false;
+    }
+    if !ieee::is_finite(arguments.step) {
+        return false;
+    }
+    arguments.step != 0.0
+}
+
+pub fn good_tolerance(tolerance: f64) -> bool
+    ensures { λ r. ⌜ r ≡ calls.good-tolerance tolerance ⌝ }
+{
+    if !ieee::is_finite(tolerance) {
+        return false;
+    }
+    0.0 < tolerance
+}
+
+pub fn good_tolerances(arguments: Arguments) -> bool
+    ensures { λ r. ⌜ r ≡ calls.good-tolerances arguments ⌝ }
+{
+    if !good_tolerance(arguments.absolute_tolerance) {
+        return false;
+    }
+    good_tolerance(arguments.relative_tolerance)
+}
+
+// Whether a reply in this phase finishes an attempt.
+pub fn finishes(phase: Phase) -> bool
+    ensures { λ r. ⌜ r ≡ calls.finishes phase ⌝ }
+{
+    match phase {
+        Phase::Empty => false,
+        Phase::First => false,
+        Phase::Ready => false,
+        Phase::Pass => false,
+        Phase::Stage => false,
+        Phase::Candidate => true,
+        Phase::Finished => false,
+        Phase::Callback => false,
+    }
+}
+
+// Whether a counter can count one more.
+pub fn room(count: u64) -> bool
+    ensures { λ r. ⌜ r ≡ calls.room count ⌝ }
+{
+    count < 0xffff_ffff_ffff_ffff
+}
+
+pub fn has_room(phase: Phase, counters: Counters) -> bool
+    ensures { λ r. ⌜ r ≡ calls.has-room phase counters ⌝ }
+{
+    if !room(counters.evaluations) {
+        return false;
+    }
+    if finishes(phase) {
+        return room(counters.finished_attempts);
+    }
+    true
+}

@@ -1,0 +1,98 @@
+// The record in another phase, and further on.
+ghost use mathlib.Core.Path.{_≡_};
+ghost use Rattle.driver.specs.Calls as calls;
+use crate::Iteration;
+use crate::Phase;
+use crate::Record;
+use crate::Staging;
+use coefficients::Recurrence;
+use workspace::Arguments;
+
+pub fn in_phase(record: Record, phase: Phase) -> Record
+    ensures { λ r. ⌜ r ≡ calls.in-phase phase «record» ⌝ }
+{
+    let arguments = record.arguments;
+    let iteration = record.iteration;
+    let staging = record.staging;
+    Record {
+        family: record.family,
+        n: record.n,
+        phase,
+        arguments,
+        iteration,
+        staging,
+    }
+}
+
+// Waiting for the derivative of a state that is kept at this time.
+pub fn first_at(record: Record, phase: Phase, family: u64, n: usize, time: f64) -> Record
+    ensures { λ r. ⌜ r ≡ calls.first-at phase family n time «record» ⌝ }
+{
+    let mut arguments = record.arguments;
+    arguments.time = time;
+    let iteration = record.iteration;
+    let staging = record.staging;
+    Record {
+        family,
+        n,
+        phase,
+        arguments,
+        iteration,
+        staging,
+    }
+}
+
+// Before a pass of the power iteration.
+pub fn at_pass(
+    record: Record,
+    arguments: Arguments,
+    pass: u64,
+    perturbation: f64,
+    previous_radius: f64,
+) -> Record
+    ensures { λ r. ⌜ r ≡ calls.at-pass arguments pass perturbation «previous_radius» «record» ⌝ }
+{
+    let staging = record.staging;
+    Record {
+        family: record.family,
+        n: record.n,
+        phase: Phase::Pass,
+        arguments,
+        iteration: Iteration {
+            pass,
+            perturbation,
+            previous_radius,
+            scaled_radius: 0.0,
+        },
+        staging,
+    }
+}
+
+// The iteration has found the scaled radius.
+pub fn with_radius(record: Record, scaled_radius: f64) -> Record
+    ensures { λ r. ⌜ r ≡ calls.with-radius «scaled_radius» «record» ⌝ }
+{
+    let mut after = record;
+    after.iteration.scaled_radius = scaled_radius;
+    after
+}
+
+// Before a stage.
+pub fn at_stage(record: Record, stages: u64, stage: u64, recurrence: Recurrence) -> Record
+    ensures { λ r. ⌜ r ≡ calls.at-stage stages stage recurrence «record» ⌝ }
+{
+    let arguments = record.arguments;
+    let iteration = record.iteration;
+    Record {
+        family: record.family,
+        n: record.n,
+        phase: Phase::Stage,
+        arguments,
+        iteration,
+        staging: Staging {
+            stages,
+            stage,
+            recurrence,
+        },
+    }
+}
