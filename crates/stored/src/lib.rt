@@ -1,8 +1,8 @@
 // Doubles as they are stored in files of test data: words of eight bytes, the lowest first, each the bit pattern of a double.
 // Programs read such files, work each record out anew and compare bit for bit.
 ghost use mathlib.Core.Path.{_≡_};
-ghost use mathlib.Core.Bool.{true};
-ghost use Prim.Native.Nat.{_+_, _^_, _<_, _≤_};
+ghost use mathlib.Core.Bool.{true, cond};
+ghost use Prim.Native.Nat.{_+_, _%_, _^_, _<_, _≤_};
 ghost use lib.ListN.{length};
 ghost use Rattle.stored.specs.Stored as spec;
 
@@ -49,17 +49,13 @@ pub fn same(x: f64, y: f64) -> bool
 }
 
 // The tally with one more record, which is as it should be or not.
-pub fn counted(tally: Tally, right: bool) -> Tally {
+pub fn counted(tally: Tally, right: bool) -> Tally
+    ensures { λ r. ⌜ (r .seen ≡ (tally .seen + 1) % 2 ^ 64) × (r .differ ≡ (tally .differ + cond right 0 1) % 2 ^ 64) ⌝ }
+{
     let seen = std::num::wrapping_add_u64(tally.seen, 1);
-    if right {
-        Tally {
-            seen: seen,
-            differ: tally.differ,
-        }
-    } else {
-        Tally {
-            seen: seen,
-            differ: std::num::wrapping_add_u64(tally.differ, 1),
-        }
+    let more: u64 = if right { 0 } else { 1 };
+    Tally {
+        seen: seen,
+        differ: std::num::wrapping_add_u64(tally.differ, more),
     }
 }
