@@ -18,7 +18,7 @@ use Rattle.ieee.specs.Whole as Whole
 use Rattle.ieee.proofs.Monotone.{NonNeg, infinite, number, le-of-cross}
 use Rattle.ieee.proofs.Rounding.{order}
 use Rattle.family.specs.Family.{Family, Orthogonal, Legendre1, Legendre2, Gegenbauer1, Gegenbauer2, made-of, largest-count, permitted, before-limits, limited, stage-count}
-use Rattle.family.specs.Reach.{reach-num, reach-den, Serves}
+use Rattle.family.specs.Reach.{reach-num, reach-den, parts, Serves}
 use Rattle.family.proofs.Rule.{offset, slope, inner, after, rule-is, more-from, less-to, nearest-nonneg}
 use Rattle.family.proofs.Thresholds.{high, deep, past, full, Above, Below, thresholds}
 use Rattle.family.proofs.Limits.{limits}
@@ -63,19 +63,19 @@ module _ (f : Orthogonal) (r : Float) (p : NonNeg r) (i : T (finite r)) where
   abbrev n : ℕ
   n = before-limits (made-of f) r
 
-  covers : (k : ℕ) → T (permitted (made-of f) k) → n ≤ k → (2 ^ 49 - 1) * num r * reach-den f k ≤ 2 ^ 49 * reach-num f k * den r
+  covers : (k : ℕ) → T (permitted (made-of f) k) → n ≤ k → (parts - 1) * num r * reach-den f k ≤ parts * reach-num f k * den r
   covers k t h =
       let a = thresholds f k t .0 in
-      go (2 ^ 49 - 1) (2 ^ 49 * reach-num f k) (a .near) a (split (high f k) r (high-nonneg f k) p (a .finite-u) i)
+      go (parts - 1) (parts * reach-num f k) (a .near) a (split (high f k) r (high-nonneg f k) p (a .finite-u) i)
     where
       go : (P Q : ℕ) → P * num (high f k) * reach-den f k ≤ Q * den (high f k) → Above f k (high f k) (past f k) → T (le (high f k) r) ⊎ (num r * den (high f k) ≤ num (high f k) * den r) → P * num r * reach-den f k ≤ Q * den r
       go P Q z a (inl l) = absurd (not-le-of-lt (lt-of-lt-of-le (a .count) (more-from f (high f k) r (past f k) (high-nonneg f k) p l (a .root) (a .from))) h)
       go P Q z a (inr l) = carry P Q (reach-den f k) (num r) (den r) (num (high f k)) (den (high f k)) (den-pos (high f k)) l z
 
-  needed : (k : ℕ) → T (permitted (made-of f) k) → k < n → 2 ^ 49 * reach-num f k * den r ≤ (2 ^ 49 + 1) * num r * reach-den f k
+  needed : (k : ℕ) → T (permitted (made-of f) k) → k < n → parts * reach-num f k * den r ≤ (parts + 1) * num r * reach-den f k
   needed k t h =
       let a = thresholds f k t .1 in
-      go (2 ^ 49 + 1) (2 ^ 49 * reach-num f k) (a .near) a (split r (deep f k) p (deep-nonneg f k) i (a .finite-u))
+      go (parts + 1) (parts * reach-num f k) (a .near) a (split r (deep f k) p (deep-nonneg f k) i (a .finite-u))
     where
       go : (P Q : ℕ) → Q * den (deep f k) ≤ P * num (deep f k) * reach-den f k → Below f k (deep f k) (full f k) → T (le r (deep f k)) ⊎ (num (deep f k) * den r ≤ num r * den (deep f k)) → Q * den r ≤ P * num r * reach-den f k
       go P Q z a (inl l) = absurd (not-le-of-lt h (le-trans (less-to f (deep f k) r (full f k) (deep-nonneg f k) p l (a .finite-x) (a .root) (a .from)) (a .count)))
@@ -90,7 +90,7 @@ module _ (f : Orthogonal) (r : Float) (p : NonNeg r) (i : T (finite r)) where
         least = λ k t h. needed k t (lt-of-not-le (λ (g : n ≤ k). not-le-of-lt h (l .lowest k t g)));
       }
     where
-      go : {s : ℕ} → (s ≡ largest-count (made-of f)) ⊎ (n ≤ s) → T (permitted (made-of f) s) → (s ≡ largest-count (made-of f)) ⊎ ((2 ^ 49 - 1) * num r * reach-den f s ≤ 2 ^ 49 * reach-num f s * den r)
+      go : {s : ℕ} → (s ≡ largest-count (made-of f)) ⊎ (n ≤ s) → T (permitted (made-of f) s) → (s ≡ largest-count (made-of f)) ⊎ ((parts - 1) * num r * reach-den f s ≤ parts * reach-num f s * den r)
       go (inl e) t = inl e
       go {s} (inr h) t = inr (covers s t h)
 
@@ -116,8 +116,8 @@ rule-zero f e = rule-is f (fin true 0 e) ∙ ap (λ (x : Float). after f (sqrt x
 zero-serves : (f : Orthogonal) (e : ℤ) (s : ℕ) → Serves f nought s → Serves f (fin true 0 e) s
 zero-serves f e s v = record {
   allowed = v .allowed;
-  reaches = inr (go (2 ^ 49 - 1) (up e) (reach-den f s) (2 ^ 49 * reach-num f s * down e));
-  least = λ k t h. back (2 ^ 49 * reach-num f k) (2 ^ 49 + 1) (reach-den f k) (v .least k t h);
+  reaches = inr (go (parts - 1) (up e) (reach-den f s) (parts * reach-num f s * down e));
+  least = λ k t h. back (parts * reach-num f k) (parts + 1) (reach-den f k) (v .least k t h);
 }
   where
     go : (a u b c : ℕ) → a * (0 * u) * b ≤ c

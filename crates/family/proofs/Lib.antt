@@ -7,3 +7,4 @@ pub mod Thresholds
 pub mod Counts
 pub mod Special
 pub mod Marked
+pub mod InDoubles

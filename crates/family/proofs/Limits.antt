@@ -19,16 +19,13 @@ record Stepped (o : Bool) (m n : ℕ) : Type 0 where
 
 odd-step-is : (f : Family) (m : ℕ) → Stepped (odd-only f) m (odd-step f m)
 unfolding odd-step
-odd-step-is f m = go (odd-only f) (eqb (m % 2) 0) (eqb→eq (m % 2) 0) (λ e. eq→eqb e)
+odd-step-is f m = go (odd-only f) (m % 2) refl refl (omega arith)
   where
-    other : (r : ℕ) → (r ≡ 0 → ⊥) → r < 2 → r ≡ 1
-    other zero n h = absurd (n refl)
-    other (suc r) n h = omega arith
-
-    go : (o b : Bool) → (T b → m % 2 ≡ 0) → (m % 2 ≡ 0 → T b) → Stepped o m (cond (o && b) (m + 1) m)
-    go false b y n = record { odd = λ i. absurd i; from = omega arith; first = λ k i h. h }
-    go true false y n = record { odd = λ i. other (m % 2) n (omega arith); from = omega arith; first = λ k i h. h }
-    go true true y n = let e = y tt in record { odd = λ i. omega arith; from = omega arith; first = λ k i h. let z = i tt in omega arith }
+    go : (o : Bool) (r : ℕ) → odd-only f ≡ o → m % 2 ≡ r → r < 2 → Stepped o m (odd-step f m)
+    go false r e q h = rw e (record { odd = λ i. absurd i; from = omega arith; first = λ k i h. h })
+    go true zero e q h = rw (e, q) (record { odd = λ i. omega arith; from = omega arith; first = λ k i h. let z = i tt in omega arith })
+    go true (suc zero) e q h = rw (e, q) (record { odd = λ i. omega arith; from = omega arith; first = λ k i h. omega arith })
+    go true (suc (suc r)) e q h = absurd (omega arith)
 
 -- ---- the limits, n being the number before them
 pub record Limited (f : Family) (n s : ℕ) : Type 0 where

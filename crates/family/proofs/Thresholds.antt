@@ -15,11 +15,11 @@ use Rattle.ieee.specs.Whole.{ceil}
 use Rattle.ieee.proofs.Every.{every, among}
 use Rattle.ieee.proofs.RootBounds.{L}
 use Rattle.family.specs.Family.{Orthogonal, Legendre1, Legendre2, Gegenbauer1, Gegenbauer2, made-of, smallest-count, largest-count, odd-only, permitted}
-use Rattle.family.specs.Reach.{reach, reach-num, reach-den}
+use Rattle.family.specs.Reach.{reach, reach-num, reach-den, parts}
 use Rattle.family.proofs.Rule.{offset, slope, shift, shifted, inner, after}
 use Rattle.family.proofs.Range.{permitted-says}
 
--- the reach of k, more by 14 parts in 2 ^ 53, or less
+-- the reach of k, by 14 in 2 ^ 53 more, or less
 unfoldable pub high : Orthogonal → ℕ → Float
 high f k = nearest (reach-num f k * (2 ^ 53 + 14)) (reach-den f k * 2 ^ 53)
 
@@ -34,10 +34,10 @@ unfoldable pub past : Orthogonal → ℕ → ℕ
 past f k = let m = (2 * k + shift f) * L in m + m / 2 ^ 52
 
 unfoldable good-above : Orthogonal → ℕ → Float → ℕ → Bool
-good-above f k u a = let y = nearest a L in finite u && leb (a * a) (squared-units (inner f u)) && le (shifted f) y && ltb k (after f y) && leb ((2 ^ 49 - 1) * num u * reach-den f k) (2 ^ 49 * reach-num f k * den u)
+good-above f k u a = let y = nearest a L in finite u && leb (a * a) (squared-units (inner f u)) && le (shifted f) y && ltb k (after f y) && leb ((parts - 1) * num u * reach-den f k) (parts * reach-num f k * den u)
 
 unfoldable good-below : Orthogonal → ℕ → Float → ℕ → Bool
-good-below f k u a = let x = inner f u in let y = nearest a L in finite u && finite x && leb (squared-units x) (a * a) && le (shifted f) y && leb (after f y) k && leb (2 ^ 49 * reach-num f k * den u) ((2 ^ 49 + 1) * num u * reach-den f k)
+good-below f k u a = let x = inner f u in let y = nearest a L in finite u && finite x && leb (squared-units x) (a * a) && le (shifted f) y && leb (after f y) k && leb (parts * reach-num f k * den u) ((parts + 1) * num u * reach-den f k)
 
 -- what they say
 pub record Above (f : Orthogonal) (k : ℕ) (u : Float) (a : ℕ) : Type 0 where
@@ -45,7 +45,7 @@ pub record Above (f : Orthogonal) (k : ℕ) (u : Float) (a : ℕ) : Type 0 where
   pub root : a * a ≤ squared-units (inner f u)
   pub from : T (le (shifted f) (nearest a L))
   pub count : k < after f (nearest a L)
-  pub near : (2 ^ 49 - 1) * num u * reach-den f k ≤ 2 ^ 49 * reach-num f k * den u
+  pub near : (parts - 1) * num u * reach-den f k ≤ parts * reach-num f k * den u
 
 pub record Below (f : Orthogonal) (k : ℕ) (u : Float) (a : ℕ) : Type 0 where
   pub finite-u : T (finite u)
@@ -53,7 +53,7 @@ pub record Below (f : Orthogonal) (k : ℕ) (u : Float) (a : ℕ) : Type 0 where
   pub root : squared-units (inner f u) ≤ a * a
   pub from : T (le (shifted f) (nearest a L))
   pub count : after f (nearest a L) ≤ k
-  pub near : 2 ^ 49 * reach-num f k * den u ≤ (2 ^ 49 + 1) * num u * reach-den f k
+  pub near : parts * reach-num f k * den u ≤ (parts + 1) * num u * reach-den f k
 
 above-says : (f : Orthogonal) (k : ℕ) (u : Float) (a : ℕ) → T (good-above f k u a) → Above f k u a
 unfolding good-above
@@ -62,7 +62,7 @@ above-says f k u a t =
     let a₂ = leb (a * a) (squared-units (inner f u)) in
     let a₃ = le (shifted f) (nearest a L) in
     let a₄ = ltb k (after f (nearest a L)) in
-    let a₅ = leb ((2 ^ 49 - 1) * num u * reach-den f k) (2 ^ 49 * reach-num f k * den u) in
+    let a₅ = leb ((parts - 1) * num u * reach-den f k) (parts * reach-num f k * den u) in
     let t₄ = and-l (a₁ && a₂ && a₃ && a₄) a₅ t in
     let t₃ = and-l (a₁ && a₂ && a₃) a₄ t₄ in
     let t₂ = and-l (a₁ && a₂) a₃ t₃ in
@@ -71,7 +71,7 @@ above-says f k u a t =
       root = leb→le (a * a) (squared-units (inner f u)) (and-r a₁ a₂ t₂);
       from = and-r (a₁ && a₂) a₃ t₃;
       count = ltb→lt k (after f (nearest a L)) (and-r (a₁ && a₂ && a₃) a₄ t₄);
-      near = leb→le ((2 ^ 49 - 1) * num u * reach-den f k) (2 ^ 49 * reach-num f k * den u) (and-r (a₁ && a₂ && a₃ && a₄) a₅ t);
+      near = leb→le ((parts - 1) * num u * reach-den f k) (parts * reach-num f k * den u) (and-r (a₁ && a₂ && a₃ && a₄) a₅ t);
     }
 
 below-says : (f : Orthogonal) (k : ℕ) (u : Float) (a : ℕ) → T (good-below f k u a) → Below f k u a
@@ -82,7 +82,7 @@ below-says f k u a t =
     let a₃ = leb (squared-units (inner f u)) (a * a) in
     let a₄ = le (shifted f) (nearest a L) in
     let a₅ = leb (after f (nearest a L)) k in
-    let a₆ = leb (2 ^ 49 * reach-num f k * den u) ((2 ^ 49 + 1) * num u * reach-den f k) in
+    let a₆ = leb (parts * reach-num f k * den u) ((parts + 1) * num u * reach-den f k) in
     let t₅ = and-l (a₁ && a₂ && a₃ && a₄ && a₅) a₆ t in
     let t₄ = and-l (a₁ && a₂ && a₃ && a₄) a₅ t₅ in
     let t₃ = and-l (a₁ && a₂ && a₃) a₄ t₄ in
@@ -93,7 +93,7 @@ below-says f k u a t =
       root = leb→le (squared-units (inner f u)) (a * a) (and-r (a₁ && a₂) a₃ t₃);
       from = and-r (a₁ && a₂ && a₃) a₄ t₄;
       count = leb→le (after f (nearest a L)) k (and-r (a₁ && a₂ && a₃ && a₄) a₅ t₅);
-      near = leb→le (2 ^ 49 * reach-num f k * den u) ((2 ^ 49 + 1) * num u * reach-den f k) (and-r (a₁ && a₂ && a₃ && a₄ && a₅) a₆ t);
+      near = leb→le (parts * reach-num f k * den u) ((parts + 1) * num u * reach-den f k) (and-r (a₁ && a₂ && a₃ && a₄ && a₅) a₆ t);
     }
 
 unfoldable good : Orthogonal → ℕ → Bool
@@ -107,19 +107,19 @@ unfoldable all-good : Orthogonal → Bool
 all-good f = every (permitted-good f) (largest-count (made-of f) + 1 - smallest-count (made-of f)) (smallest-count (made-of f))
 
 test-Legendre1 : T (all-good Legendre1)
-unfolding all-good every permitted-good permitted made-of smallest-count largest-count odd-only good good-above good-below high deep past full reach frac _over_ reach-num reach-den inner after offset slope shift shifted nearest add sub mul div le ceil toUnsigned
+unfolding all-good every permitted-good permitted made-of smallest-count largest-count odd-only good good-above good-below high deep past full reach frac _over_ reach-num reach-den parts inner after offset slope shift shifted nearest add sub mul div le ceil toUnsigned
 test-Legendre1 = tt
 
 test-Legendre2 : T (all-good Legendre2)
-unfolding all-good every permitted-good permitted made-of smallest-count largest-count odd-only good good-above good-below high deep past full reach frac _over_ reach-num reach-den inner after offset slope shift shifted nearest add sub mul div le ceil toUnsigned
+unfolding all-good every permitted-good permitted made-of smallest-count largest-count odd-only good good-above good-below high deep past full reach frac _over_ reach-num reach-den parts inner after offset slope shift shifted nearest add sub mul div le ceil toUnsigned
 test-Legendre2 = tt
 
 test-Gegenbauer1 : T (all-good Gegenbauer1)
-unfolding all-good every permitted-good permitted made-of smallest-count largest-count odd-only good good-above good-below high deep past full reach frac _over_ reach-num reach-den inner after offset slope shift shifted nearest add sub mul div le ceil toUnsigned
+unfolding all-good every permitted-good permitted made-of smallest-count largest-count odd-only good good-above good-below high deep past full reach frac _over_ reach-num reach-den parts inner after offset slope shift shifted nearest add sub mul div le ceil toUnsigned
 test-Gegenbauer1 = tt
 
 test-Gegenbauer2 : T (all-good Gegenbauer2)
-unfolding all-good every permitted-good permitted made-of smallest-count largest-count odd-only good good-above good-below high deep past full reach frac _over_ reach-num reach-den inner after offset slope shift shifted nearest add sub mul div le ceil toUnsigned
+unfolding all-good every permitted-good permitted made-of smallest-count largest-count odd-only good good-above good-below high deep past full reach frac _over_ reach-num reach-den parts inner after offset slope shift shifted nearest add sub mul div le ceil toUnsigned
 test-Gegenbauer2 = tt
 
 test : (f : Orthogonal) → T (all-good f)

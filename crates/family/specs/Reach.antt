@@ -22,9 +22,13 @@ reach-num f s = natAbs (reach f s .num)
 unfoldable pub reach-den : Orthogonal → ℕ → ℕ
 reach-den f s = reach f s .den
 
+-- a reach and r are compared up to one part in 2 ^ 49 of r
+unfoldable pub parts : ℕ
+parts = 2 ^ 49
+
 -- s serves the scaled radius r, which is num r / den r: s is permitted; it is the largest, or it reaches r but for r / 2 ^ 49; and no smaller permitted count
 -- reaches farther than r and r / 2 ^ 49 more. In whole numbers.
 pub record Serves (f : Orthogonal) (r : Float) (s : ℕ) : Type 0 where
   pub allowed : T (permitted (made-of f) s)
-  pub reaches : (s ≡ largest-count (made-of f)) ⊎ ((2 ^ 49 - 1) * num r * reach-den f s ≤ 2 ^ 49 * reach-num f s * den r)
-  pub least : (k : ℕ) → T (permitted (made-of f) k) → k < s → 2 ^ 49 * reach-num f k * den r ≤ (2 ^ 49 + 1) * num r * reach-den f k
+  pub reaches : (s ≡ largest-count (made-of f)) ⊎ ((parts - 1) * num r * reach-den f s ≤ parts * reach-num f s * den r)
+  pub least : (k : ℕ) → T (permitted (made-of f) k) → k < s → parts * reach-num f k * den r ≤ (parts + 1) * num r * reach-den f k
