@@ -1,7 +1,7 @@
 -- The stage counts serve every finite r that is not below 0 (`serves`), and every count of every family is permitted (`stage-count-permitted`). Assumes nothing.
 use mathlib.Core.Path.{_≡_, refl, sym, ap, _∙_, subst}
 use mathlib.Core.Logic.{_⊎_, inl, inr}
-use Prim.Native.Nat.{ℕ, zero, suc, _+_, _-_, _*_, _^_, _≤_, _<_}
+use Prim.Native.Nat.{ℕ, zero, suc, _+_, _-_, _*_, _≤_, _<_}
 use native.Mathlib.Nat.{le-trans, le-of-eq, lt-of-lt-of-le, lt-of-not-le, not-le-of-lt, mul-right-comm, mul-assoc, mul-le-mul-left, mul-le-mul-right, le-of-mul-le-mul-right, mul-pos, zero-lt-suc}
 use native.Mathlib.Omega.{arith}
 use mathlib.Core.Bool.{Bool, true, false, cond, true≢false}
@@ -27,20 +27,17 @@ pub stage-count-permitted : (f : Family) (r : Float) → T (permitted f (stage-c
 unfolding stage-count
 stage-count-permitted f r = limits f (before-limits f (Whole.max r nought)) .allowed
 
--- r ≤ u, and p u under ≤ q den u: then p r under ≤ q den r
+-- ---- what holds at a double u, carried to r: n / d is r, n' / d' is u, and q / under a bound
+regroup : (p under a b : ℕ) → p * a * under * b ≡ p * under * (a * b)
+regroup p under a b = ap (λ (x : ℕ). x * b) (mul-right-comm p a under) ∙ mul-assoc (p * under) a b
+
 carry : (p q under n d n' d' : ℕ) → 0 < d' → n * d' ≤ n' * d → p * n' * under ≤ q * d' → p * n * under ≤ q * d
 carry p q under n d n' d' D h k = le-of-mul-le-mul-right
-    (le-trans (le-of-eq (shape n d')) (le-trans (mul-le-mul-left (p * under) h) (le-trans (le-of-eq (sym (shape n' d))) (le-trans (mul-le-mul-right d k) (le-of-eq (mul-right-comm q d' d)))))) D
-  where
-    shape : (a b : ℕ) → p * a * under * b ≡ p * under * (a * b)
-    shape a b = ap (λ (x : ℕ). x * b) (mul-right-comm p a under) ∙ mul-assoc (p * under) a b
+    (le-trans (le-of-eq (regroup p under n d')) (le-trans (mul-le-mul-left (p * under) h) (le-trans (le-of-eq (sym (regroup p under n' d))) (le-trans (mul-le-mul-right d k) (le-of-eq (mul-right-comm q d' d)))))) D
 
 carry-back : (p q under n d n' d' : ℕ) → 0 < d' → n' * d ≤ n * d' → q * d' ≤ p * n' * under → q * d ≤ p * n * under
 carry-back p q under n d n' d' D h k = le-of-mul-le-mul-right
-    (le-trans (le-of-eq (mul-right-comm q d d')) (le-trans (mul-le-mul-right d k) (le-trans (le-of-eq (shape n' d)) (le-trans (mul-le-mul-left (p * under) h) (le-of-eq (sym (shape n d'))))))) D
-  where
-    shape : (a b : ℕ) → p * a * under * b ≡ p * under * (a * b)
-    shape a b = ap (λ (x : ℕ). x * b) (mul-right-comm p a under) ∙ mul-assoc (p * under) a b
+    (le-trans (le-of-eq (mul-right-comm q d d')) (le-trans (mul-le-mul-right d k) (le-trans (le-of-eq (regroup p under n' d)) (le-trans (mul-le-mul-left (p * under) h) (le-of-eq (sym (regroup p under n d'))))))) D
 
 split : (x y : Float) → NonNeg x → NonNeg y → T (finite x) → T (finite y) → T (le x y) ⊎ (num y * den x ≤ num x * den y)
 split x y infinite q i j = absurd i
@@ -53,12 +50,13 @@ split x y (number m e) (number n d) i j = go (order (m * up e * down d) (n * up 
 
 high-nonneg : (f : Orthogonal) (k : ℕ) → NonNeg (high f k)
 unfolding high
-high-nonneg f k = nearest-nonneg (reach-num f k * (2 ^ 53 + 14)) (reach-den f k * 2 ^ 53)
+high-nonneg f k = nearest-nonneg _ _
 
 deep-nonneg : (f : Orthogonal) (k : ℕ) → NonNeg (deep f k)
 unfolding deep
-deep-nonneg f k = nearest-nonneg (reach-num f k * (2 ^ 53 - 14)) (reach-den f k * 2 ^ 53)
+deep-nonneg f k = nearest-nonneg _ _
 
+-- ---- r is not negative. Where r lies above k's upper threshold, the number before limits passes k; where it lies below the lower one, it does not
 module _ (f : Orthogonal) (r : Float) (p : NonNeg r) (i : T (finite r)) where
   abbrev n : ℕ
   n = before-limits (made-of f) r

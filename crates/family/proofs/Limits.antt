@@ -1,12 +1,11 @@
 -- The limits: what `limited` does to a number n. The result is permitted; it is the largest, or n at least; and no smaller permitted count is n at least. Assumes nothing.
 use mathlib.Core.Path.{_≡_, refl, sym, subst}
 use mathlib.Core.Logic.{_⊎_, inl, inr}
-use Prim.Native.Nat.{ℕ, zero, suc, _+_, _%_, _≤_, _<_, min, max}
+use Prim.Native.Nat.{ℕ, zero, suc, _%_, _≤_, _<_, min, max}
 use native.Mathlib.Nat.{min-eq-left, min-eq-right, le-trans, le-antisymm}
 use native.Mathlib.Omega.{arith}
-use mathlib.Core.Bool.{Bool, true, false, _&&_, cond}
-use lib.Dec.{T, eqb, eqb→eq}
-use lib.Ieee.Fits.{eq→eqb}
+use mathlib.Core.Bool.{Bool, true, false}
+use lib.Dec.{T}
 use Rattle.ieee.proofs.Rounding.{order}
 use Rattle.family.specs.Family.{Family, smallest-count, largest-count, odd-only, permitted, odd-step, limited}
 use Rattle.family.proofs.Range.{Permitted, permitted-says, permitted-if, largest-permitted}

@@ -1,12 +1,12 @@
 -- The code counts in u64: RKC's number before limits stays at 2 ^ 64 - 1 where the definition's is 2 ^ 64, and the limits give the largest count for both. Assumes nothing.
 use mathlib.Core.Path.{_≡_, sym, ap, _∙_}
 use mathlib.Core.Logic.{inl, inr}
-use Prim.Native.Nat.{ℕ, _-_, _*_, _/_, _^_, _≤_, min}
+use Prim.Native.Nat.{ℕ, _-_, _^_, _≤_, min}
 use native.Mathlib.Nat.{le-trans, min-eq-left, min-eq-right}
 use native.Mathlib.Omega.{arith}
 use mathlib.Core.Bool.{true, false}
 use lib.Dec.{lit≤}
-use lib.Ieee.{Float, nan, inf, fin, up, down, toUnsigned}
+use lib.Ieee.{Float, nan, inf, fin, toUnsigned}
 use Rattle.ieee.proofs.Rounding.{order}
 use Rattle.family.specs.Family.{Family, largest-count, limited}
 use Rattle.family.proofs.Range.{largest-to}
