@@ -14,3 +14,11 @@ pub mod Refused
 pub mod Alikes
 pub mod Agree
 pub mod Depends
+pub mod Shows
+pub mod Standing
+pub mod OnStart
+pub mod OnAttempt
+pub mod OnReply
+pub mod OnAccept
+pub mod OnAbandon
+pub mod Lives

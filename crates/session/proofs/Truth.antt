@@ -1,9 +1,17 @@
 -- Truth values: what tests joined by `&&`, `||` and `not` come to.
-use mathlib.Core.Path.{_≡_, refl, ap₂, subst}
+use mathlib.Core.Path.{_≡_, refl, sym, ap₂, subst}
 use mathlib.Core.Bool.{Bool, true, false, cond, _&&_, _||_}
+use lib.Dec.{T}
 
 pub differ : false ≡ true → ⊥
 differ e = subst (λ (b : Bool). cond b ⊥ (Unit {0})) e tt
+
+pub is-true : (b : Bool) → T b → b ≡ true
+is-true true h = refl
+is-true false h = absurd h
+
+pub holds : (b : Bool) → b ≡ true → T b
+holds b e = subst T (sym e) tt
 
 pub both : {a b : Bool} → a ≡ true → b ≡ true → a && b ≡ true
 both p q = ap₂ _&&_ p q

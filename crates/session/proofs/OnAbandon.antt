@@ -1,0 +1,55 @@
+-- Abandon: taken exactly where the session takes it, shows what the session shows, and leaves the area as it was.
+use mathlib.Core.Path.{_≡_, refl, sym, ap, _∙_, subst}
+use mathlib.Core.Bool.{Bool, true, false, _&&_}
+use lib.ListN.{length}
+use Rattle.driver.specs.declared.Phase.the-variants as P
+use Rattle.driver.specs.declared.Answer.the-variants.{Empty}
+use Rattle.driver.specs.Calls.{Held, Called, in-phase, pending, awaiting, check, abandon, Abandon, taken}
+use Rattle.session.specs.Attempt.{done, stopped, ask}
+use Rattle.session.specs.Session.{ready-with, tried, answer-shown, Doing, none, within, Session, waiting, doing-now, step, doing-shown, waits}
+use Rattle.session.proofs.Truth.{differ}
+use Rattle.session.proofs.Shows.{Shows, Does, Good}
+use Rattle.session.proofs.Standing.{check-taken, check-tells, last-tells, all-pass, none-pass, idle, K, N, W, standing, Place, inside, outside, place}
+
+abandon-tells : (h : Held) → taken (abandon h .answer) ≡ K h && (N h && (W h && awaiting (h .kept)))
+unfolding abandon taken
+abandon-tells h = check-tells h 1 (K h) _ _ refl (check-tells h 2 (N h) _ _ refl (check-tells h 3 (W h) _ _ refl (last-tells h 4 (awaiting (h .kept)) _ refl refl)))
+
+pub abandon-agrees : (h : Held) (σ : Session) → Does (σ .family) (σ .n) (σ .doing) h → taken (abandon h .answer) ≡ waits (σ .doing)
+abandon-agrees h σ does =
+    abandon-tells h
+    ∙ ap (λ (b : Bool). K h && (N h && (W h && b))) (standing h (σ .family) (σ .n) (σ .doing) does .awaiting-is·waits)
+    ∙ go (place h (σ .family) (σ .n) (σ .doing) does)
+  where
+    go : Place h (σ .n) (σ .doing) → K h && (N h && (W h && waits (σ .doing))) ≡ waits (σ .doing)
+    go (inside k n w l) = all-pass (K h) (N h) (W h) _ k n w
+    go (outside r t w) = rw w (none-pass (K h) (N h) (W h) false refl)
+
+-- an evaluation was pending, and what it leaves
+abandoned : (h : Held) → taken (abandon h .answer) ≡ true
+    → (awaiting (h .kept) ≡ true) × (abandon h ≡ record { answer = Empty; held = record { kept = in-phase P.Empty (h .kept); counters = h .counters; area = h .area } })
+unfolding abandon check taken
+abandoned h q =
+    let p1 = check-taken h 1 (K h) _ refl q in
+    let p2 = check-taken h 2 (N h) _ refl (p1 .1) in
+    let p3 = check-taken h 3 (W h) _ refl (p2 .1) in
+    let p4 = check-taken h 4 (awaiting (h .kept)) _ refl (p3 .1) in
+    (p4 .0, rw (p1 .0, p2 .0, p3 .0, p4 .0))
+
+pub abandon-good : (h : Held) (σ : Session) → h .counters ≡ σ .counts → Does (σ .family) (σ .n) (σ .doing) h → taken (abandon h .answer) ≡ true → Good (step σ Abandon) (abandon h)
+unfolding step Does Shows waiting doing-now pending answer-shown doing-shown in-phase
+abandon-good h σ cs does q = subst (λ (x : Called). Good (step σ Abandon) x) (sym (abandoned h q .1)) (go (σ .doing) does)
+  where
+    awaits : awaiting (h .kept) ≡ true
+    awaits = abandoned h q .0
+
+    go : (δ : Doing) → Does (σ .family) (σ .n) δ h
+        → Good (doing-now σ (waiting (λ k. none) δ)) (record { answer = Empty; held = record { kept = in-phase P.Empty (h .kept); counters = h .counters; area = h .area } })
+    go none e = absurd (differ (sym (idle (h .kept) P.Empty e refl) ∙ awaits))
+    go (within (done (ready-with v))) e = absurd (differ (sym (idle (h .kept) P.Ready (e .0 .phase-is) refl) ∙ awaits))
+    go (within (done (tried o))) e = absurd (differ (sym (idle (h .kept) P.Finished (e .0 .phase-is) refl) ∙ awaits))
+    go (within (stopped i v)) e = absurd (differ (sym (idle (h .kept) P.Empty e refl) ∙ awaits))
+    go (within (ask t p k)) e = record { shown-is = refl; counts-are = cs; does = refl }
+
+pub abandon-area : (h : Held) → taken (abandon h .answer) ≡ true → length (abandon h .held .area) ≡ length (h .area)
+abandon-area h q = ap (λ (x : Called). length (x .held .area)) (abandoned h q .1)

@@ -1,0 +1,84 @@
+-- Attempt: taken exactly where the session takes it, shows what the session shows, and leaves the area as long as it was.
+use mathlib.Core.Path.{_≡_, refl, sym, ap, _∙_, subst}
+use mathlib.Core.Bool.{Bool, true, false, _&&_}
+use Prim.Native.Nat.{ℕ}
+use lib.ListN.{length}
+use Rattle.family.specs.Family.{family-of}
+use Rattle.workspace.specs.declared.Arguments.{Arguments}
+use Rattle.workspace.specs.Vectors.{Vectors, unpack, first-derivative, eigenvector, state}
+use Rattle.workspace.specs.Kernel.{with-direction, perturbation-of}
+use Rattle.workspace.proofs.Areas.{long-direction, long-perturbed}
+use Rattle.driver.specs.declared.Phase.{Phase}
+use Rattle.driver.specs.declared.Phase.the-variants as P
+use Rattle.driver.specs.Calls.{Held, Called, at-pass, ask-pass, may-attempt, good-times, good-tolerances, attempted, going-on, attempt, Attempt, taken}
+use Rattle.session.specs.Attempt.{done, stopped, ask, _>>=_, attempt-step}
+use Rattle.session.specs.Claim.{Allowed, in-one-piece}
+use Rattle.session.specs.Alike.{Same-start}
+use Rattle.session.specs.Session.{ready-with, tried, vectors-of, tries, Doing, none, within, Session, at-rest, doing-now, step, rests}
+use Rattle.session.proofs.Truth.{differ}
+use Rattle.session.proofs.Lengths.{long-area, pack-length}
+use Rattle.session.proofs.Passes.{attempt-is, attempt-follows}
+use Rattle.session.proofs.Depends.{attempt-alike}
+use Rattle.session.proofs.Shows.{At, Shows, Does, Good, goes}
+use Rattle.session.proofs.Standing.{check-taken, check-tells, last-tells, all-pass, none-pass, waits-alone, K, N, W, standing, Place, inside, outside, place}
+
+attempt-tells : (h : Held) (a : Arguments) → taken (attempt h a .answer) ≡ K h && (N h && (W h && (may-attempt (h .kept .phase) && (good-times a && good-tolerances a))))
+unfolding attempt going-on attempted ask-pass taken
+attempt-tells h a =
+    check-tells h 1 (K h) _ _ refl (check-tells h 2 (N h) _ _ refl (check-tells h 3 (W h) _ _ refl (check-tells h 4 (may-attempt (h .kept .phase)) _ _ refl
+    (check-tells h 6 (good-times a) _ _ refl (last-tells h 7 (good-tolerances a) _ refl refl)))))
+
+pub attempt-agrees : (h : Held) (σ : Session) (a : Arguments) → Does (σ .family) (σ .n) (σ .doing) h → taken (attempt h a .answer) ≡ rests (σ .doing) && (good-times a && good-tolerances a)
+attempt-agrees h σ a does =
+    attempt-tells h a
+    ∙ ap (λ (b : Bool). K h && (N h && (W h && (b && (good-times a && good-tolerances a))))) (standing h (σ .family) (σ .n) (σ .doing) does .attempt-is·rests)
+    ∙ go (place h (σ .family) (σ .n) (σ .doing) does)
+  where
+    go : Place h (σ .n) (σ .doing) → K h && (N h && (W h && (rests (σ .doing) && (good-times a && good-tolerances a)))) ≡ rests (σ .doing) && (good-times a && good-tolerances a)
+    go (inside k n w l) = all-pass (K h) (N h) (W h) _ k n w
+    go (outside r t w) = rw r (none-pass (K h) (N h) (W h) false refl)
+
+-- it passed its tests
+pub allowed : (h : Held) (a : Arguments) → taken (attempt h a .answer) ≡ true → Allowed h a
+unfolding attempt taken
+allowed h a q =
+    let p1 = check-taken h 1 (K h) _ refl q in
+    let p2 = check-taken h 2 (N h) _ refl (p1 .1) in
+    let p3 = check-taken h 3 (W h) _ refl (p2 .1) in
+    let p4 = check-taken h 4 (may-attempt (h .kept .phase)) _ refl (p3 .1) in
+    let p6 = check-taken h 6 (good-times a) _ refl (p4 .1) in
+    let p7 = check-taken h 7 (good-tolerances a) _ refl (p6 .1) in
+    record { family-known = p1 .0; n-sized = p2 .0; area-whole = p3 .0; phase-allows = p4 .0; times-good = p6 .0; tolerances-good = p7 .0 }
+
+module _ (h : Held) (σ : Session) (cs : h .counters ≡ σ .counts) (a : Arguments) where
+  -- at rest with the vectors v
+  tries-good : (v : Vectors) (φ : Phase) → Allowed h a → At (σ .family) (σ .n) φ h → Same-start (unpack (h .kept .n) (h .area)) v → Good (doing-now σ (within (tries (σ .family) (σ .n) a v))) (attempt h a)
+  unfolding doing-now Does tries going-on
+  tries-good v φ p at same =
+      let m = in-one-piece h a in
+      let m′ = attempt-step (family-of (h .kept .family)) (h .kept .n) a v in
+      let g = goes h a p m m′ 0 h (attempt h a) (attempt-follows h a p) (attempt-alike (family-of (h .kept .family)) (h .kept .n) a (unpack (h .kept .n) (h .area)) v same) in
+      subst (λ (f : ℕ). Good (record { family = f; n = σ .n; doing = within (tries f (σ .n) a v); counts = σ .counts }) (attempt h a)) (at .family-is)
+      (subst (λ (n : ℕ). Good (record { family = h .kept .family; n = n; doing = within (tries (h .kept .family) n a v); counts = σ .counts }) (attempt h a)) (at .n-is)
+      (record { shown-is = g .shown-is; counts-are = ap (λ (x : Called). x .held .counters) (attempt-is h a p) ∙ cs; does = g .shows }))
+
+  pub attempt-good : Does (σ .family) (σ .n) (σ .doing) h → taken (attempt h a .answer) ≡ true → Good (step σ (Attempt a)) (attempt h a)
+  unfolding step Does Shows at-rest vectors-of may-attempt
+  attempt-good does q = go (allowed h a q) (σ .doing) does
+    where
+      go : Allowed h a → (δ : Doing) → Does (σ .family) (σ .n) δ h → Good (doing-now σ (at-rest (λ r. within (tries (σ .family) (σ .n) a (vectors-of r))) δ)) (attempt h a)
+      go p none e = absurd (differ (sym (ap may-attempt e) ∙ p .phase-allows))
+      go p (within (done (ready-with v))) e = tries-good v P.Ready p (e .0) (e .1)
+      go p (within (done (tried o))) e =
+          tries-good (o .vectors) P.Finished p (e .0) (record { state-same = ap (λ (w : Vectors). w state) (e .1); first-same = ap (λ (w : Vectors). w first-derivative) (e .1); eigenvector-same = ap (λ (w : Vectors). w eigenvector) (e .1) })
+      go p (within (stopped i v)) e = absurd (differ (sym (ap may-attempt e) ∙ p .phase-allows))
+      go p (within (ask t q k)) e = absurd (differ (sym (waits-alone (h .kept) (e .1) .0) ∙ p .phase-allows))
+
+pub attempt-area : (h : Held) (a : Arguments) → taken (attempt h a .answer) ≡ true → length (attempt h a .held .area) ≡ length (h .area)
+unfolding going-on attempted ask-pass at-pass
+attempt-area h a q =
+    let p = allowed h a q in
+    let v = unpack (h .kept .n) (h .area) in
+    ap (λ (x : Called). length (x .held .area)) (attempt-is h a p)
+    ∙ pack-length (h .kept .family) (h .kept .n) _ (h .area)
+    (long-perturbed (h .kept .n) (perturbation-of v) (with-direction (h .kept .n) v) (long-direction (h .kept .n) v (long-area (h .kept .family) (h .kept .n) (h .area) (p .area-whole)))) (p .area-whole)
