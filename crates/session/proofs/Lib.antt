@@ -1,10 +1,12 @@
 pub mod Truth
 pub mod Needs
+pub mod Signs
 pub mod Lengths
 pub mod Follows
 pub mod Asked
 pub mod Stages
 pub mod Passes
+pub mod Served
 pub mod Theorem
 pub mod Room
 pub mod Always
@@ -22,3 +24,4 @@ pub mod OnReply
 pub mod OnAccept
 pub mod OnAbandon
 pub mod Lives
+pub mod Case

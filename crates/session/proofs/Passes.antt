@@ -7,7 +7,7 @@ use native.Mathlib.Omega.{arith}
 use lib.Dec.{eqb}
 use borrow.Author.Tests.{le-leb, eq-eqb, ne-eqb}
 use lib.ListN.{length}
-use lib.Ieee.{Float}
+use lib.Ieee.{Float, lt}
 use Rattle.ieee.specs.Double.{nought}
 use Rattle.family.specs.Family.{Family, known, family-of}
 use Rattle.coefficients.specs.declared.Recurrence.{Recurrence}
@@ -24,6 +24,7 @@ use Rattle.driver.specs.Calls.{Held, Called, in-phase, at-pass, with-radius, at
 use Rattle.session.specs.Attempt.{Asking, done, _>>=_, evaluate, stages-for, Radius, Outcome, iterate, spectral-radius, stage-loop, run-recurrence, close, attempt-step, is-done}
 use Rattle.session.specs.Claim.{Allowed, in-one-piece}
 use Rattle.session.proofs.Truth.{both}
+use Rattle.session.proofs.Signs.{Plus, not-below, perturbation-plus, radius-plus, scaled-plus}
 use Rattle.session.proofs.Needs.{Needed, need-holds, two-from}
 use Rattle.session.proofs.Lengths.{long-area}
 use Rattle.session.proofs.Follows.{Follows}
@@ -64,15 +65,15 @@ module _ (h : Held) (a : Arguments) (hk : known (h .kept .family) ≡ true) (hs 
   begun-undone found = let r = scaled (a .step) (found .radius) in need-undone (stage-need F r) (found .passes) r (found .vectors) (need-holds F r)
 
   -- after k passes at the scaled radius r
-  need-follows : (need : Need) (k : ℕ) (π ρ r : Float) (g : Staging) (v w : Vectors) (c : Counters) (e : ℕ) → stage-need F r ≡ need → Needed F need → k ≤ 12 → k ≡ suc e → Intact h w → Counted h e c
+  need-follows : (need : Need) (k : ℕ) (π ρ r : Float) (g : Staging) (v w : Vectors) (c : Counters) (e : ℕ) → stage-need F r ≡ need → lt r nought ≡ false → Needed F need → k ≤ 12 → k ≡ suc e → Intact h w → Counted h e c
       → Follows h a k (pending-at h a hk hs P.Pass (iteration-at k π ρ nought) g v c) (from-need need k r w) (settled c (by-need need (at h a P.Pass (iteration-at k π ρ nought) g) w r))
   unfolding stages-for _>>=_ by-need settled going-on counted ask-stage with-radius at-stage in-phase Follows
-  need-follows (Met s) k π ρ r g v w c e hr ok k≤ k≡ hw hc = let 2≤s = two-from F s ok in let c′ = recurrence F s in
+  need-follows (Met s) k π ρ r g v w c e hr hn ok k≤ k≡ hw hc = let 2≤s = two-from F s ok in let c′ = recurrence F s in
       rw (recurrence-is s k r w 2≤s)
-      (stages-follow h a hk hs s k r π ρ ok hr (omega arith) k≤ (s - 2) 2 c′
+      (stages-follow h a hk hs s k r π ρ ok hr hn (omega arith) k≤ (s - 2) 2 c′
       (first-stage (h .kept .n) (a .step) (c′ .«theta_previous») w) (one-more h c) k (pending-at h a hk hs P.Pass (iteration-at k π ρ nought) g v c) (omega arith) (omega arith) (omega arith)
       (intact-first h (a .step) (c′ .«theta_previous») w hw) (rw k≡ (counted-on h hc)))
-  need-follows (Unmet i) k π ρ r g v w c e hr ok k≤ k≡ hw hc = record {
+  need-follows (Unmet i) k π ρ r g v w c e hr hn ok k≤ k≡ hw hc = record {
     answer-is = refl;
     from-nine = (let low = ok .0 in omega arith);
     to-largest = ok .1;
@@ -86,18 +87,18 @@ module _ (h : Held) (a : Arguments) (hk : known (h .kept .family) ≡ true) (hs 
     attempts-are = hc .attempts-are;
   }
 
-  begun-follows : (k : ℕ) (π ρ ρ′ : Float) (g : Staging) (v w : Vectors) (c : Counters) → k + 1 ≤ 12 → Intact h w → Counted h k c
+  begun-follows : (k : ℕ) (π ρ ρ′ : Float) (g : Staging) (v w : Vectors) (c : Counters) → Plus ρ′ → k + 1 ≤ 12 → Intact h w → Counted h k c
       → Follows h a (suc k) (pending-at h a hk hs P.Pass (iteration-at (k + 1) π ρ nought) g v c) (from-radius (record { radius = ρ′; passes = k + 1; vectors = w }))
       (settled c (begin-stages (at h a P.Pass (iteration-at (k + 1) π ρ nought) g) w (scaled (a .step) ρ′)))
   unfolding begin-stages
-  begun-follows k π ρ ρ′ g v w c k≤ hw hc = let r = scaled (a .step) ρ′ in let one : k + 1 ≡ suc k = omega arith in
+  begun-follows k π ρ ρ′ g v w c hρ k≤ hw hc = let r = scaled (a .step) ρ′ in let one : k + 1 ≡ suc k = omega arith in
       subst (λ (e : ℕ). Follows h a e (pending-at h a hk hs P.Pass (iteration-at (k + 1) π ρ nought) g v c) (from-need (stage-need F r) (k + 1) r w)
       (settled c (by-need (stage-need F r) (at h a P.Pass (iteration-at (k + 1) π ρ nought) g) w r))) one
-      (need-follows (stage-need F r) (k + 1) π ρ r g v w c k refl (need-holds F r) k≤ one hw hc)
+      (need-follows (stage-need F r) (k + 1) π ρ r g v w c k refl (not-below r (scaled-plus (a .step) ρ′ hρ)) (need-holds F r) k≤ one hw hc)
 
   -- ---- the passes after k of them, m of them after the next
 
-  module _ (π : Float) (g : Staging) where
+  module _ (π : Float) (hπ : Plus π) (g : Staging) where
     abbrev turn : Vectors → List Float → Vectors
     turn v d = turned (h .kept .n) (perturbed (h .kept .n) π v) d
 
@@ -144,7 +145,7 @@ module _ (h : Held) (a : Arguments) (hk : known (h .kept .family) ≡ true) (hs 
     passes-follow zero k ρ v c x k≡ hv hc = pass-follows zero k ρ v c x k≡ hv hc go
       where
         begun : (d : List Float) → length d ≡ h .kept .n → Onward zero k ρ v c d true
-        begun d hd = begun-follows k π ρ (radius-at v d) g (perturbed (h .kept .n) π v) (turn v d) c (omega arith) (intact-turn v d hv hd) hc
+        begun d hd = begun-follows k π ρ (radius-at v d) g (perturbed (h .kept .n) π v) (turn v d) c (radius-plus π (turn v d) hπ) (omega arith) (intact-turn v d hv hd) hc
 
         go : (d : List Float) → length d ≡ h .kept .n → (stop : Bool) → Onward zero k ρ v c d stop
         go d hd true = begun d hd
@@ -157,7 +158,7 @@ module _ (h : Held) (a : Arguments) (hk : known (h .kept .family) ≡ true) (hs 
             → Follows h a (k + 1) (found-at k ρ v c) (iterate F (h .kept .n) a π (suc m) (k + 1) (radius-at v d) (turn v d) >>= from-radius)
             (going-on (one-more h c) (ask-pass (at h a P.Pass (iteration-at (k + 1 + 1) π (radius-at v d) nought) g) (turn v d))))
             → (d : List Float) → length d ≡ h .kept .n → (stop : Bool) → Onward (suc m) k ρ v c d stop
-        go on d hd true = begun-follows k π ρ (radius-at v d) g (perturbed (h .kept .n) π v) (turn v d) c (omega arith) (intact-turn v d hv hd) hc
+        go on d hd true = begun-follows k π ρ (radius-at v d) g (perturbed (h .kept .n) π v) (turn v d) c (radius-plus π (turn v d) hπ) (omega arith) (intact-turn v d hv hd) hc
         go on d hd false = let one : k + 1 ≡ suc k = omega arith in
             rw (ne-eqb (k + 1) 12 (omega arith))
             (subst (λ (e : ℕ). Follows h a e (found-at k ρ v c) (iterate F (h .kept .n) a π (suc m) (k + 1) (radius-at v d) (turn v d) >>= from-radius)
@@ -174,6 +175,6 @@ unfolding attempted at-pass attempt-step spectral-radius
 attempt-follows h a p =
     let v = unpack (h .kept .n) (h .area) in
     subst (λ (x : Called). Follows h a 0 h (in-one-piece h a) x) (sym (attempt-is h a p))
-    (passes-follow h a (p .family-known) (p .n-sized) (perturbation-of v) (h .kept .staging) 11 0 nought (with-direction (h .kept .n) v) (h .counters) h refl
+    (passes-follow h a (p .family-known) (p .n-sized) (perturbation-of v) (perturbation-plus v) (h .kept .staging) 11 0 nought (with-direction (h .kept .n) v) (h .counters) h refl
     (intact-direction h v (record { long = long-area (h .kept .family) (h .kept .n) (h .area) (p .area-whole); state-is = refl; first-is = refl }))
     (record { evaluations-are = omega arith; attempts-are = refl }))

@@ -6,8 +6,8 @@ use Prim.Native.Nat.{ℕ, zero, suc, _+_, _≤_}
 use native.Mathlib.Omega.{arith}
 use lib.Dec.{ltb, eqb}
 use borrow.Author.Tests.{lt-ltb, le-ltb, le-leb}
-use lib.Ieee.{Float}
-use Rattle.ieee.specs.Double.{_⊕_, _⊗_}
+use lib.Ieee.{Float, lt}
+use Rattle.ieee.specs.Double.{_⊕_, _⊗_, nought}
 use Rattle.family.specs.Family.{Family, known, family-of, permitted}
 use Rattle.coefficients.specs.declared.Recurrence.{Recurrence}
 use Rattle.coefficients.specs.Rows.{coefficients, next}
@@ -48,7 +48,7 @@ module _ (h : Held) (a : Arguments) (hk : known (h .kept .family) ≡ true) (hs 
       go false = refl
 
   -- s stages after k passes, at the scaled radius r
-  module _ (s k : ℕ) (r π ρ : Float) (hs′ : permitted F s ≡ true) (hr : stage-need F r ≡ Met s) (1≤k : 1 ≤ k) (k≤ : k ≤ 12) where
+  module _ (s k : ℕ) (r π ρ : Float) (hs′ : permitted F s ≡ true) (hr : stage-need F r ≡ Met s) (hn : lt r nought ≡ false) (1≤k : 1 ≤ k) (k≤ : k ≤ 12) where
     abbrev I : Iteration
     I = iteration-at k π ρ r
 
@@ -105,6 +105,7 @@ module _ (h : Held) (a : Arguments) (hk : known (h .kept .family) ≡ true) (hs 
               one-pass = 1≤k;
               twelve-passes = k≤;
               need-met = hr;
+              not-negative = hn;
               stages-permitted = hs′;
             })
         go false finite = record {

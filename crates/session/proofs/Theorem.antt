@@ -1,6 +1,6 @@
 -- The theorem: an attempt that is not turned away, and then replies of n doubles each, give answer by answer the evaluations of the attempt in one piece, and its end. And what a finished attempt took.
 use Prim.Native.Nat.{ℕ, zero, suc, _+_, _≤_, _<_}
-use mathlib.Core.Path.{_≡_, refl, sym, ap, _∙_, subst}
+use mathlib.Core.Path.{_≡_, refl, ap, subst}
 use mathlib.Core.List.{List, [], _∷_}
 use native.Mathlib.Nat.{zero-add, not-suc-le-zero}
 use native.Mathlib.Omega.{arith}
@@ -9,13 +9,11 @@ use lib.Ieee.{Float}
 use Rattle.workspace.specs.declared.Arguments.{Arguments}
 use Rattle.driver.specs.declared.Answer.{Answer}
 use Rattle.driver.specs.declared.Answer.the-variants.{Evaluate, Finished, Ready, Refused, Empty}
-use Rattle.driver.specs.declared.Need.{Need}
-use Rattle.driver.specs.declared.Need.the-variants.{Met, Unmet}
 use Rattle.driver.specs.Answers.{case-number, case-values, Says}
 use Rattle.driver.specs.Calls.{Held, Called, attempt, reply}
 use Rattle.session.specs.Attempt.{Asking, done, stopped, ask, Outcome, Evaluated, evaluated, End, reached, end}
 use Rattle.session.specs.Claim.{called-for, Allowed, Fits, Finishes, Ends, after, last-found, in-one-piece, replies-to, Runs, Took}
-use Rattle.session.proofs.Needs.{need-is}
+use Rattle.session.proofs.Served.{stages-from}
 use Rattle.session.proofs.Follows.{Ahead, ahead-room, ahead-on, Follows, same-points, same-ends}
 use Rattle.session.proofs.Passes.{attempt-follows}
 
@@ -56,13 +54,6 @@ each-calls h a d long total fits (ask t p k) replies i b x l f (suc j) lt =
 same-says : (x y : Answer) → x ≡ y → Says x y
 same-says x y e = record { same-case = ap case-number e; same-values = ap case-values e }
 
-met-same : (s t : ℕ) → Met s ≡ Met t → s ≡ t
-met-same s t e = ap count e
-  where
-    count : Need → ℕ
-    count (Met s) = s
-    count (Unmet i) = i
-
 pub took : (h : Held) (a : Arguments) (d : ℕ → List Float) (o : Outcome) → Allowed h a → ((i : ℕ) → length (d i) ≡ h .kept .n) → Fits h a d
     → end (in-one-piece h a) d 0 ≡ reached o → Took h a d o (after (o .stages + o .passes) d 0 (attempt h a))
 took h a d o p long fits e =
@@ -74,7 +65,7 @@ took h a d o p long fits e =
       replies-are = f .replies-are;
       one-pass = f .one-pass;
       twelve-passes = f .twelve-passes;
-      stages-are = met-same (o .stages) _ (sym (f .need-met) ∙ need-is _ (o .scaled-radius));
+      stages-are = stages-from h a o total (after total d 0 (attempt h a)) f;
       each-evaluates = λ j lt. each-calls h a d long total (fits .evaluations-fit) (in-one-piece h a) 0 0 h (attempt h a) (le, fits .attempts-fit) (attempt-follows h a p) j (let q = f .replies-are in omega arith);
       answer-is = same-says _ (Finished (o .norm)) (f .answer-is);
       evaluations-are = (let q = f .replies-are in let q′ = f .evaluations-are in omega arith);

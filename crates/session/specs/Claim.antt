@@ -1,10 +1,11 @@
 -- What ties the calls to the attempt in one piece: the same points at the same times in the same order, and then the same end. Document 01, demand 2's domain; "the evaluations of one finished attempt are s + k, with k from 1 to 12, each one reply".
 use mathlib.Core.Path.{_≡_}
-use mathlib.Core.Bool.{Bool, true}
+use mathlib.Core.Bool.{Bool, true, false}
 use mathlib.Core.List.{List, [], _∷_, _++_}
 use Prim.Native.Nat.{ℕ, zero, suc, _+_, _≤_, _<_, _^_}
 use lib.ListN.{length, take}
-use lib.Ieee.{Float}
+use lib.Ieee.{Float, lt}
+use Rattle.ieee.specs.Double.{nought}
 use Rattle.family.specs.Family.{known, family-of, stage-count, permitted}
 use Rattle.workspace.specs.declared.Arguments.{Arguments}
 use Rattle.workspace.specs.Vectors.{Vector, Vectors, named, unpack, pack, all-finite, state, candidate, first-derivative, last-derivative}
@@ -91,6 +92,7 @@ pub record Finishes (h : Held) (a : Arguments) (o : Outcome) (replies : ℕ) (x 
   pub one-pass : 1 ≤ o .passes
   pub twelve-passes : o .passes ≤ 12
   pub need-met : stage-need (family-of (h .kept .family)) (o .scaled-radius) ≡ Met (o .stages)
+  pub not-negative : lt (o .scaled-radius) nought ≡ false
   pub stages-permitted : permitted (family-of (h .kept .family)) (o .stages) ≡ true
 
 -- stopped by number i with the vectors v, by a reply that found b: of the record only the phase is changed, and on 9 nothing of the area
