@@ -11,7 +11,7 @@ use Rattle.workspace.proofs.Areas.{long-direction, long-perturbed}
 use Rattle.driver.specs.declared.Phase.{Phase}
 use Rattle.driver.specs.declared.Phase.the-variants as P
 use Rattle.driver.specs.Calls.{Held, Called, at-pass, ask-pass, may-attempt, good-times, good-tolerances, attempted, going-on, attempt, Attempt, taken}
-use Rattle.session.specs.Attempt.{done, stopped, ask, _>>=_, attempt-step}
+use Rattle.session.specs.Attempt.{done, stopped, ask, attempt-step}
 use Rattle.session.specs.Claim.{Allowed, in-one-piece}
 use Rattle.session.specs.Alike.{Same-start}
 use Rattle.session.specs.Session.{ready-with, tried, vectors-of, tries, Doing, none, within, Session, at-rest, doing-now, step, rests}
