@@ -6,7 +6,7 @@ use Prim.Native.Nat.{ℕ}
 use lib.Count.{trailingZeros}
 use lib.Ieee.{Float, binary64, toBits, add, sub, mul, div, neg, le, lt, eq, ofInt, round, toUnsigned, sum, units, odd, size, span, climb, isNan}
 use Rattle.ieee.specs.Double.{double, nearest, square, min-positive, root-epsilon, nought, one}
-use Rattle.ieee.specs.Sqrt.{rootOf, root, halves, rootUnits, sqrt}
+use Rattle.ieee.specs.Sqrt.{root-below, root, halves, root-units, sqrt}
 use Rattle.ieee.specs.Whole.{abs, max, floor, ceil}
 use Rattle.family.specs.Family.{known, family-of, smallest-count, largest-count, odd-only, permitted, before-limits, odd-step, limited, stage-count}
 use Rattle.coefficients.specs.Rows.{omega-zero, omega-one-of, b-first, first-mu-tilde, first-polynomials, recurrence, with-theta, legendre-one, coefficients, next-polynomials, next}
@@ -19,7 +19,7 @@ use Rattle.session.specs.Session.{Shown, evaluates, finished-with, ready
 
 -- opens, where it is named on an `unfolding` line, what a double's operation, an attempt of RKL1 and a session are made of
 unfoldable doubles : Unit {0}
-unfolding toBits add sub mul div neg le lt eq ofInt round toUnsigned sum units odd size span climb isNan trailingZeros rootOf root halves rootUnits sqrt abs max floor ceil double nearest square min-positive root-epsilon
+unfolding toBits add sub mul div neg le lt eq ofInt round toUnsigned sum units odd size span climb isNan trailingZeros root-below root halves root-units sqrt abs max floor ceil double nearest square min-positive root-epsilon
 doubles = tt
 
 unfoldable attempts : Unit {0}

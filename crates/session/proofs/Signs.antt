@@ -9,7 +9,7 @@ use borrow.Author.Tests.{le-ltb}
 use lib.IntN.{pos}
 use lib.Ieee.{Float, nan, inf, fin, binary64, low, up, down, round, sum, add, mul, div, lt, isNan}
 use Rattle.ieee.specs.Double.{_⊕_, _⊗_, _⊘_, nearest, nought, one, square, root-epsilon}
-use Rattle.ieee.specs.Sqrt.{halves, rootUnits, inUnits, sqrt}
+use Rattle.ieee.specs.Sqrt.{halves, root-units, in-units, sqrt}
 use Rattle.ieee.specs.Whole.{abs, max}
 use Rattle.ieee.proofs.Monotone.{NonNeg, infinite, number, round-nonneg}
 use Rattle.workspace.specs.Vectors.{Vectors, sum-of-squares, root-of-squares, vector-norm, eigenvector, state}
@@ -73,11 +73,11 @@ squared (fin true m e) = rounded (m * up e * (m * up e)) (down e * down e)
 squared (fin false m e) = rounded (m * up e * (m * up e)) (down e * down e)
 
 rooted : (x : Float) → Plus x → Plus (sqrt x)
-unfolding sqrt rootUnits
+unfolding sqrt root-units
 rooted x no-number = no-number
 rooted x (unsigned infinite) = unsigned infinite
 rooted x (unsigned (number zero e)) = unsigned (number 0 e)
-rooted x (unsigned (number (suc m) e)) = rounded (halves (inUnits (fin false (suc m) e) * 2 ^ low binary64)) (2 * 2 ^ low binary64)
+rooted x (unsigned (number (suc m) e)) = rounded (halves (in-units (fin false (suc m) e) * 2 ^ low binary64)) (2 * 2 ^ low binary64)
 
 sized : (x : Float) → Plus (abs x)
 unfolding abs
