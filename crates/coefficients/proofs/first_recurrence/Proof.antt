@@ -1,5 +1,5 @@
 -- `first_recurrence` meets its contract, call by call.
-use lib.Ieee.{ofBits, ofInt, neg}
+use lib.Ieee.{ofBits}
 use Rattle.coefficients.specs.Rows.{recurrence}
 use borrow.Author.Needs.{needs}
 use Rattle.coefficients.proofs.first_recurrence.Statement.{statement}

@@ -1,6 +1,6 @@
 -- `first_b` meets its contract, from omega_zero.
-use lib.Ieee.{ofBits, ofInt, neg}
-use Rattle.ieee.specs.Double.{double, square}
+use lib.Ieee.{ofBits}
+use Rattle.ieee.specs.Double.{square}
 use Rattle.coefficients.specs.Rows.{b-first}
 use borrow.Author.Needs.{needs}
 use Rattle.coefficients.proofs.chebyshev.first_b.Statement.{statement}
@@ -10,7 +10,7 @@ omega-zero-requires : tie.Need-omega-zero-requires
 omega-zero-requires c κs = search needs
 
 returns : tie.Need-returns
-unfolding b-first square double ofBits ofInt neg
+unfolding b-first square ofBits
 returns c = rw (c .omega-zero .ensures)
 
 pub first-b-spec : {M : Type 1} → statement M

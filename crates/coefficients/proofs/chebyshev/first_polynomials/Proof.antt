@@ -1,5 +1,5 @@
 -- `first_polynomials` meets its contract, from omega_zero and b.
-use lib.Ieee.{ofBits, ofInt, neg}
+use lib.Ieee.{ofBits}
 use Rattle.coefficients.specs.Rows.{first-polynomials}
 use borrow.Author.Needs.{needs}
 use Rattle.coefficients.proofs.chebyshev.first_polynomials.Statement.{statement}

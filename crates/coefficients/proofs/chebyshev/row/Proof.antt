@@ -1,6 +1,5 @@
 -- `row` meets its contract, from omega_zero and the polynomials of its stage.
-use lib.Ieee.{ofBits, ofInt, neg}
-use Rattle.ieee.specs.Double.{double, square}
+use lib.Ieee.{ofBits}
 use Rattle.coefficients.specs.Rows.{chebyshev, polynomials-on}
 use borrow.Author.Needs.{needs}
 use Rattle.coefficients.proofs.chebyshev.row.Statement.{statement}
@@ -13,7 +12,7 @@ next-polynomials-requires : tie.Need-next-polynomials-requires
 next-polynomials-requires c κs = search needs
 
 returns : tie.Need-returns
-unfolding chebyshev polynomials-on double ofBits ofInt neg
+unfolding chebyshev polynomials-on ofBits
 returns c = rw (c .before .before .before .before .before .next-polynomials .ensures, c .before .before .before .before .before .before .before .omega-zero .ensures)
 
 pub row-spec : {M : Type 1} → statement M

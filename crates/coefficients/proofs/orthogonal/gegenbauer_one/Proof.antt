@@ -1,6 +1,5 @@
 -- `gegenbauer_one` meets its contract, call by call.
-use lib.Ieee.{ofBits, ofInt, neg}
-use Rattle.ieee.specs.Double.{double, square}
+use lib.Ieee.{ofBits}
 use Rattle.coefficients.specs.Rows.{gegenbauer-one}
 use borrow.Author.Needs.{needs}
 use Rattle.coefficients.proofs.orthogonal.gegenbauer_one.Statement.{statement}
@@ -28,7 +27,7 @@ with-theta-requires : tie.Need-with-theta-requires
 with-theta-requires c κs = search needs
 
 returns : tie.Need-returns
-unfolding gegenbauer-one double ofBits ofInt neg
+unfolding gegenbauer-one ofBits
 returns c = rw (c .with-theta .ensures, c .before .gegenbauer-one-b3 .ensures, c .before .before .gegenbauer-one-b2 .ensures, c .before .before .before .gegenbauer-one-b .ensures, c .before .before .before .before .double-of .ensures)
 
 pub gegenbauer-one-spec : {M : Type 1} → statement M

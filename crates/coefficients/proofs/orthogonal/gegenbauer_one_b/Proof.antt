@@ -1,8 +1,7 @@
 -- `gegenbauer_one_b` meets its contract, from the cast of a product that fits.
 use Prim.Native.Nat.{_+_}
 use native.Mathlib.Omega.{arith}
-use lib.Ieee.{ofBits, ofInt, neg}
-use Rattle.ieee.specs.Double.{double, square}
+use lib.Ieee.{ofBits}
 use Rattle.coefficients.specs.Rows.{gegenbauer-one-b}
 use Rattle.coefficients.proofs.Small.{product}
 use borrow.Author.Needs.{needs}
@@ -22,7 +21,7 @@ double-of-requires : tie.Need-double-of-requires
 double-of-requires c κs = search needs
 
 returns : tie.Need-returns
-unfolding gegenbauer-one-b double ofBits ofInt neg
+unfolding gegenbauer-one-b ofBits
 returns c = rw (c .double-of .ensures)
 
 pub gegenbauer-one-b-spec : {M : Type 1} → statement M

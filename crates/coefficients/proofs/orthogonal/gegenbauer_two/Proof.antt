@@ -1,6 +1,5 @@
 -- `gegenbauer_two` meets its contract, call by call.
-use lib.Ieee.{ofBits, ofInt, neg}
-use Rattle.ieee.specs.Double.{double, square}
+use lib.Ieee.{ofBits}
 use Prim.Native.Nat.{_+_}
 use native.Mathlib.Omega.{arith}
 use Rattle.coefficients.specs.Rows.{gegenbauer-two}
@@ -40,7 +39,7 @@ with-theta-requires : tie.Need-with-theta-requires
 with-theta-requires c κs = search needs
 
 returns : tie.Need-returns
-unfolding gegenbauer-two double ofBits ofInt neg
+unfolding gegenbauer-two ofBits
 returns c = rw (c .with-theta .ensures, c .before .double-of2 .ensures, c .before .before .gegenbauer-two-b3 .ensures, c .before .before .before .gegenbauer-two-b2 .ensures, c .before .before .before .before .gegenbauer-two-b .ensures, c .before .before .before .before .before .double-of .ensures)
 
 pub gegenbauer-two-spec : {M : Type 1} → statement M

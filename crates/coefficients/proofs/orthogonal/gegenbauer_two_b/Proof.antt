@@ -1,9 +1,8 @@
 -- `gegenbauer_two_b` meets its contract, from the cast.
 use mathlib.Core.Path.{_≡_, refl, _∙_, ap}
 use Prim.Native.Nat.{ℕ, zero, suc}
-use lib.Ieee.{Float, ofBits, ofInt, neg}
-use Rattle.ieee.specs.Double.{double, square}
-use Rattle.ieee.specs.Double.{_⊕_, _⊖_, _⊗_, _⊘_, one, two, three, four}
+use lib.Ieee.{Float, ofBits}
+use Rattle.ieee.specs.Double.{_⊕_, _⊖_, _⊗_, _⊘_, double, one, two, three, four}
 use Rattle.coefficients.specs.Rows.{gegenbauer-two-b}
 use borrow.Author.Needs.{needs}
 use Rattle.coefficients.proofs.orthogonal.gegenbauer_two_b.Statement.{statement}
@@ -20,18 +19,18 @@ b-late (suc zero) h l = absurd (l refl)
 b-late (suc (suc i)) h l = refl
 
 returns : tie.Need-returns
-unfolding gegenbauer-two-b double ofBits ofInt neg
+unfolding gegenbauer-two-b ofBits
 returns c = rw (c .if1 .taken)
 
 returns-2 : tie.Need-returns-2
-unfolding gegenbauer-two-b double ofBits ofInt neg
+unfolding gegenbauer-two-b ofBits
 returns-2 c = rw (c .if2 .taken)
 
 double-of-requires : tie.Need-double-of-requires
 double-of-requires c κs = search needs
 
 returns-3 : tie.Need-returns-3
-unfolding late double ofBits ofInt neg
+unfolding late ofBits
 returns-3 c = ap late (c .double-of .ensures) ∙ b-late _ (c .before .before .if1 .left) (c .before .if2 .left)
 
 pub gegenbauer-two-b-spec : {M : Type 1} → statement M

@@ -1,6 +1,5 @@
 -- `legendre_one` meets its contract, call by call.
-use lib.Ieee.{ofBits, ofInt, neg}
-use Rattle.ieee.specs.Double.{double, square}
+use lib.Ieee.{ofBits}
 use Rattle.coefficients.specs.Rows.{legendre-one}
 use borrow.Author.Needs.{needs}
 use Rattle.coefficients.proofs.orthogonal.legendre_one.Statement.{statement}
@@ -13,7 +12,7 @@ with-theta-requires : tie.Need-with-theta-requires
 with-theta-requires c κs = search needs
 
 returns : tie.Need-returns
-unfolding legendre-one double ofBits ofInt neg
+unfolding legendre-one ofBits
 returns c = rw (c .with-theta .ensures, c .before .double-of .ensures)
 
 pub legendre-one-spec : {M : Type 1} → statement M

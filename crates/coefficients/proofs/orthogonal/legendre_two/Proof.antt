@@ -1,6 +1,5 @@
 -- `legendre_two` meets its contract, call by call.
-use lib.Ieee.{ofBits, ofInt, neg}
-use Rattle.ieee.specs.Double.{double, square}
+use lib.Ieee.{ofBits}
 use Rattle.coefficients.specs.Rows.{legendre-two}
 use borrow.Author.Needs.{needs}
 use Rattle.coefficients.proofs.orthogonal.legendre_two.Statement.{statement}
@@ -28,7 +27,7 @@ with-theta-requires : tie.Need-with-theta-requires
 with-theta-requires c κs = search needs
 
 returns : tie.Need-returns
-unfolding legendre-two double ofBits ofInt neg
+unfolding legendre-two ofBits
 returns c = rw (c .with-theta .ensures, c .before .legendre-two-b3 .ensures, c .before .before .legendre-two-b2 .ensures, c .before .before .before .legendre-two-b .ensures, c .before .before .before .before .double-of .ensures)
 
 pub legendre-two-spec : {M : Type 1} → statement M
