@@ -1,3 +1,5 @@
 pub mod Ladder
 pub mod Sizes
+pub mod Ranges
 pub mod Steps
+pub mod Counting

@@ -1,16 +1,133 @@
--- From a step over the vectors to what the call leaves of the area.
-use mathlib.Core.Path.{_≡_, refl}
+-- Steps in code are the steps of the definition: how one is put together from its parts, and what a call leaves of the area.
+use mathlib.Core.Path.{_≡_, refl, sym, ap, subst, _∙_}
+use mathlib.Core.Bool.{Bool, true, false, cond, _||_}
 use mathlib.Core.List.{List}
-use Prim.Native.Nat.{ℕ, _*_}
+use Prim.Native.Nat.{ℕ, _+_, _*_, _≤_, _<_}
+use borrow.Author.Tests.{lt-ltb, le-ltb}
+use lib.Dec.{eqb}
 use lib.ListN.{length}
 use lib.Ieee.{Float}
-use Rattle.family.specs.Family.{Family}
-use Rattle.workspace.specs.Vectors.{unpack, vector-count}
+use Rattle.ieee.specs.Double.{nought}
+use Rattle.family.specs.Family.{Family, family-of}
+use Rattle.coefficients.specs.declared.Coefficients.{Coefficients}
+use Rattle.coefficients.specs.declared.Recurrence.{Recurrence}
+use Rattle.coefficients.specs.Rows.{recurrence, coefficients, next}
+use Rattle.workspace.specs.declared.Arguments.{Arguments}
+use Rattle.workspace.specs.Vectors.{Vectors, unpack, vector-count}
+use Rattle.workspace.specs.Kernel.{with-direction, perturbation-of, turned, radius-of, ended, scaled, first-stage, with-row, exchanged, with-candidate}
 use Rattle.workspace.proofs.Areas.{packed}
+use Rattle.driver.specs.declared.Record.{Record}
 use Rattle.driver.specs.declared.Next.{Next}
-use Rattle.driver.specs.Calls.{Step, going-on}
+use Rattle.driver.specs.declared.Need.the-variants.{Met}
+use Rattle.driver.specs.Calls.{Step, going-on, with-radius, at-pass, at-stage, ask-pass, ask-stage, by-need, begin-stages, take-pass, ask-candidate, take-stage}
 use Rattle.driver.specs.Promises.{Keeps, Steps}
 
+-- what a call leaves, from its step
 pub keeps : (f : Family) (n : ℕ) {s : Step} {x : Next} (left : List Float) → length left ≡ vector-count f * n → Steps s x (unpack n left) → Keeps (λ c. going-on c s) x left
 unfolding going-on
 keeps f n left h m = λ c. record { answer = m .answer; kept = m .kept; counters = refl; area = packed f n left h (m .vectors) }
+
+-- the same step, said otherwise
+pub as-step : {s t : Step} {x : Next} {v : Vectors} → s ≡ t → Steps s x v → Steps t x v
+as-step {x = x} {v} e m = subst (λ (s : Step). Steps s x v) e m
+
+-- the code measures the area by the record's own n
+pub measured : (r : Record) {n : ℕ} (area left : List Float) {x : Next} → r .n ≡ n → Steps (ask-pass r (unpack (r .n) area)) x (unpack (r .n) left) → Steps (ask-pass r (unpack n area)) x (unpack n left)
+measured r area left {x} e m = subst (λ (k : ℕ). Steps (ask-pass r (unpack k area)) x (unpack k left)) e m
+
+-- the power iteration begins
+pub attempts : (r : Record) (v : Vectors) (a : Arguments) {perturbation : Float} {made : Record} {x : Next} {w u : Vectors}
+    → perturbation ≡ perturbation-of v → made ≡ at-pass a 1 perturbation nought r → w ≡ with-direction (r .n) v → Steps (ask-pass made w) x u
+    → Steps (ask-pass (at-pass a 1 (perturbation-of v) nought r) (with-direction (r .n) v)) x u
+attempts r v a {w = w} e m p t =
+    as-step
+    (ap (λ (y : Record). ask-pass y w) (m ∙ ap (λ (y : Float). at-pass a 1 y nought r) e) ∙ ap (ask-pass (at-pass a 1 (perturbation-of v) nought r)) p)
+    t
+
+-- the stages begin
+pub begun : (r : Record) (v : Vectors) (radius : Float) (s : ℕ) {c : Recurrence} {known made : Record} {x : Next} {w : Vectors}
+    → c ≡ recurrence (family-of (r .family)) s → known ≡ with-radius radius r → made ≡ at-stage s 2 c known
+    → w ≡ first-stage (r .n) (r .arguments .step) (c .«theta_previous») v → Steps (ask-stage made w) x w → Steps (by-need (Met s) r v radius) x w
+unfolding by-need
+begun r v radius s {c} {w = w} e k m p t =
+    let c₀ = recurrence (family-of (r .family)) s in
+    as-step
+    (ap (λ (y : Record). ask-stage y w) (m ∙ ap (at-stage s 2 c) k ∙ ap (λ (y : Recurrence). at-stage s 2 y (with-radius radius r)) e)
+    ∙ ap (ask-stage (at-stage s 2 c₀ (with-radius radius r))) (p ∙ ap (λ (y : Recurrence). first-stage (r .n) (r .arguments .step) (y .«theta_previous») v) e))
+    t
+
+module _ (r : Record) (v : Vectors) (d : List Float) where
+  abbrev perturbation : Float
+  perturbation = r .iteration .perturbation
+
+  -- whether the pass is the last
+  abbrev is-last : Float → Bool
+  is-last radius = ended (r .iteration .pass) (r .iteration .«previous_radius») radius || eqb (r .iteration .pass) 12
+
+  pass-is : (w : Vectors) (radius : Float) → w ≡ turned (r .n) v d → radius ≡ radius-of (r .iteration .perturbation) w
+      → cond (is-last radius) (begin-stages r w (scaled (r .arguments .step) radius)) (ask-pass (at-pass (r .arguments) (r .iteration .pass + 1) perturbation radius r) w)
+      ≡ take-pass r v d
+  unfolding take-pass
+  pass-is w radius e f = let on : Float → Vectors → Step = λ z u. cond (is-last z) (begin-stages r u (scaled (r .arguments .step) z)) (ask-pass (at-pass (r .arguments) (r .iteration .pass + 1) perturbation z r) u) in
+      ap (λ (z : Float). on z w) f ∙ ap (λ (u : Vectors). on (radius-of perturbation u) u) e
+
+  -- after the last pass
+  pub iterated : (w : Vectors) (radius : Float) {b : Bool} {big : Float} {x : Next} {u : Vectors} → w ≡ turned (r .n) v d → radius ≡ radius-of (r .iteration .perturbation) w
+      → b ≡ (ended (r .iteration .pass) (r .iteration .«previous_radius») radius || eqb (r .iteration .pass) 12) → b ≡ true
+      → big ≡ scaled (r .arguments .step) radius → Steps (begin-stages r w big) x u → Steps (take-pass r v d) x u
+  iterated w radius e f b t g m =
+      as-step
+      (ap (begin-stages r w) g
+      ∙ sym (ap (λ (z : Bool). cond z (begin-stages r w (scaled (r .arguments .step) radius)) (ask-pass (at-pass (r .arguments) (r .iteration .pass + 1) perturbation radius r) w)) (sym b ∙ t))
+      ∙ pass-is w radius e f)
+      m
+
+  -- before it
+  pub iterates : (w : Vectors) (radius : Float) {b : Bool} {on : Record} {x : Next} {u : Vectors} → w ≡ turned (r .n) v d → radius ≡ radius-of (r .iteration .perturbation) w
+      → b ≡ (ended (r .iteration .pass) (r .iteration .«previous_radius») radius || eqb (r .iteration .pass) 12) → b ≡ false
+      → on ≡ at-pass (r .arguments) (r .iteration .pass + 1) (r .iteration .perturbation) radius r → Steps (ask-pass on w) x u → Steps (take-pass r v d) x u
+  iterates w radius e f b t g m =
+      as-step
+      (ap (λ (y : Record). ask-pass y w) g
+      ∙ sym (ap (λ (z : Bool). cond z (begin-stages r w (scaled (r .arguments .step) radius)) (ask-pass (at-pass (r .arguments) (r .iteration .pass + 1) perturbation radius r) w)) (sym b ∙ t))
+      ∙ pass-is w radius e f)
+      m
+
+  abbrev f : Family
+  f = family-of (r .family)
+
+  abbrev row-of : Coefficients
+  row-of = coefficients f (r .staging .stages) (r .staging .stage) (r .staging .recurrence)
+
+  -- the vectors after the row
+  abbrev rowed : Vectors
+  rowed = with-row f (r .n) (r .arguments .step) row-of v d
+
+  abbrev staged : Bool → Step
+  staged b = cond b (ask-stage (at-stage (r .staging .stages) (r .staging .stage + 1) (next f (r .staging .stages) (r .staging .recurrence) row-of) r) (exchanged rowed)) (ask-candidate r (with-candidate rowed))
+
+  -- below stage s
+  pub stages-on : {c : Coefficients} {on : Recurrence} {made : Record} {x : Next} {w : Vectors}
+      → c ≡ coefficients (family-of (r .family)) (r .staging .stages) (r .staging .stage) (r .staging .recurrence) → r .staging .stage < r .staging .stages
+      → w ≡ exchanged (with-row (family-of (r .family)) (r .n) (r .arguments .step) c v d) → on ≡ next (family-of (r .family)) (r .staging .stages) (r .staging .recurrence) c
+      → made ≡ at-stage (r .staging .stages) (r .staging .stage + 1) on r → Steps (ask-stage made w) x w → Steps (take-stage r v d) x w
+  unfolding take-stage
+  stages-on {w = w} e h p q m t =
+      let s = r .staging .stages in
+      let j = r .staging .stage in
+      as-step
+      (ap (λ (y : Record). ask-stage y w) (m ∙ ap (λ (y : Recurrence). at-stage s (j + 1) y r) (q ∙ ap (next f s (r .staging .recurrence)) e))
+      ∙ ap (ask-stage (at-stage s (j + 1) (next f s (r .staging .recurrence) row-of) r)) (p ∙ ap (λ (y : Coefficients). exchanged (with-row f (r .n) (r .arguments .step) y v d)) e)
+      ∙ sym (ap staged (lt-ltb j s h)))
+      t
+
+  -- at stage s
+  pub stages-end : {c : Coefficients} {x : Next} {u w : Vectors}
+      → c ≡ coefficients (family-of (r .family)) (r .staging .stages) (r .staging .stage) (r .staging .recurrence) → r .staging .stages ≤ r .staging .stage
+      → u ≡ with-row (family-of (r .family)) (r .n) (r .arguments .step) c v d → w ≡ with-candidate u → Steps (ask-candidate r w) x w → Steps (take-stage r v d) x w
+  unfolding take-stage
+  stages-end e h p q t =
+      as-step
+      (ap (ask-candidate r) (q ∙ ap with-candidate (p ∙ ap (λ (y : Coefficients). with-row f (r .n) (r .arguments .step) y v d) e))
+      ∙ sym (ap staged (le-ltb (r .staging .stage) (r .staging .stages) h)))
+      t

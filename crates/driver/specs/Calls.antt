@@ -267,13 +267,16 @@ attempt h a = let r = h .kept in
     (check h 7 (good-tolerances a)
     (going-on (h .counters) (attempted h a)))))))
 
+abbrev pub one-more : Counters → Counters
+one-more c = record { evaluations = c .evaluations + 1; «finished_attempts» = c .«finished_attempts» }
+
 -- a reply counts as an evaluation, and the one that finishes an attempt as that too
 unfoldable pub counted : Answer → Counters → Counters
-counted (Evaluate t a) c = record { evaluations = c .evaluations + 1; «finished_attempts» = c .«finished_attempts» }
+counted (Evaluate t a) c = one-more c
 counted (Finished e) c = record { evaluations = c .evaluations + 1; «finished_attempts» = c .«finished_attempts» + 1 }
-counted Ready c = record { evaluations = c .evaluations + 1; «finished_attempts» = c .«finished_attempts» }
-counted (Refused i) c = record { evaluations = c .evaluations + 1; «finished_attempts» = c .«finished_attempts» }
-counted Empty c = record { evaluations = c .evaluations + 1; «finished_attempts» = c .«finished_attempts» }
+counted Ready c = one-more c
+counted (Refused i) c = one-more c
+counted Empty c = one-more c
 
 -- the derivative is not finite: it is counted and not written
 unfoldable pub spoiled : Held → Called

@@ -17,6 +17,7 @@ use Rattle.driver.specs.declared.Counters.{Counters}
 use Rattle.driver.specs.declared.Answer.{Answer}
 use Rattle.driver.specs.declared.Answer.the-variants.{Refused}
 use Rattle.driver.specs.declared.Next.{Next}
+use Rattle.driver.specs.declared.Replied.{Replied}
 use Rattle.driver.specs.Answers.{Says}
 use Rattle.driver.specs.Calls.{Held, Called, Step}
 
@@ -30,6 +31,10 @@ pub record Meets (promised : Called) (given : Answer) (r : Record) (c : Counters
   pub kept : r ≡ promised .held .kept
   pub counters : c ≡ promised .held .counters
   pub area : left ≡ promised .held .area
+
+-- a call that is turned away hands back what it was handed
+abbrev pub turned-away : ℕ → Record → Counters → Replied
+turned-away k r c = record { answer = Refused k; «record» = r; counters = c }
 
 abbrev pub refusal : ℕ → Record → Next
 refusal k r = record { answer = Refused k; «record» = r }

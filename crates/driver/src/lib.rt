@@ -1,14 +1,19 @@
 // driver.rs: the six calls. A record goes in by value and comes back by value; the area and the inputs
 // are slices; no call requires anything of its caller.
 ghost use mathlib.Core.Path.{_≡_};
+ghost use Prim.Native.Nat.{_<_, _-_, _^_};
+ghost use Rattle.driver.specs.declared.Phase.the-variants as P;
+ghost use Rattle.driver.specs.declared.Answer.the-variants.{Refused};
+ghost use Rattle.driver.specs.Answers.{case-number};
 ghost use Rattle.driver.specs.Calls as calls;
-ghost use Rattle.driver.specs.Promises.{Meets, Keeps, holding, refusal, new-record, no-recurrence};
+ghost use Rattle.driver.specs.Promises.{Meets, Keeps, holding, refusal, turned-away, new-record, no-recurrence};
 use coefficients::Polynomials;
 use coefficients::Recurrence;
 use workspace::Arguments;
 
 mod checks;
 mod position;
+mod replies;
 
 // Where a record is between two calls.
 pub enum Phase {
@@ -173,6 +178,125 @@ pub fn start(
             vector: workspace::STATE,
         },
         record: waiting,
+    }
+}
+
+// Steps from the kept state: the first pass of the power iteration. Allowed when ready, and after a finished attempt.
+pub fn attempt(record: Record, area: &mut [f64], arguments: Arguments) -> Next
+    ensures { λ r. ⌜ Keeps (λ c. calls.attempt (holding «record» c (now (area .entry))) arguments) r (now (area .exit)) ⌝ }
+{
+    let n = record.n;
+    let phase = record.phase;
+    if !checks::known(record.family) {
+        return refused(record, 1);
+    }
+    if !checks::sized(n) {
+        return refused(record, 2);
+    }
+    if !checks::whole_area(record.family, n, area) {
+        return refused(record, 3);
+    }
+    if !checks::may_attempt(phase) {
+        return refused(record, 4);
+    }
+    if !checks::good_times(arguments) {
+        return refused(record, 6);
+    }
+    if !checks::good_tolerances(arguments) {
+        return refused(record, 7);
+    }
+    let perturbation = workspace::perturbation(area, n);
+    workspace::choose_direction(area, n);
+    let begun = position::at_pass(record, arguments, 1, perturbation, 0.0);
+    replies::ask_pass(begun, area)
+}
+
+// One more evaluation.
+fn evaluated(counters: Counters) -> Counters
+    requires { ⌜ counters .evaluations < 2 ^ 64 - 1 ⌝ }
+    ensures { λ r. ⌜ r ≡ calls.one-more counters ⌝ }
+{
+    Counters {
+        evaluations: counters.evaluations + 1,
+        finished_attempts: counters.finished_attempts,
+    }
+}
+
+// One more evaluation, and one more finished attempt where the answer says so.
+fn counted(answer: Answer, counters: Counters) -> Counters
+    requires { ⌜ counters .evaluations < 2 ^ 64 - 1 ⌝ }
+    requires { ⌜ (case-number answer ≡ 2 → counters .«finished_attempts» < 2 ^ 64 - 1) ⌝ }
+    ensures { λ r. ⌜ r ≡ calls.counted answer counters ⌝ }
+{
+    match answer {
+        Answer::Evaluate { time: _, vector: _ } => evaluated(counters),
+        Answer::Finished { norm: _ } => Counters {
+            evaluations: counters.evaluations + 1,
+            finished_attempts: counters.finished_attempts + 1,
+        },
+        Answer::Ready => evaluated(counters),
+        Answer::Refused(_) => evaluated(counters),
+        Answer::Empty => evaluated(counters),
+    }
+}
+
+// Turned away: record and counters stand.
+fn turned_away(record: Record, counters: Counters, number: u64) -> Replied
+    ensures { λ r. ⌜ r ≡ turned-away number «record» counters ⌝ }
+{
+    Replied {
+        answer: Answer::Refused(number),
+        record,
+        counters,
+    }
+}
+
+// A derivative that is not finite: counted and not written.
+fn spoiled(record: Record, counters: Counters) -> Replied
+    requires { ⌜ counters .evaluations < 2 ^ 64 - 1 ⌝ }
+    ensures { λ r. ⌜ r ≡ record { answer = Refused 9; «record» = calls.in-phase P.Empty «record»; counters = calls.one-more counters } ⌝ }
+{
+    let empty = position::in_phase(record, Phase::Empty);
+    let more = evaluated(counters);
+    Replied {
+        answer: Answer::Refused(9),
+        record: empty,
+        counters: more,
+    }
+}
+
+// Brings the derivative that was asked for.
+pub fn reply(record: Record, counters: Counters, area: &mut [f64], derivative: &[f64]) -> Replied
+    ensures { λ r. ⌜ Meets (calls.reply (holding «record» counters (now (area .entry))) (now (derivative .entry))) (r .answer) (r .«record») (r .counters) (now (area .exit)) ⌝ }
+{
+    let n = record.n;
+    let phase = record.phase;
+    if !checks::known(record.family) {
+        return turned_away(record, counters, 1);
+    }
+    if !checks::sized(n) {
+        return turned_away(record, counters, 2);
+    }
+    if !checks::both_long(record.family, n, area, derivative) {
+        return turned_away(record, counters, 3);
+    }
+    if !checks::awaiting(record) {
+        return turned_away(record, counters, 4);
+    }
+    if !checks::has_room(phase, counters) {
+        return turned_away(record, counters, 8);
+    }
+    if !workspace::all_finite(derivative) {
+        return spoiled(record, counters);
+    }
+    let next = replies::replied(record, area, derivative);
+    let answer = next.answer;
+    let after = next.record;
+    let more = counted(answer, counters);
+    Replied {
+        answer,
+        record: after,
+        counters: more,
     }
 }
 

@@ -1,0 +1,58 @@
+-- `begin_stages` meets its contract, by the stage need. A need that is met is at most 200.
+use mathlib.Core.Path.{refl, sym, ap, _∙_}
+use native.Mathlib.Omega.{arith}
+use borrow.Author.Needs.{needs}
+use Rattle.workspace.specs.Vectors.{unpack}
+use Rattle.driver.specs.declared.Need.{Need}
+use Rattle.driver.specs.Calls.{by-need, begin-stages}
+use Rattle.driver.proofs.Ranges.{need-most}
+use Rattle.driver.proofs.Steps.{as-step}
+use Rattle.driver.proofs.Ladder.{says}
+use Rattle.driver.proofs.replies.begin_stages.Statement.{statement}
+use Rattle.driver.proofs.replies.begin_stages.Tie as tie
+
+stage-need-requires : tie.Need-stage-need-requires
+stage-need-requires c κs = search needs
+
+enum-known-need : tie.Need-enum-known-need
+enum-known-need c = search needs
+
+first-stage-requires : tie.Need-first-stage-requires
+first-stage-requires c κs =
+    let s = need-most _ _ _ (sym (c .before .before .need .given .1) ∙ c .before .before .before .before .stage-need .ensures) in
+    (c .before .before .before .before .before .before .pre, omega (arith, s))
+
+enum-known-need-2 : tie.Need-enum-known-need-2
+enum-known-need-2 c = search needs
+
+in-phase-requires : tie.Need-in-phase-requires
+in-phase-requires c κs = search needs
+
+same-length : tie.Need-same-length
+same-length c = search needs
+
+returns : tie.Need-returns
+unfolding begin-stages
+returns c =
+    let a = c .before .before .before .before .before .before .before .before .before .args in
+    as-step (ap (λ (y : Need). by-need y (a .«record») (unpack (a .«record» .n) (a .area .now)) (a .scaled-radius)) (sym (c .before .before .before .before .before .need .given .1) ∙ c .before .before .before .before .before .before .before .stage-need .ensures)) (c .before .before .first-stage .ensures)
+
+returns-2 : tie.Need-returns-2
+unfolding begin-stages by-need
+returns-2 c =
+    let a = c .before .before .before .before .before .before .args in
+    as-step (ap (λ (y : Need). by-need y (a .«record») (unpack (a .«record» .n) (a .area .now)) (a .scaled-radius)) (sym (c .before .before .need2 .given .1) ∙ c .before .before .before .before .stage-need .ensures))
+    (record { answer = says refl; kept = c .in-phase .ensures; vectors = refl })
+
+pub begin-stages-spec : {M : Type 1} → statement M
+begin-stages-spec =
+    tie.close
+    (tie.spec
+    stage-need-requires
+    enum-known-need
+    first-stage-requires
+    enum-known-need-2
+    in-phase-requires
+    same-length
+    returns
+    returns-2)

@@ -1,0 +1,16 @@
+-- `spoiled` meets its contract, from its two callees.
+use borrow.Author.Needs.{needs}
+use Rattle.driver.proofs.spoiled.Statement.{statement}
+use Rattle.driver.proofs.spoiled.Tie as tie
+
+in-phase-requires : tie.Need-in-phase-requires
+in-phase-requires c κs = search needs
+
+evaluated-requires : tie.Need-evaluated-requires
+evaluated-requires c κs = search needs
+
+returns : tie.Need-returns
+returns c = rw (c .before .in-phase .ensures, c .evaluated .ensures)
+
+pub spoiled-spec : {M : Type 1} → statement M
+spoiled-spec = tie.close (tie.spec in-phase-requires evaluated-requires returns)

@@ -1,0 +1,232 @@
+// A derivative that is not turned away: what it does in each phase, and what is asked next.
+ghost use mathlib.Core.Path.{_≡_};
+ghost use mathlib.Core.Bool.{true, _||_};
+ghost use Prim.Native.Nat.{_*_, _≤_, _<_, _^_};
+ghost use lib.Dec.{eqb};
+ghost use lib.ListN.{length};
+ghost use Rattle.family.specs.Family.{family-of};
+ghost use Rattle.workspace.specs.Vectors.{Vectors, unpack};
+ghost use Rattle.workspace.specs.Kernel.{ended};
+ghost use Rattle.driver.specs.declared.Need as need;
+ghost use Rattle.driver.specs.Calls as calls;
+ghost use Rattle.driver.specs.Promises.{Steps};
+use crate::Answer;
+use crate::Need;
+use crate::Next;
+use crate::Phase;
+use crate::Record;
+use crate::position;
+
+// The derivative of the kept state.
+pub fn take_first(record: Record, area: &mut [f64], derivative: &[f64]) -> Next
+    requires { ⌜ 11 * «record» .n ≤ length (now area) ⌝ }
+    requires { ⌜ length (now derivative) ≡ «record» .n ⌝ }
+    ensures { λ r. ⌜ Steps (calls.take-first «record» (unpack («record» .n) (now (area .entry))) (now (derivative .entry))) r (unpack («record» .n) (now (area .exit))) ⌝ }
+{
+    let n = record.n;
+    workspace::put_vector(area, n, workspace::FIRST_DERIVATIVE, derivative);
+    let ready = position::in_phase(record, Phase::Ready);
+    Next {
+        answer: Answer::Ready,
+        record: ready,
+    }
+}
+
+// The derivative of a state that a callback brought.
+pub fn take_callback(record: Record, area: &mut [f64], derivative: &[f64]) -> Next
+    requires { ⌜ 11 * «record» .n ≤ length (now area) ⌝ }
+    requires { ⌜ length (now derivative) ≡ «record» .n ⌝ }
+    ensures { λ r. ⌜ Steps (calls.take-callback «record» (unpack («record» .n) (now (area .entry))) (now (derivative .entry))) r (unpack («record» .n) (now (area .exit))) ⌝ }
+{
+    let n = record.n;
+    workspace::put_vector(area, n, workspace::FIRST_DERIVATIVE, derivative);
+    workspace::fill_vector(area, n, workspace::EIGENVECTOR, 0.0);
+    let ready = position::in_phase(record, Phase::Ready);
+    Next {
+        answer: Answer::Ready,
+        record: ready,
+    }
+}
+
+pub fn ask_pass(record: Record, area: &mut [f64]) -> Next
+    requires { ⌜ 11 * «record» .n ≤ length (now area) ⌝ }
+    ensures { λ r. ⌜ Steps (calls.ask-pass «record» (unpack («record» .n) (now (area .entry)))) r (unpack («record» .n) (now (area .exit))) ⌝ }
+{
+    let n = record.n;
+    workspace::perturb(area, n, record.iteration.perturbation);
+    Next {
+        answer: Answer::Evaluate {
+            time: record.arguments.time,
+            vector: workspace::PERTURBED_STATE,
+        },
+        record,
+    }
+}
+
+// The vectors stand.
+fn ask_stage(record: Record) -> Next
+    ensures { λ r. ⌜ ((v : Vectors) → Steps (calls.ask-stage «record» v) r v) ⌝ }
+{
+    let time = record.arguments.time
+        + record.arguments.step * record.staging.recurrence.theta_previous;
+    Next {
+        answer: Answer::Evaluate {
+            time,
+            vector: workspace::PREVIOUS_ONE,
+        },
+        record,
+    }
+}
+
+// How many stages this scaled radius takes.
+fn stage_need(family: u64, scaled_radius: f64) -> Need
+    ensures { λ r. ⌜ r ≡ calls.stage-need (family-of family) «scaled_radius» ⌝ }
+{
+    Need::Met(family::stages(family, scaled_radius))
+}
+
+fn first_stage(record: Record, area: &mut [f64], scaled_radius: f64, stages: u64) -> Next
+    requires { ⌜ 11 * «record» .n ≤ length (now area) ⌝ }
+    requires { ⌜ stages < 2 ^ 16 ⌝ }
+    ensures { λ r. ⌜ Steps (calls.by-need (need.Need.Met stages) «record» (unpack («record» .n) (now (area .entry))) «scaled_radius») r (unpack («record» .n) (now (area .exit))) ⌝ }
+{
+    let n = record.n;
+    let c = coefficients::first_recurrence(record.family, stages);
+    workspace::first_stage(area, n, record.arguments.step, c.theta_previous);
+    let known = position::with_radius(record, scaled_radius);
+    let begun = position::at_stage(known, stages, 2, c);
+    ask_stage(begun)
+}
+
+// The power iteration has ended. A need that is not met leaves the iteration's work and empties the phase.
+fn begin_stages(record: Record, area: &mut [f64], scaled_radius: f64) -> Next
+    requires { ⌜ 11 * «record» .n ≤ length (now area) ⌝ }
+    ensures { λ r. ⌜ Steps (calls.begin-stages «record» (unpack («record» .n) (now (area .entry))) «scaled_radius») r (unpack («record» .n) (now (area .exit))) ⌝ }
+{
+    let need = stage_need(record.family, scaled_radius);
+    match need {
+        Need::Met(stages) => first_stage(record, area, scaled_radius, stages),
+        Need::Unmet(number) => {
+            let empty = position::in_phase(record, Phase::Empty);
+            Next {
+                answer: Answer::Refused(number),
+                record: empty,
+            }
+        }
+    }
+}
+
+fn last_pass(pass: u64, previous_radius: f64, radius: f64) -> bool
+    ensures { λ r. ⌜ r ≡ (ended pass «previous_radius» radius || eqb pass 12) ⌝ }
+{
+    if workspace::iteration_ended(pass, previous_radius, radius) {
+        return true;
+    }
+    pass == 12
+}
+
+pub fn take_pass(record: Record, area: &mut [f64], derivative: &[f64]) -> Next
+    requires { ⌜ 11 * «record» .n ≤ length (now area) ⌝ }
+    requires { ⌜ length (now derivative) ≡ «record» .n ⌝ }
+    requires { ⌜ «record» .iteration .pass ≤ 12 ⌝ }
+    ensures { λ r. ⌜ Steps (calls.take-pass «record» (unpack («record» .n) (now (area .entry))) (now (derivative .entry))) r (unpack («record» .n) (now (area .exit))) ⌝ }
+{
+    let n = record.n;
+    let pass = record.iteration.pass;
+    let perturbation = record.iteration.perturbation;
+    workspace::turn(area, n, derivative);
+    let radius = workspace::radius(area, n, perturbation);
+    if last_pass(pass, record.iteration.previous_radius, radius) {
+        let scaled_radius = workspace::scaled_radius(record.arguments.step, radius);
+        return begin_stages(record, area, scaled_radius);
+    }
+    let arguments = record.arguments;
+    let on = position::at_pass(record, arguments, pass + 1, perturbation, radius);
+    ask_pass(on, area)
+}
+
+// The vectors stand.
+fn ask_candidate(record: Record, area: &[f64]) -> Next
+    requires { ⌜ 11 * «record» .n ≤ length (now area) ⌝ }
+    ensures { λ r. ⌜ Steps (calls.ask-candidate «record» (unpack («record» .n) (now (area .entry)))) r (unpack («record» .n) (now (area .entry))) ⌝ }
+{
+    let n = record.n;
+    if workspace::finite_vector(area, n, workspace::CANDIDATE) {
+        let time = record.arguments.time + record.arguments.step;
+        let asked = position::in_phase(record, Phase::Candidate);
+        return Next {
+            answer: Answer::Evaluate {
+                time,
+                vector: workspace::CANDIDATE,
+            },
+            record: asked,
+        };
+    }
+    let empty = position::in_phase(record, Phase::Empty);
+    Next {
+        answer: Answer::Refused(10),
+        record: empty,
+    }
+}
+
+pub fn take_stage(record: Record, area: &mut [f64], derivative: &[f64]) -> Next
+    requires { ⌜ 11 * «record» .n ≤ length (now area) ⌝ }
+    requires { ⌜ length (now derivative) ≡ «record» .n ⌝ }
+    requires { ⌜ (2 ≤ «record» .staging .stage) × («record» .staging .stage ≤ «record» .staging .stages) ⌝ }
+    requires { ⌜ «record» .staging .stages < 2 ^ 16 ⌝ }
+    ensures { λ r. ⌜ Steps (calls.take-stage «record» (unpack («record» .n) (now (area .entry))) (now (derivative .entry))) r (unpack («record» .n) (now (area .exit))) ⌝ }
+{
+    let n = record.n;
+    let family = record.family;
+    let step = record.arguments.step;
+    let s = record.staging.stages;
+    let j = record.staging.stage;
+    let c = record.staging.recurrence;
+    let row = coefficients::row_coefficients(family, s, j, c);
+    if j < s {
+        workspace::row_and_exchange(area, n, family, row, step, derivative);
+        let next = coefficients::next_recurrence(family, s, c, row);
+        let on = position::at_stage(record, s, j + 1, next);
+        return ask_stage(on);
+    }
+    workspace::row(area, n, family, row, step, derivative);
+    workspace::keep_candidate(area, n);
+    ask_candidate(record, area)
+}
+
+pub fn take_candidate(record: Record, area: &mut [f64], derivative: &[f64]) -> Next
+    requires { ⌜ 11 * «record» .n ≤ length (now area) ⌝ }
+    requires { ⌜ length (now derivative) ≡ «record» .n ⌝ }
+    requires { ⌜ («record» .n < 2 ^ 53) × («record» .staging .stages < 2 ^ 53) ⌝ }
+    ensures { λ r. ⌜ Steps (calls.take-candidate «record» (unpack («record» .n) (now (area .entry))) (now (derivative .entry))) r (unpack («record» .n) (now (area .exit))) ⌝ }
+{
+    let n = record.n;
+    let arguments = record.arguments;
+    workspace::last(area, n, record.family, arguments, derivative);
+    let norm = workspace::error_norm(area, n, record.family, record.staging.stages, arguments);
+    let finished = position::in_phase(record, Phase::Finished);
+    Next {
+        answer: Answer::Finished { norm },
+        record: finished,
+    }
+}
+
+// By the phase. Those with no evaluation pending are turned away before.
+pub fn replied(record: Record, area: &mut [f64], derivative: &[f64]) -> Next
+    requires { ⌜ 11 * «record» .n ≤ length (now area) ⌝ }
+    requires { ⌜ length (now derivative) ≡ «record» .n ⌝ }
+    requires { ⌜ («record» .n ≤ 512) × (calls.in-range («record» .phase) «record» ≡ true) ⌝ }
+    ensures { λ r. ⌜ Steps (calls.replied («record» .phase) «record» (unpack («record» .n) (now (area .entry))) (now (derivative .entry))) r (unpack («record» .n) (now (area .exit))) ⌝ }
+{
+    let phase = record.phase;
+    match phase {
+        Phase::Empty => take_first(record, area, derivative),
+        Phase::First => take_first(record, area, derivative),
+        Phase::Ready => take_first(record, area, derivative),
+        Phase::Pass => take_pass(record, area, derivative),
+        Phase::Stage => take_stage(record, area, derivative),
+        Phase::Candidate => take_candidate(record, area, derivative),
+        Phase::Finished => take_first(record, area, derivative),
+        Phase::Callback => take_callback(record, area, derivative),
+    }
+}
