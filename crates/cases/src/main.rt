@@ -15,12 +15,12 @@ fn apart(a: u64, b: u64) -> u64
 // A figure's name, and how many doubles the code's value lies from the nearest one to the figure.
 fn print_figure(name: &[u8], x: f64, figure: f64) {
     io::write_all(STDOUT_FILENO, name);
-    io::write_all(STDOUT_FILENO, b": ");
+    io::write_all(STDOUT_FILENO, b": off by ");
     io::print_decimal(
         STDOUT_FILENO,
         apart(ieee::bits_of(x), ieee::bits_of(figure)),
     );
-    io::write_all(STDOUT_FILENO, b" doubles apart\n");
+    io::write_all(STDOUT_FILENO, b" in the last place\n");
 }
 
 fn print_tally(name: &[u8], t: Tally) {
@@ -57,8 +57,8 @@ fn near(x: f64, y: f64, parts: f64) -> bool {
     ieee::abs(x - y) * parts <= ieee::abs(y)
 }
 
-// Sommeijer, Shampine and Verwer, RKC: the real stability interval is (omega_zero + 1) / omega_one, close to
-// 2/3 (s^2 - 1) (1 - 2/15 eps) with eps = 2/13.
+// Sommeijer, Shampine and Verwer, "RKC: an explicit solver for parabolic PDEs", J. Comput. Appl. Math. 88 (1998): the real
+// stability interval is (omega_zero + 1) / omega_one, close to 2/3 (s^2 - 1) (1 - 2/15 eps) with eps = 2/13.
 fn interval_agrees(s: u64) -> bool
     requires { ⌜ s < 2 ^ 16 ⌝ }
 {
@@ -121,8 +121,9 @@ fn times() -> Tally {
     t
 }
 
-// Meyer, Balsara and Aslam: RKL1 is stable for a step of (s^2 + s) / 2 explicit ones, RKL2 for (s^2 + s - 2) / 4, an explicit
-// one being 2 over the spectral radius. So 2 / omega_one is s^2 + s and (s^2 + s - 2) / 2.
+// Meyer, Balsara and Aslam, "A stabilized Runge-Kutta-Legendre method for explicit super-time-stepping of parabolic and mixed
+// equations", J. Comput. Phys. 257 (2014): RKL1 is stable for a step of (s^2 + s) / 2 explicit ones, RKL2 for
+// (s^2 + s - 2) / 4, an explicit one being 2 over the spectral radius. So 2 / omega_one is s^2 + s and (s^2 + s - 2) / 2.
 fn reach_agrees(s: u64) -> bool
     requires { ⌜ s < 2 ^ 16 ⌝ }
 {

@@ -25,7 +25,7 @@ use Rattle.ieee.specs.Double.{nought}
 use Rattle.coefficients.specs.declared.Recurrence.{Recurrence}
 use Rattle.coefficients.specs.declared.Coefficients.{Coefficients}
 use Rattle.coefficients.specs.Rows.{coefficients, omega-one-of, first-mu-tilde, legendre-one, legendre-two, gegenbauer-one, gegenbauer-two, with-theta}
-use Rattle.coefficients.specs.Closeness.{Close-row}
+use Rattle.coefficients.specs.Closeness.{Close-row, Same-row}
 use Rattle.ieee.specs.Close.{signed, sign, value, Close}
 use Rattle.ieee.proofs.Fit.{Fit, fit-same, fit-neg, fit-times, fit-close, num-pos, times-signed, natAbs-signed}
 use Rattle.coefficients.proofs.Doubles.{b-of, mu-with, nu-with, a-with, mu-of, nu-of, a-of}
@@ -132,12 +132,6 @@ close-row f s j t l' g c = let r = permitted-range (made-of f) s t in go f (r .0
     go Gegenbauer2 l h h' = row-is Gegenbauer2 s j l h l' h' (coefficients (made-of Gegenbauer2) s j c) refl refl refl (a-last Gegenbauer2 s j (tilde Gegenbauer2 s j l h l' h') (mu-tilde-fit Gegenbauer2 s j l h l' h') (a-fit Gegenbauer2 j l' h'))
 
 -- a row but for theta depends on family, s and j alone
-pub record Same-row (row other : Coefficients) : Type 0 where
-  pub same-mu : row .mu ≡ other .mu
-  pub same-nu : row .nu ≡ other .nu
-  pub same-mu-tilde : row .«mu_tilde» ≡ other .«mu_tilde»
-  pub same-gamma-tilde : row .«gamma_tilde» ≡ other .«gamma_tilde»
-
 pub same-row : (f : Orthogonal) (s j : ℕ) (c c' : Recurrence) → Same-row (coefficients (made-of f) s j c) (coefficients (made-of f) s j c')
 unfolding coefficients legendre-one legendre-two gegenbauer-one gegenbauer-two with-theta made-of
 same-row Legendre1 s j c c' = record { same-mu = refl; same-nu = refl; same-mu-tilde = refl; same-gamma-tilde = refl }
