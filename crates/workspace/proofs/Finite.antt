@@ -1,15 +1,15 @@
 -- x - x is 0 exactly where x is finite, and a list's flag at one more element.
 use mathlib.Core.Path.{_≡_, refl, sym, ap, _∙_}
 use mathlib.Core.List.{List, [], _∷_}
-use mathlib.Core.Bool.{Bool, true, false, not, cond, _&&_, Bool·beq}
-use Prim.Native.Nat.{ℕ, zero, suc, _+_, _-_, _*_, _≤_, _<_}
+use mathlib.Core.Bool.{Bool, true, false, not, cond, _&&_}
+use Prim.Native.Nat.{ℕ, zero, suc, _+_, _-_, _*_, _<_}
 use native.Mathlib.Nat.{not-suc-le-zero, le-of-suc-le-suc, mul-pos, zero-lt-suc, lt-irrefl}
 use native.Mathlib.Numerals.{add-one}
 use native.Mathlib.Omega.{arith}
-use lib.Dec.{ltb, ltb→lt, not-T, T}
-use lib.IntN.{ℤ, pos}
+use lib.Dec.{ltb, ltb→lt, not-T}
+use lib.IntN.{pos}
 use lib.ListN.{length, take, getD}
-use lib.Ieee.{Float, nan, inf, fin, binary64, sum, add, sub, neg, eq, ofBits, round, up, down, size, units, odd}
+use lib.Ieee.{Float, nan, inf, fin, binary64, sum, add, sub, neg, eq, round, up, down, size, units, odd}
 use lib.Ieee.Bits.{is-false}
 use lib.Ieee.Fits.{down-pos}
 use lib.Ieee.Scale.{finite, round-same}

@@ -22,11 +22,12 @@ fn error_at(area: &[f64], n: usize, i: usize, family: u64, step: f64) -> f64
     ensures { λ r. ⌜ r ≡ kernel.error (family-of family) step (column n (now (area .entry)) i) ⌝ }
 {
     let initial = area[STATE * n + i];
-    let last = area[CANDIDATE * n + i];
+    let final_state = area[CANDIDATE * n + i];
     let first = area[FIRST_DERIVATIVE * n + i];
+    let last = area[LAST_DERIVATIVE * n + i];
     match family {
-        1 => (4.0 * (initial - last) + 2.0 * step * (first + area[LAST_DERIVATIVE * n + i])) / 5.0,
-        _ => last - (initial + step * first),
+        1 => (4.0 * (initial - final_state) + 2.0 * step * (first + last)) / 5.0,
+        _ => final_state - (initial + step * first),
     }
 }
 

@@ -4,7 +4,7 @@ ghost use Prim.Native.Nat.{_*_, _≤_, _<_};
 ghost use lib.ListN.{length};
 ghost use lib.Ieee.{binary64, div};
 ghost use Rattle.ieee.specs.Sqrt.{sqrt};
-ghost use Rattle.workspace.specs.Vectors.{named, unpack, sum-of-squares, vector-norm};
+ghost use Rattle.workspace.specs.Vectors.{named, unpack, eigenvector, sum-of-squares, vector-norm};
 ghost use Rattle.workspace.specs.Kernel.{with-direction, perturbation-of, perturbed, turned, radius-of, ended, scaled};
 use crate::EIGENVECTOR;
 use crate::FIRST_DERIVATIVE;
@@ -77,18 +77,33 @@ pub fn perturbation(area: &[f64], n: usize) -> f64
     ROOT_EPSILON * ieee::max(norm_of(area, n, STATE), 1.0)
 }
 
-// The point of a pass.
-pub fn perturb(area: &mut [f64], n: usize, perturbation: f64)
+// The norm of the direction.
+pub fn direction_norm(area: &[f64], n: usize) -> f64
     requires { ⌜ 11 * n ≤ length (now area) ⌝ }
-    ensures { λ _. ⌜ unpack n (now (area .exit)) ≡ perturbed n perturbation (unpack n (now (area .entry))) ⌝ }
+    ensures { λ r. ⌜ r ≡ vector-norm (unpack n (now (area .entry)) eigenvector) ⌝ }
 {
-    let norm = norm_of(area, n, EIGENVECTOR);
+    norm_of(area, n, EIGENVECTOR)
+}
+
+// The point of a pass, where the norm of the direction is at hand: the Rust works it out a second time.
+pub fn perturb_along(area: &mut [f64], n: usize, perturbation: f64, norm: f64)
+    requires { ⌜ 11 * n ≤ length (now area) ⌝ }
+    ensures { λ _. ⌜ (norm ≡ vector-norm (unpack n (now (area .entry)) eigenvector) → unpack n (now (area .exit)) ≡ perturbed n perturbation (unpack n (now (area .entry)))) ⌝ }
+{
     let scale = perturbation / ieee::max(norm, MIN_POSITIVE);
     let mut i = 0;
     while i < n {
         area[PERTURBED_STATE * n + i] = area[STATE * n + i] + scale * area[EIGENVECTOR * n + i];
         i += 1;
     }
+}
+
+pub fn perturb(area: &mut [f64], n: usize, perturbation: f64)
+    requires { ⌜ 11 * n ≤ length (now area) ⌝ }
+    ensures { λ _. ⌜ unpack n (now (area .exit)) ≡ perturbed n perturbation (unpack n (now (area .entry))) ⌝ }
+{
+    let norm = direction_norm(area, n);
+    perturb_along(area, n, perturbation, norm);
 }
 
 // The pass's derivative taken: the next direction.
@@ -110,7 +125,7 @@ pub fn radius(area: &[f64], n: usize, perturbation: f64) -> f64
     requires { ⌜ 11 * n ≤ length (now area) ⌝ }
     ensures { λ r. ⌜ r ≡ radius-of perturbation (unpack n (now (area .entry))) ⌝ }
 {
-    norm_of(area, n, EIGENVECTOR) / perturbation
+    direction_norm(area, n) / perturbation
 }
 
 // Whether the iteration ends after this pass: at radius 0, and from the second pass on at a small change.

@@ -2,7 +2,7 @@
 use mathlib.Core.Path.{_≡_, refl, _∙_}
 use lib.Ieee.{ofBits}
 use Rattle.ieee.specs.Double.{double}
-use Rattle.family.specs.Family.{Family, family-of}
+use Rattle.family.specs.Family.{family-of}
 use Rattle.coefficients.proofs.Numbers.{orthogonal}
 use Rattle.workspace.specs.Kernel.{divisor}
 use borrow.Author.Needs.{needs}

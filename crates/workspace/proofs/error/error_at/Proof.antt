@@ -30,17 +30,17 @@ mul-initial-2 c = omega arith
 shared-slice-read-initial : tie.Need-shared-slice-read-initial
 shared-slice-read-initial c = omega arith
 
-mul-last : tie.Need-mul-last
-mul-last c = omega arith
+mul-final-state : tie.Need-mul-final-state
+mul-final-state c = omega arith
 
-add-last : tie.Need-add-last
-add-last c = omega arith
+add-final-state : tie.Need-add-final-state
+add-final-state c = omega arith
 
-mul-last-2 : tie.Need-mul-last-2
-mul-last-2 c = omega arith
+mul-final-state-2 : tie.Need-mul-final-state-2
+mul-final-state-2 c = omega arith
 
-shared-slice-read-last : tie.Need-shared-slice-read-last
-shared-slice-read-last c = omega arith
+shared-slice-read-final-state : tie.Need-shared-slice-read-final-state
+shared-slice-read-final-state c = omega arith
 
 mul-first : tie.Need-mul-first
 mul-first c = omega arith
@@ -54,25 +54,25 @@ mul-first-2 c = omega arith
 shared-slice-read-first : tie.Need-shared-slice-read-first
 shared-slice-read-first c = omega arith
 
-mul-result : tie.Need-mul-result
-mul-result c = omega arith
+mul-last : tie.Need-mul-last
+mul-last c = omega arith
 
-add-result : tie.Need-add-result
-add-result c = omega arith
+add-last : tie.Need-add-last
+add-last c = omega arith
 
-mul-result-2 : tie.Need-mul-result-2
-mul-result-2 c = omega arith
+mul-last-2 : tie.Need-mul-last-2
+mul-last-2 c = omega arith
 
-shared-slice-read-result : tie.Need-shared-slice-read-result
-shared-slice-read-result c = omega arith
+shared-slice-read-last : tie.Need-shared-slice-read-last
+shared-slice-read-last c = omega arith
 
 returns : tie.Need-returns
 unfolding error ofBits
-returns c = let a = c .before .before .before .before .before .args in first (a .family) (a .step) (column (a .n) (a .area .now) (a .i)) (c .before .match .keys1)
+returns c = let a = c .before .before .before .before .before .args in first (a .family) (a .step) (column (a .n) (a .area .now) (a .i)) (c .match .keys1)
 
 returns-2 : tie.Need-returns-2
 unfolding error
-returns-2 c = let a = c .before .before .before .before .args in later (a .family) (a .step) (column (a .n) (a .area .now) (a .i)) (c .match .rest .1)
+returns-2 c = let a = c .before .before .before .before .before .args in later (a .family) (a .step) (column (a .n) (a .area .now) (a .i)) (c .match .rest .1)
 
 pub error-at-spec : {M : Type 1} → statement M
 error-at-spec =
@@ -82,17 +82,17 @@ error-at-spec =
     add-initial
     mul-initial-2
     shared-slice-read-initial
-    mul-last
-    add-last
-    mul-last-2
-    shared-slice-read-last
+    mul-final-state
+    add-final-state
+    mul-final-state-2
+    shared-slice-read-final-state
     mul-first
     add-first
     mul-first-2
     shared-slice-read-first
-    mul-result
-    add-result
-    mul-result-2
-    shared-slice-read-result
+    mul-last
+    add-last
+    mul-last-2
+    shared-slice-read-last
     returns
     returns-2)

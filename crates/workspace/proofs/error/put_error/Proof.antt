@@ -1,5 +1,5 @@
 -- `put_error` meets its contract, by the law of a loop over columns with one rule.
-use mathlib.Core.List.{List, [], _∷_}
+use mathlib.Core.List.{[], _∷_}
 use Prim.Native.Nat.{_-_}
 use Rattle.family.specs.Family.{family-of}
 use Rattle.workspace.specs.Vectors.{derivative}

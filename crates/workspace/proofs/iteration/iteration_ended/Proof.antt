@@ -1,7 +1,6 @@
 -- `iteration_ended` meets its contract, test by test.
 use native.Mathlib.Omega.{arith}
 use borrow.Author.Tests.{lt-ltb, le-ltb}
-use mathlib.Core.Path.{refl}
 use Rattle.ieee.specs.Double.{nearest}
 use lib.Ieee.{ofBits, round}
 use Rattle.workspace.specs.Kernel.{ended}
@@ -15,7 +14,7 @@ returns c = rw (c .if1 .taken)
 
 returns-2 : tie.Need-returns-2
 unfolding ended ofBits
-returns-2 c = rw (c .before .if1 .left, le-ltb 1 (c .before .before .args .pass) (c .if2 .taken))
+returns-2 c = rw (c .before .if1 .left, le-ltb 1 (c .before .before .args .pass) (omega arith))
 
 abs-requires : tie.Need-abs-requires
 abs-requires c κs = search needs

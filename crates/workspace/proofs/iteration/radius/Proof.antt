@@ -4,12 +4,12 @@ use borrow.Author.Needs.{needs}
 use Rattle.workspace.proofs.iteration.radius.Statement.{statement}
 use Rattle.workspace.proofs.iteration.radius.Tie as tie
 
-norm-of-requires : tie.Need-norm-of-requires
-norm-of-requires c κs = search needs
+direction-norm-requires : tie.Need-direction-norm-requires
+direction-norm-requires c κs = search needs
 
 returns : tie.Need-returns
 unfolding radius-of
-returns c = rw (c .norm-of .ensures)
+returns c = rw (c .direction-norm .ensures)
 
 pub radius-spec : {M : Type 1} → statement M
-radius-spec = tie.close (tie.spec norm-of-requires returns)
+radius-spec = tie.close (tie.spec direction-norm-requires returns)

@@ -1,10 +1,9 @@
 -- `turn` meets its contract: the derivative written, then the law of a loop over columns.
 use mathlib.Core.Path.{refl, ap, _∙_}
-use mathlib.Core.List.{List, [], _∷_}
+use mathlib.Core.List.{[], _∷_}
 use Prim.Native.Nat.{_-_}
-use lib.Ieee.{Float}
 use Rattle.ieee.specs.Double.{_⊖_}
-use Rattle.workspace.specs.Vectors.{Vectors, Vector, unpack, _with_≔_, each, eigenvector, perturbed-derivative, first-derivative}
+use Rattle.workspace.specs.Vectors.{Vectors, _with_≔_, each, eigenvector, perturbed-derivative, first-derivative}
 use Rattle.workspace.specs.Kernel.{turned}
 use Rattle.workspace.proofs.Columns.{Rules, Working, begin, turn, finish}
 use native.Mathlib.Omega.{arith}

@@ -1,11 +1,8 @@
 -- `entry_at` meets its contract: only the first family has a form of its own.
 use Rattle.workspace.proofs.Rows.{first-entry, later-entry}
-use mathlib.Core.Path.{_≡_, refl}
 use lib.Ieee.{ofBits}
-use Rattle.family.specs.Family.{family-of}
-use Rattle.coefficients.proofs.Numbers.{orthogonal}
 use Rattle.workspace.specs.Vectors.{column}
-use Rattle.workspace.specs.Kernel.{entry, chebyshev-entry, orthogonal-entry}
+use Rattle.workspace.specs.Kernel.{chebyshev-entry, orthogonal-entry}
 use native.Mathlib.Omega.{arith}
 use Rattle.workspace.proofs.stages.entry_at.Statement.{statement}
 use Rattle.workspace.proofs.stages.entry_at.Tie as tie

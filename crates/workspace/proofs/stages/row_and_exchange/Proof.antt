@@ -1,9 +1,7 @@
 -- `row_and_exchange` meets its contract: the derivative written, then the loop over the ten vectors lent.
-use mathlib.Core.Path.{_≡_, ap, _∙_}
-use Prim.Native.Nat.{_*_}
-use lib.ListN.{length}
+use mathlib.Core.Path.{ap, _∙_}
 use Rattle.family.specs.Family.{family-of}
-use Rattle.workspace.specs.Vectors.{Vectors, unpack}
+use Rattle.workspace.specs.Vectors.{Vectors}
 use Rattle.workspace.specs.Kernel.{entry, with-row, exchanged}
 use Rattle.workspace.proofs.Parts.{ten}
 use Rattle.workspace.proofs.Rows.{rowed, exchange-beside}
