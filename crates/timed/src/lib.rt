@@ -1,6 +1,8 @@
 // Loops over the calls whose speed bench/ measures. Nothing is promised of them but that they are safe and end.
 ghost use Prim.Native.Nat.{_≤_};
 
+mod loops;
+
 // the shorter of two lengths
 fn shorter(a: usize, b: usize) -> usize
     ensures { λ r. ⌜ (r ≤ a) × (r ≤ b) ⌝ }
