@@ -1,5 +1,5 @@
--- The root of a double lies at or above a / 2 ^ 1074 where the double is at least the square of that, rounded, and at or below it where it is at most that square: the root of a
--- large table's entry is bounded without working it out. Assumes nothing.
+-- The root of a double is bounded by a whole number of smallest values without being worked out: it is a / 2 ^ 1074, rounded, at least where the double is the square of a at least
+-- (`root-from`), and at most where it is that at most (`root-to`). Tables of many roots are tested so. Assumes nothing.
 use mathlib.Core.Path.{sym, _∙_}
 use Prim.Native.Nat.{ℕ, zero, suc, _+_, _*_, _^_, _≤_, _<_}
 use native.Mathlib.Nat.{le-trans, le-of-eq, le-antisymm, lt-of-le-of-lt, lt-of-not-le, mul-pos, mul-le-mul, mul-le-mul-right, mul-assoc, mul-left-comm}
