@@ -1,36 +1,35 @@
--- The numbers 1 to 8 leave everything as it was, in every call; only a reply gives a higher one.
+-- What a call that is turned away leaves: with 1 to 8 everything as it was; with a higher number, which only a reply gives, what `Left` names.
 use mathlib.Core.Path.{_≡_, refl, sym, ap, _∙_, subst}
-use mathlib.Core.Bool.{Bool, true, false, cond, _||_}
+use mathlib.Core.Bool.{Bool, true, false, cond, _&&_, _||_}
 use mathlib.Core.List.{List}
 use Prim.Native.Nat.{ℕ, _+_, _≤_}
 use native.Mathlib.Omega.{arith}
 use lib.Dec.{ltb, eqb}
+use borrow.Author.Tests.{eqb-true}
+use lib.ListN.{length}
 use lib.Ieee.{Float}
 use Rattle.ieee.specs.Double.{_⊕_}
 use Rattle.family.specs.Family.{family-of}
 use Rattle.coefficients.specs.Rows.{coefficients, next}
 use Rattle.workspace.specs.declared.Arguments.{Arguments}
-use Rattle.workspace.specs.Vectors.{Vectors, number, unpack, all-finite, candidate}
+use Rattle.workspace.specs.Vectors.{Vectors, number, unpack, all-finite, last-derivative, candidate}
 use Rattle.workspace.specs.Kernel.{turned, radius-of, ended, scaled, with-row, exchanged, with-candidate}
+use Rattle.workspace.proofs.Areas.{unpack-pack}
 use Rattle.driver.specs.declared.Phase.{Phase}
 use Rattle.driver.specs.declared.Phase.the-variants as P
 use Rattle.driver.specs.declared.Record.{Record}
+use Rattle.driver.specs.declared.Counters.{Counters}
 use Rattle.driver.specs.declared.Need.{Need}
 use Rattle.driver.specs.declared.Need.the-variants.{Met, Unmet}
 use Rattle.driver.specs.declared.Answer.{Answer}
 use Rattle.driver.specs.declared.Answer.the-variants.{Evaluate, Refused}
-use Rattle.driver.specs.Calls.{Held, Called, step-to, in-phase, at-pass, at-stage, take-first, take-callback, ask-pass, ask-stage, stage-need, by-need, begin-stages, take-pass, ask-candidate, take-stage, take-candidate, replied, check, start, attempted, going-on, attempt, spoiled, settled, reply, accepted, accept, called-back, accept-with-callback, abandon, Call, Start, Attempt, Reply, Accept, Accept-with-callback, Abandon, made}
-use Rattle.session.specs.Refusals.{Verdict, goes-on, turned-away, verdict-of}
+use Rattle.driver.specs.Answers.{Says}
+use Rattle.driver.specs.Calls.{Held, Called, Step, step-to, in-phase, at-pass, at-stage, take-first, take-callback, ask-pass, ask-stage, stage-need, by-need, begin-stages, take-pass, ask-candidate, take-stage, take-candidate, replied, whole-area, as-long, check, start, attempted, going-on, attempt, counted, spoiled, settled, reply, accepted, accept, called-back, accept-with-callback, abandon, Call, Start, Attempt, Reply, Accept, Accept-with-callback, Abandon, made}
+use Rattle.session.specs.Refusals.{Verdict, goes-on, turned-away, verdict-of, Left}
+use Rattle.session.proofs.Truth.{and-left, and-right}
 use Rattle.session.proofs.Needs.{Needed, need-holds}
-
--- refused with a number up to 8, the call left all
-abbrev pub Leaves : Held → Called → Type 0
-Leaves h x = (i : ℕ) → x .answer ≡ Refused i → i ≤ 8 → x .held ≡ h
-
-tested : (h : Held) (k : ℕ) (test : Bool) (go : Called) → Leaves h go → Leaves h (check h k test go)
-unfolding check
-tested h k true go l = l
-tested h k false go l = λ i e low. refl
+use Rattle.session.proofs.Lengths.{long-area, replied-long}
+use Rattle.session.proofs.Refused.{says-refused}
 
 abbrev is-refused : Verdict → Type 0
 is-refused goes-on = ⊥
@@ -47,86 +46,141 @@ unrefused y i g e = subst is-refused (ap verdict-of (sym e) ∙ g) tt
 same-number : (i j : ℕ) → Refused i ≡ Refused j → i ≡ j
 same-number i j e = ap (λ (y : Answer). number-or 0 (verdict-of y)) e
 
-passed : (h : Held) (x : Called) → verdict-of (x .answer) ≡ goes-on → Leaves h x
-passed h x g i e low = absurd (unrefused (x .answer) i g e)
+-- ---- a reply that passed its tests
 
--- a reply that passed its tests is refused with a number from 9 on only
-abbrev pub High : Answer → Type 0
-High y = (i : ℕ) → y ≡ Refused i → 9 ≤ i
+-- refused, it is with a number beyond 9, and of the record only the phase is changed
+pub record High (r : Record) (v : Vectors) (i : ℕ) (x : Step) : Type 0 where
+  pub beyond : 10 ≤ i
+  pub record-is : x .kept ≡ in-phase P.Empty r
+  pub last-stands : x .vectors last-derivative ≡ v last-derivative
 
-on : (y : Answer) → verdict-of y ≡ goes-on → High y
-on y g i e = absurd (unrefused y i g e)
+abbrev pub Refuses-high : Record → Vectors → Step → Type 0
+Refuses-high r v x = (i : ℕ) → x .answer ≡ Refused i → High r v i x
 
-candidate-high : (r : Record) (v : Vectors) → High (ask-candidate r v .answer)
+on : (r : Record) (v : Vectors) (x : Step) → verdict-of (x .answer) ≡ goes-on → Refuses-high r v x
+on r v x g i e = absurd (unrefused (x .answer) i g e)
+
+candidate-high : (r : Record) (v w : Vectors) → w last-derivative ≡ v last-derivative → Refuses-high r v (ask-candidate r w)
 unfolding ask-candidate
-candidate-high r v = go (all-finite (v candidate))
+candidate-high r v w same = go (all-finite (w candidate))
   where
-    go : (t : Bool) → High (cond t (step-to (Evaluate (r .arguments .time ⊕ r .arguments .step) (number candidate)) (in-phase P.Candidate r) v) (step-to (Refused 10) (in-phase P.Empty r) v) .answer)
-    go true = on _ refl
-    go false = λ i e. omega (arith, same-number 10 i e)
+    go : (t : Bool) → Refuses-high r v (cond t (step-to (Evaluate (r .arguments .time ⊕ r .arguments .step) (number candidate)) (in-phase P.Candidate r) w) (step-to (Refused 10) (in-phase P.Empty r) w))
+    go true = on r v _ refl
+    go false = λ i e. record { beyond = omega (arith, same-number 10 i e); record-is = refl; last-stands = same }
 
-need-high : (need : Need) (r : Record) (v : Vectors) (radius : Float) → Needed (family-of (r .family)) need → High (by-need need r v radius .answer)
+need-high : (need : Need) (r : Record) (v w : Vectors) (radius : Float) → w last-derivative ≡ v last-derivative → Needed (family-of (r .family)) need → Refuses-high r v (by-need need r w radius)
 unfolding by-need ask-stage
-need-high (Met s) r v radius ok = on _ refl
-need-high (Unmet j) r v radius ok = λ i e. let low = ok .0 in omega (arith, same-number j i e)
+need-high (Met s) r v w radius same ok = on r v _ refl
+need-high (Unmet j) r v w radius same ok = λ i e. record { beyond = (let low = ok .0 in omega (arith, same-number j i e)); record-is = refl; last-stands = same }
 
-pass-high : (t : Bool) (r r′ : Record) (v v′ : Vectors) (radius : Float) → High (cond t (begin-stages r v radius) (ask-pass r′ v′) .answer)
+pass-high : (t : Bool) (r r′ : Record) (v w : Vectors) (radius : Float) → w last-derivative ≡ v last-derivative → Refuses-high r v (cond t (begin-stages r w radius) (ask-pass r′ w))
 unfolding begin-stages ask-pass
-pass-high true r r′ v v′ radius = need-high (stage-need (family-of (r .family)) radius) r v radius (need-holds (family-of (r .family)) radius)
-pass-high false r r′ v v′ radius = on _ refl
+pass-high true r r′ v w radius same = need-high (stage-need (family-of (r .family)) radius) r v w radius same (need-holds (family-of (r .family)) radius)
+pass-high false r r′ v w radius same = on r v _ refl
 
-stage-high : (t : Bool) (r r′ : Record) (v v′ : Vectors) → High (cond t (ask-stage r v) (ask-candidate r′ v′) .answer)
+stage-high : (t : Bool) (r r′ : Record) (v u w : Vectors) → w last-derivative ≡ v last-derivative → Refuses-high r v (cond t (ask-stage r′ u) (ask-candidate r w))
 unfolding ask-stage
-stage-high true r r′ v v′ = on _ refl
-stage-high false r r′ v v′ = candidate-high r′ v′
+stage-high true r r′ v u w same = on r v _ refl
+stage-high false r r′ v u w same = candidate-high r v w same
 
-pub replied-high : (φ : Phase) (r : Record) (v : Vectors) (d : List Float) → High (replied φ r v d .answer)
-unfolding replied take-first take-callback take-pass take-stage take-candidate
-replied-high P.Empty r v d = on _ refl
-replied-high P.First r v d = on _ refl
-replied-high P.Ready r v d = on _ refl
+pub replied-high : (φ : Phase) (r : Record) (v : Vectors) (d : List Float) → Refuses-high r v (replied φ r v d)
+unfolding replied take-first take-callback take-pass take-stage take-candidate turned with-row with-candidate
+replied-high P.Empty r v d = on r v _ refl
+replied-high P.First r v d = on r v _ refl
+replied-high P.Ready r v d = on r v _ refl
 replied-high P.Pass r v d = let w = turned (r .n) v d in let i = r .iteration in let radius = radius-of (i .perturbation) w in
-    pass-high (ended (i .pass) (i .«previous_radius») radius || eqb (i .pass) 12) r (at-pass (r .arguments) (i .pass + 1) (i .perturbation) radius r) w w (scaled (r .arguments .step) radius)
+    pass-high (ended (i .pass) (i .«previous_radius») radius || eqb (i .pass) 12) r (at-pass (r .arguments) (i .pass + 1) (i .perturbation) radius r) v w (scaled (r .arguments .step) radius) refl
 replied-high P.Stage r v d = let f = family-of (r .family) in let s = r .staging .stages in let j = r .staging .stage in
     let row = coefficients f s j (r .staging .recurrence) in let w = with-row f (r .n) (r .arguments .step) row v d in
-    stage-high (ltb j s) (at-stage s (j + 1) (next f s (r .staging .recurrence) row) r) r (exchanged w) (with-candidate w)
-replied-high P.Candidate r v d = on _ refl
-replied-high P.Finished r v d = on _ refl
-replied-high P.Callback r v d = on _ refl
+    stage-high (ltb j s) r (at-stage s (j + 1) (next f s (r .staging .recurrence) row) r) v (exchanged w) (with-candidate w) refl
+replied-high P.Candidate r v d = on r v _ refl
+replied-high P.Finished r v d = on r v _ refl
+replied-high P.Callback r v d = on r v _ refl
+
+-- ---- every call
+
+abbrev Leaves : Held → Called → Type 0
+Leaves h x = (i : ℕ) → x .answer ≡ Refused i → Left h i (x .held)
+
+same : (h : Held) (i : ℕ) → i ≤ 8 → Left h i h
+same h i low = record {
+  all-stands = λ l. refl;
+  record-is = λ l. absurd (omega arith);
+  evaluations-are = λ l. absurd (omega arith);
+  attempts-are = λ l. refl;
+  last-stands = λ l. refl;
+  area-stands = λ e. refl;
+}
+
+tested : (h : Held) (k : ℕ) (test : Bool) (go : Called) → k ≤ 8 → (test ≡ true → Leaves h go) → Leaves h (check h k test go)
+unfolding check
+tested h k true go low l = l refl
+tested h k false go low l = λ i e. let q = same-number k i e in same h i (omega arith)
+
+passed : (h : Held) (x : Called) → verdict-of (x .answer) ≡ goes-on → Leaves h x
+passed h x g i e = absurd (unrefused (x .answer) i g e)
 
 start-leaves : (h : Held) (f n : ℕ) (y : List Float) (t : Float) → Leaves h (start h f n y t)
 unfolding start
-start-leaves h f n y t = tested h 1 _ _ (tested h 2 _ _ (tested h 3 _ _ (tested h 5 _ _ (tested h 6 _ _ (passed h _ refl)))))
+start-leaves h f n y t = tested h 1 _ _ (omega arith) (λ _. tested h 2 _ _ (omega arith) (λ _. tested h 3 _ _ (omega arith) (λ _. tested h 5 _ _ (omega arith) (λ _. tested h 6 _ _ (omega arith) (λ _. passed h _ refl)))))
 
 attempt-leaves : (h : Held) (a : Arguments) → Leaves h (attempt h a)
 unfolding attempt going-on attempted ask-pass
-attempt-leaves h a = tested h 1 _ _ (tested h 2 _ _ (tested h 3 _ _ (tested h 4 _ _ (tested h 6 _ _ (tested h 7 _ _ (passed h _ refl))))))
+attempt-leaves h a = tested h 1 _ _ (omega arith) (λ _. tested h 2 _ _ (omega arith) (λ _. tested h 3 _ _ (omega arith) (λ _. tested h 4 _ _ (omega arith) (λ _. tested h 6 _ _ (omega arith) (λ _. tested h 7 _ _ (omega arith) (λ _. passed h _ refl))))))
 
 reply-leaves : (h : Held) (d : List Float) → Leaves h (reply h d)
-unfolding reply settled going-on spoiled
-reply-leaves h d = tested h 1 _ _ (tested h 2 _ _ (tested h 3 _ _ (tested h 4 _ _ (tested h 8 _ _ (go (all-finite d))))))
+unfolding reply settled going-on counted spoiled as-long
+reply-leaves h d = tested h 1 _ _ (omega arith) (λ _. tested h 2 _ _ (omega arith) (λ _. tested h 3 _ _ (omega arith) (λ lengths. tested h 4 _ _ (omega arith) (λ _. tested h 8 _ _ (omega arith) (λ _. go lengths (all-finite d))))))
   where
-    go : (t : Bool) → Leaves h (cond t (settled (h .counters) (replied (h .kept .phase) (h .kept) (unpack (h .kept .n) (h .area)) d)) (spoiled h))
-    go true i e low = absurd (let high = replied-high (h .kept .phase) (h .kept) (unpack (h .kept .n) (h .area)) d i e in omega arith)
-    go false i e low = absurd (omega (arith, same-number 9 i e))
+    v : Vectors
+    v = unpack (h .kept .n) (h .area)
+
+    count : (i : ℕ) (y : Answer) → y ≡ Refused i → counted y (h .counters) ≡ record { evaluations = h .counters .evaluations + 1; «finished_attempts» = h .counters .«finished_attempts» }
+    count i y e = ap (λ (y : Answer). counted y (h .counters)) e
+
+    go : whole-area (h .kept .family) (h .kept .n) (h .area) && as-long (h .kept .n) d ≡ true → (t : Bool) → Leaves h (cond t (settled (h .counters) (replied (h .kept .phase) (h .kept) v d)) (spoiled h))
+    go lengths true i e =
+        let x = replied (h .kept .phase) (h .kept) v d in
+        let high = replied-high (h .kept .phase) (h .kept) v d i e in
+        let whole = and-left (whole-area (h .kept .family) (h .kept .n) (h .area)) (as-long (h .kept .n) d) lengths in
+        let long = eqb-true (length d) (h .kept .n) (and-right (whole-area (h .kept .family) (h .kept .n) (h .area)) (as-long (h .kept .n) d) lengths) in
+        record {
+          all-stands = λ l. absurd (let b = high .beyond in omega arith);
+          record-is = λ l. high .record-is;
+          evaluations-are = λ l. ap (λ (c : Counters). c .evaluations) (count i (x .answer) e);
+          attempts-are = λ l. ap (λ (c : Counters). c .«finished_attempts») (count i (x .answer) e);
+          last-stands = λ l. ap (λ (w : Vectors). w last-derivative) (unpack-pack (h .kept .n) (x .vectors) (replied-long (h .kept .phase) (h .kept) v d (long-area (h .kept .family) (h .kept .n) (h .area) whole) long)) ∙ high .last-stands;
+          area-stands = λ q. absurd (let b = high .beyond in omega arith);
+        }
+    go lengths false i e = let q = same-number 9 i e in record {
+      all-stands = λ l. absurd (omega arith);
+      record-is = λ l. refl;
+      evaluations-are = λ l. refl;
+      attempts-are = λ l. refl;
+      last-stands = λ l. refl;
+      area-stands = λ q. refl;
+    }
 
 accept-leaves : (h : Held) → Leaves h (accept h)
 unfolding accept going-on accepted
-accept-leaves h = tested h 1 _ _ (tested h 2 _ _ (tested h 3 _ _ (tested h 4 _ _ (passed h _ refl))))
+accept-leaves h = tested h 1 _ _ (omega arith) (λ _. tested h 2 _ _ (omega arith) (λ _. tested h 3 _ _ (omega arith) (λ _. tested h 4 _ _ (omega arith) (λ _. passed h _ refl))))
 
 callback-leaves : (h : Held) (y : List Float) (t : Float) → Leaves h (accept-with-callback h y t)
 unfolding accept-with-callback going-on called-back
-callback-leaves h y t = tested h 1 _ _ (tested h 2 _ _ (tested h 3 _ _ (tested h 4 _ _ (tested h 5 _ _ (tested h 6 _ _ (passed h _ refl))))))
+callback-leaves h y t = tested h 1 _ _ (omega arith) (λ _. tested h 2 _ _ (omega arith) (λ _. tested h 3 _ _ (omega arith) (λ _. tested h 4 _ _ (omega arith) (λ _. tested h 5 _ _ (omega arith) (λ _. tested h 6 _ _ (omega arith) (λ _. passed h _ refl))))))
 
 abandon-leaves : (h : Held) → Leaves h (abandon h)
 unfolding abandon
-abandon-leaves h = tested h 1 _ _ (tested h 2 _ _ (tested h 3 _ _ (tested h 4 _ _ (passed h _ refl))))
+abandon-leaves h = tested h 1 _ _ (omega arith) (λ _. tested h 2 _ _ (omega arith) (λ _. tested h 3 _ _ (omega arith) (λ _. tested h 4 _ _ (omega arith) (λ _. passed h _ refl))))
 
-pub leaves : (h : Held) (c : Call) → Leaves h (made h c)
+made-leaves : (h : Held) (c : Call) → Leaves h (made h c)
 unfolding made
-leaves h (Start f n y t) = start-leaves h f n y t
-leaves h (Attempt a) = attempt-leaves h a
-leaves h (Reply d) = reply-leaves h d
-leaves h Accept = accept-leaves h
-leaves h (Accept-with-callback y t) = callback-leaves h y t
-leaves h Abandon = abandon-leaves h
+made-leaves h (Start f n y t) = start-leaves h f n y t
+made-leaves h (Attempt a) = attempt-leaves h a
+made-leaves h (Reply d) = reply-leaves h d
+made-leaves h Accept = accept-leaves h
+made-leaves h (Accept-with-callback y t) = callback-leaves h y t
+made-leaves h Abandon = abandon-leaves h
+
+pub leaves : (h : Held) (c : Call) (i : ℕ) → Says (made h c .answer) (Refused i) → Left h i (made h c .held)
+leaves h c i s = made-leaves h c i (says-refused (made h c .answer) i s)

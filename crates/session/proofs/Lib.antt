@@ -11,8 +11,8 @@ pub mod Theorem
 pub mod Room
 pub mod Always
 pub mod Sequel
-pub mod Leaves
 pub mod Refused
+pub mod Leaves
 pub mod Alikes
 pub mod Agree
 pub mod Depends

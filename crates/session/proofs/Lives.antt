@@ -9,6 +9,7 @@ use lib.ListN.{length}
 use lib.Ieee.{Float}
 use Rattle.driver.specs.declared.Answer.{Answer}
 use Rattle.driver.specs.declared.Answer.the-variants.{Evaluate, Finished, Ready, Refused, Empty}
+use Rattle.driver.specs.Answers.{case-number, case-values}
 use Rattle.driver.specs.Calls.{Held, whole-area, start, Call, Start, Attempt, Reply, Accept, Accept-with-callback, Abandon, made, taken}
 use Rattle.session.specs.Session.{Seen, call-seen, seen-of, Session, step, session-seen, takes, session, fresh}
 use Rattle.session.proofs.Truth.{differ, and-right}
@@ -64,7 +65,7 @@ left h c e = go (made h c .answer) refl e
     go (Evaluate t b) s e = absurd (differ (sym e))
     go (Finished x) s e = absurd (differ (sym e))
     go Ready s e = absurd (differ (sym e))
-    go (Refused i) s e = leaves h c i s (leb-true i 8 (and-right (leb 1 i) (leb i 8) (un-not (leb 1 i && leb i 8) e)))
+    go (Refused i) s e = leaves h c i (record { same-case = ap case-number s; same-values = ap case-values s }) .all-stands (leb-true i 8 (and-right (leb 1 i) (leb i 8) (un-not (leb 1 i && leb i 8) e)))
     go Empty s e = absurd (differ (sym e))
 
 -- ---- a list of calls

@@ -2,6 +2,7 @@
 use mathlib.Core.Path.{_≡_, refl, sym, ap, _∙_}
 use mathlib.Core.Bool.{Bool, true, false, cond, not, _&&_}
 use mathlib.Core.List.{List}
+use Prim.Native.Nat.{ℕ, _≤_}
 use native.Mathlib.Omega.{arith}
 use lib.Dec.{leb}
 use borrow.Author.Tests.{eqb-true, leb-true}
@@ -17,12 +18,12 @@ use Rattle.session.specs.Claim.{room-in}
 use Rattle.session.specs.Session.{ready-with, tried, Doing, none, within, Session, waiting, counts-on, replied-with, step, waits, waits-with-room}
 use Rattle.session.proofs.Truth.{differ, and-left, and-right, and-none, and-assoc}
 use Rattle.session.proofs.Lengths.{long-area, pack-length, replied-long}
-use Rattle.session.proofs.Leaves.{High, replied-high}
+use Rattle.session.proofs.Leaves.{replied-high}
 use Rattle.session.proofs.Shows.{Shows, Does, Good}
 use Rattle.session.proofs.Standing.{check-taken, check-tells, last-tells, all-pass, none-pass, idle, K, N, W, standing, Place, inside, outside, place, roomy-alike}
 
 -- refused from 9 on is taken
-high-taken : (y : Answer) → High y → taken y ≡ true
+high-taken : (y : Answer) → ((i : ℕ) → y ≡ Refused i → 10 ≤ i) → taken y ≡ true
 unfolding taken
 high-taken (Evaluate t b) high = refl
 high-taken (Finished e) high = refl
@@ -42,7 +43,7 @@ reply-tells h d =
     (last-tells h 8 (has-room (h .kept .phase) (h .counters)) _ refl (go (all-finite d))))))
   where
     go : (t : Bool) → taken (cond t (settled (h .counters) (replied (h .kept .phase) (h .kept) (unpack (h .kept .n) (h .area)) d)) (spoiled h) .answer) ≡ true
-    go true = high-taken (replied (h .kept .phase) (h .kept) (unpack (h .kept .n) (h .area)) d .answer) (replied-high (h .kept .phase) (h .kept) (unpack (h .kept .n) (h .area)) d)
+    go true = high-taken (replied (h .kept .phase) (h .kept) (unpack (h .kept .n) (h .area)) d .answer) (λ i e. replied-high (h .kept .phase) (h .kept) (unpack (h .kept .n) (h .area)) d i e .beyond)
     go false = refl
 
 pub reply-agrees : (h : Held) (σ : Session) → h .counters ≡ σ .counts → Does (σ .family) (σ .n) (σ .doing) h → (d : List Float)

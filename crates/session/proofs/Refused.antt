@@ -119,7 +119,7 @@ told h (Accept-with-callback y t) = callback-told h y t
 told h Abandon = abandon-told h
 
 -- an answer that says refused with k is that
-says-refused : (y : Answer) (k : ℕ) → Says y (Refused k) → y ≡ Refused k
+pub says-refused : (y : Answer) (k : ℕ) → Says y (Refused k) → y ≡ Refused k
 unfolding case-number case-values
 says-refused (Evaluate t b) k s = absurd (omega (arith, s .same-case))
 says-refused (Finished e) k s = absurd (omega (arith, s .same-case))

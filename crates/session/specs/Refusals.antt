@@ -1,5 +1,6 @@
 -- Which number a call is turned away with: that of the first of its tests that fails. Document 01, "When a call is turned away".
-use Prim.Native.Nat.{ℕ}
+use Prim.Native.Nat.{ℕ, _+_, _≤_}
+use mathlib.Core.Path.{_≡_}
 use mathlib.Core.Bool.{Bool, false, cond, _&&_, _||_}
 use mathlib.Core.List.{List, [], _∷_}
 use lib.Dec.{ltb, eqb}
@@ -8,7 +9,7 @@ use lib.Ieee.Scale.{finite}
 use Rattle.family.specs.Family.{known, family-of}
 use Rattle.coefficients.specs.Rows.{coefficients}
 use Rattle.workspace.specs.declared.Arguments.{Arguments}
-use Rattle.workspace.specs.Vectors.{Vectors, unpack, all-finite, next-stage}
+use Rattle.workspace.specs.Vectors.{Vectors, unpack, all-finite, last-derivative, next-stage}
 use Rattle.workspace.specs.Kernel.{turned, radius-of, ended, scaled, with-row}
 use Rattle.driver.specs.declared.Phase.{Phase}
 use Rattle.driver.specs.declared.Phase.the-variants as P
@@ -17,7 +18,7 @@ use Rattle.driver.specs.declared.Need.{Need}
 use Rattle.driver.specs.declared.Need.the-variants.{Met, Unmet}
 use Rattle.driver.specs.declared.Answer.{Answer}
 use Rattle.driver.specs.declared.Answer.the-variants.{Evaluate, Finished, Ready, Refused, Empty}
-use Rattle.driver.specs.Calls.{Held, stage-need, sized, whole-area, as-long, awaiting, may-attempt, may-accept, good-times, good-tolerances, has-room, Call, Start, Attempt, Reply, Accept, Accept-with-callback, Abandon}
+use Rattle.driver.specs.Calls.{Held, in-phase, stage-need, sized, whole-area, as-long, awaiting, may-attempt, may-accept, good-times, good-tolerances, has-room, Call, Start, Attempt, Reply, Accept, Accept-with-callback, Abandon}
 
 -- the numbers are 1 to this
 abbrev pub largest-number : ℕ
@@ -157,3 +158,13 @@ infix 40 _∈_
 pub data _∈_ (k : ℕ) : List ℕ → Type 0 where
   here : {ks : List ℕ} → k ∈ (k ∷ ks)
   later : {i : ℕ} {ks : List ℕ} → k ∈ ks → k ∈ (i ∷ ks)
+
+-- ---- what a call that is turned away with i leaves: 1 to 8 everything; from 9 on the reply is counted, the phase is empty, the rest of the record and the last derivative stand, and on 9 the whole area
+
+pub record Left (h : Held) (i : ℕ) (x : Held) : Type 0 where
+  pub all-stands : i ≤ 8 → x ≡ h
+  pub record-is : 9 ≤ i → x .kept ≡ in-phase P.Empty (h .kept)
+  pub evaluations-are : 9 ≤ i → x .counters .evaluations ≡ h .counters .evaluations + 1
+  pub attempts-are : 9 ≤ i → x .counters .«finished_attempts» ≡ h .counters .«finished_attempts»
+  pub last-stands : 9 ≤ i → unpack (h .kept .n) (x .area) last-derivative ≡ unpack (h .kept .n) (h .area) last-derivative
+  pub area-stands : i ≡ 9 → x .area ≡ h .area
