@@ -16,11 +16,11 @@ static void heat_flow(double *derivative, const double *state) {
 }
 
 /* Brings derivatives until the engine asks for no more. */
-static stabilized_outcome run(stabilized_outcome outcome, stabilized_counters *counters, double *area) {
+static stabilized_outcome run(stabilized_outcome outcome, uint64_t counters[2], double *area) {
   while (outcome.answer.code == STABILIZED_EVALUATE) {
     double derivative[N];
     heat_flow(derivative, area + outcome.answer.number * N);
-    outcome = stabilized_reply(outcome.record, counters, area, STABILIZED_VECTORS * N, derivative, N);
+    outcome = stabilized_reply(outcome.record, &counters[0], &counters[1], area, STABILIZED_VECTORS * N, derivative, N);
   }
   return outcome;
 }
@@ -30,14 +30,14 @@ int main(void) {
   double state[N] = {0, 0, 100, 100, 100, 100, 0, 0};
   double time = 0.0, step = 0.0005;
   stabilized_record record = {0};
-  stabilized_counters counters = {0};
+  uint64_t counters[2] = {0};
 
   stabilized_outcome outcome =
       stabilized_start(record, area, STABILIZED_VECTORS * N, STABILIZED_RKL2, N, state, N, time);
-  outcome = run(outcome, &counters, area);
+  outcome = run(outcome, counters, area);
   for (int i = 0; i < 10 && outcome.answer.code == STABILIZED_READY; i++) {
     outcome = stabilized_attempt(outcome.record, area, STABILIZED_VECTORS * N, time, step, 1e-3, 1e-3, 1);
-    outcome = run(outcome, &counters, area);
+    outcome = run(outcome, counters, area);
     if (outcome.answer.code != STABILIZED_FINISHED) break;
     printf("t = %.4f  middle %9.5f  norm %.4f\n", time + step, area[STABILIZED_CANDIDATE * N + N / 2],
            outcome.answer.value);
@@ -48,7 +48,6 @@ int main(void) {
     printf("turned away with %u\n", (unsigned)outcome.answer.number);
     return 1;
   }
-  printf("%llu evaluations, %llu attempts\n", (unsigned long long)counters.evaluations,
-         (unsigned long long)counters.finished_attempts);
+  printf("%llu evaluations, %llu attempts\n", (unsigned long long)counters[0], (unsigned long long)counters[1]);
   return 0;
 }

@@ -69,11 +69,6 @@ enum {
 };
 
 typedef struct {
-  uint64_t evaluations;
-  uint64_t finished_attempts;
-} stabilized_counters;
-
-typedef struct {
   double time;
   double step;
   double absolute_tolerance;
@@ -140,9 +135,10 @@ stabilized_outcome stabilized_attempt(stabilized_record record, double *area, si
                                       double step, double absolute_tolerance, double relative_tolerance,
                                       uint64_t adaptive);
 
-/* Brings the derivative that was asked for. */
-stabilized_outcome stabilized_reply(stabilized_record record, stabilized_counters *counters, double *area,
-                                    size_t area_length, const double *derivative, size_t derivative_length);
+/* Brings the derivative that was asked for. It counts as an evaluation, and the last of an attempt as a finished attempt. */
+stabilized_outcome stabilized_reply(stabilized_record record, uint64_t *evaluations, uint64_t *finished_attempts,
+                                    double *area, size_t area_length, const double *derivative,
+                                    size_t derivative_length);
 
 /* After a finished attempt: the candidate becomes the kept state. */
 stabilized_outcome stabilized_accept(stabilized_record record, double *area, size_t area_length);
@@ -152,7 +148,7 @@ stabilized_outcome stabilized_accept_with_callback(stabilized_record record, dou
                                                    const double *state, size_t state_length, double time);
 
 /* While an evaluation is pending: ends it uncounted. Then only start is allowed. */
-stabilized_outcome stabilized_abandon(stabilized_record record, double *area, size_t area_length);
+stabilized_outcome stabilized_abandon(stabilized_record record, const double *area, size_t area_length);
 
 #ifdef __cplusplus
 }

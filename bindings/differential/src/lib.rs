@@ -7,3 +7,4 @@ pub mod pair;
 pub mod random;
 pub mod refusals;
 pub mod scenarios;
+pub mod trace;

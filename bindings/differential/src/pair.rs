@@ -6,6 +6,7 @@
 use crate::model::Replies;
 use crate::random::{Random, all_same, same};
 use crate::refusals::{Call, Given, Held, check, number};
+use crate::trace::Trace;
 use oracle::{Oracle, SolveError};
 use stabilized::calls::{
     self, Answer, Arguments, Counters, Record, Reply, VECTORS, code, phase, vector,
@@ -57,6 +58,8 @@ pub struct Pair {
     /// For calls that are turned away, made between the others.
     random: Random,
     pub turned_away: u64,
+    /// Where the calls are written down, if they are.
+    trace: Option<Trace>,
 }
 
 fn arguments_of(arguments: oracle::Arguments) -> Arguments {
@@ -83,7 +86,24 @@ impl Pair {
             strict,
             random: Random::new(seed),
             turned_away: 0,
+            trace: None,
         }
+    }
+
+    /// From here on writes down every call. Only where the vectors of both sides began alike, so that all that is written
+    /// is compared with the Rust's.
+    pub fn write_down(&mut self, trace: &mut Option<Trace>) {
+        if self.strict
+            && let Some(mut trace) = trace.take()
+        {
+            trace.begin(&self.counters, &self.area);
+            self.trace = Some(trace);
+        }
+    }
+
+    /// What was written, if it was.
+    pub fn written(self) -> Option<Trace> {
+        self.trace
     }
 
     pub fn n(&self) -> usize {
@@ -205,6 +225,9 @@ impl Pair {
             area: &self.area,
         };
         check(&held, call, &given)?;
+        if let Some(trace) = &mut self.trace {
+            trace.call(&held, call, &given);
+        }
         self.record = reply.record;
         Ok(reply)
     }
@@ -367,8 +390,13 @@ impl Pair {
         }
         let n = self.n();
         let short = vec![0.0; n + 1];
+        let spoiled = vec![f64::INFINITY; n];
         let bad = Arguments {
             step: 0.0,
+            ..Arguments::default()
+        };
+        let intolerant = Arguments {
+            step: 1.0,
             ..Arguments::default()
         };
         let calls = [
@@ -396,7 +424,14 @@ impl Pair {
                 state: &short[..n],
                 time: f64::NAN,
             },
+            Call::Start {
+                family: 1,
+                n: n as u64,
+                state: &spoiled,
+                time: 0.0,
+            },
             Call::Attempt(bad),
+            Call::Attempt(intolerant),
             Call::Reply { derivative: &short },
             Call::AcceptWithCallback {
                 state: &short,

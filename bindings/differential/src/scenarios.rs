@@ -3,6 +3,7 @@
 use crate::model::{Model, Replies};
 use crate::pair::{Ending, Pair, Stop};
 use crate::random::Random;
+use crate::trace::Trace;
 use oracle::Arguments;
 use stabilized::calls::{VECTORS, vector};
 use std::collections::BTreeMap;
@@ -51,6 +52,8 @@ pub struct Coverage {
     pub dimensions: BTreeMap<usize, u64>,
     /// Everything else that is counted, by name.
     pub kinds: BTreeMap<&'static str, u64>,
+    /// Where a scenario is written down: taken by the first, and left to be read after it.
+    pub trace: Option<Trace>,
 }
 
 impl Coverage {
@@ -173,6 +176,7 @@ pub fn counted_attempt(
 ) -> Result<(), String> {
     let random = &mut Random::new(seed);
     let mut pair = Pair::new(n, vec![0.0; VECTORS * n], true, random.draw());
+    pair.write_down(&mut coverage.trace);
     let model = Model::Diagonal {
         least: 0.1,
         most: 1.0,
@@ -203,6 +207,7 @@ pub fn counted_attempt(
     coverage.scenarios += 1;
     coverage.evaluations += pair.counters.evaluations;
     coverage.turned_away += pair.turned_away;
+    coverage.trace = pair.written();
     coverage.attempt(family, n, &arguments, &ending);
     match ending {
         Ending::Finished {
@@ -351,9 +356,11 @@ pub fn life(
         "areas of zeros"
     });
     let mut pair = Pair::new(n, area, strict, random.draw());
+    pair.write_down(&mut coverage.trace);
     let result = live(&mut pair, random, wild, families, coverage);
     coverage.evaluations += pair.counters.evaluations;
     coverage.turned_away += pair.turned_away;
+    coverage.trace = pair.written();
     result
 }
 

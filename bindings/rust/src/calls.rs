@@ -10,7 +10,6 @@ pub const VECTORS: usize = 11;
 pub const LARGEST: usize = 512;
 
 /// Evaluations, and attempts that were finished.
-#[repr(C)]
 #[derive(Clone, Copy, Debug, Default, Eq, PartialEq)]
 pub struct Counters {
     pub evaluations: u64,
@@ -137,7 +136,7 @@ pub struct Reply {
 }
 
 mod library {
-    use super::{Counters, Record, Reply};
+    use super::{Record, Reply};
 
     // A slice is two arguments: the pointer and the count. The engine is proved for every record, number and content, so
     // only the pointers can be wrong.
@@ -164,7 +163,8 @@ mod library {
         ) -> Reply;
         pub fn stabilized_reply(
             record: Record,
-            counters: *mut Counters,
+            evaluations: *mut u64,
+            finished_attempts: *mut u64,
             area: *mut f64,
             area_length: usize,
             derivative: *const f64,
@@ -179,7 +179,7 @@ mod library {
             state_length: usize,
             time: f64,
         ) -> Reply;
-        pub fn stabilized_abandon(record: Record, area: *mut f64, area_length: usize) -> Reply;
+        pub fn stabilized_abandon(record: Record, area: *const f64, area_length: usize) -> Reply;
     }
 }
 
@@ -243,7 +243,8 @@ pub fn reply(
     unsafe {
         library::stabilized_reply(
             record,
-            counters,
+            &mut counters.evaluations,
+            &mut counters.finished_attempts,
             area.as_mut_ptr(),
             area.len(),
             derivative.as_ptr(),
@@ -274,7 +275,7 @@ pub fn accept_with_callback(record: Record, area: &mut [f64], state: &[f64], tim
 }
 
 /// While an evaluation is pending: ends it uncounted.
-pub fn abandon(record: Record, area: &mut [f64]) -> Reply {
+pub fn abandon(record: Record, area: &[f64]) -> Reply {
     // SAFETY: as in `start`.
-    unsafe { library::stabilized_abandon(record, area.as_mut_ptr(), area.len()) }
+    unsafe { library::stabilized_abandon(record, area.as_ptr(), area.len()) }
 }

@@ -18,6 +18,7 @@ pub struct Coefficients {
 
 // What RKC carries from stage to stage: b, and the Chebyshev polynomial at omega_zero with its first
 // and second derivative, each of the two stages before. The other families leave it as it is.
+#[repr(C)]
 pub struct Polynomials {
     pub b_previous: f64,
     pub b_previous_two: f64,
@@ -30,6 +31,7 @@ pub struct Polynomials {
 }
 
 // What the loop over the stages carries on.
+#[repr(C)]
 pub struct Recurrence {
     pub theta_previous: f64,
     pub theta_previous_two: f64,

@@ -11,14 +11,20 @@ const SAMPLE: usize = 9;
 fn main() {
     for family in oracle::FAMILIES {
         for stages in oracle::permitted(family) {
-            println!("{family} {stages} {:016x}", digest(&oracle::rows(family, stages)));
+            println!(
+                "{family} {stages} {:016x}",
+                digest(&oracle::rows(family, stages))
+            );
         }
     }
     for family in oracle::FAMILIES {
         let told = oracle::rows(family, SAMPLE);
         for row in &told.rows {
             print!("{family} {SAMPLE} {}", row.stage);
-            for value in doubles(row).into_iter().chain([told.omega_one, told.first_mu_tilde]) {
+            for value in doubles(row)
+                .into_iter()
+                .chain([told.omega_one, told.first_mu_tilde])
+            {
                 print!(" {:016x}", value.to_bits());
             }
             println!();

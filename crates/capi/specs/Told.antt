@@ -1,0 +1,24 @@
+-- The promises of the calls for C: answer, record and area are those of the definition, handed what the record means.
+use Prim.Native.Nat.{ℕ}
+use mathlib.Core.Path.{_≡_}
+use mathlib.Core.List.{List}
+use lib.Ieee.{Float}
+use Rattle.driver.specs.declared.Counters.{Counters}
+use Rattle.driver.specs.Calls.{Held, Called}
+use Rattle.driver.specs.Promises.{holding}
+use Rattle.capi.specs.declared.Record.{Record}
+use Rattle.capi.specs.declared.Outcome.{Outcome}
+use Rattle.capi.specs.Numbers.{meaning, in-numbers, handed-back}
+
+-- what a call hands back and leaves, `adaptive` being the number that it brings or finds
+pub record Told (before : Record) (adaptive : ℕ) (promised : Called) (given : Outcome) (c : Counters) (left : List Float) : Type 0 where
+  pub outcome-is : given ≡ handed-back before adaptive (in-numbers (promised .answer)) (promised .held .kept)
+  pub counters-are : c ≡ promised .held .counters
+  pub area-is : left ≡ promised .held .area
+
+abbrev pub counting : ℕ → ℕ → Counters
+counting evaluations finished = record { evaluations = evaluations; «finished_attempts» = finished }
+
+-- a call that is lent no counters: whatever they are, they stand
+abbrev pub Tells : Record → ℕ → (Held → Called) → List Float → Outcome → List Float → Type 0
+Tells before adaptive call area given left = (c : Counters) → Told before adaptive (call (holding (meaning before) c area)) given c left
