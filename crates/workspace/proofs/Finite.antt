@@ -43,14 +43,14 @@ none s a c h = go s
     go true = rest true
     go false = rest false
 
-pub less-itself : (x : Float) → eq (sub binary64 x x) (fin false 0 (pos 0)) ≡ finite x
+less-itself : (x : Float) → eq (sub binary64 x x) (fin false 0 (pos 0)) ≡ finite x
 unfolding sub add neg eq
 less-itself nan = refl
 less-itself (inf true) = refl
 less-itself (inf false) = refl
 less-itself (fin s m e) = ap (λ (y : Float). eq y (fin false 0 (pos 0))) (none s (m * up e * down e) (down e * down e) (mul-pos (down-pos e) (down-pos e)))
 
-pub finite-suc : (l : List Float) (i : ℕ) → i < length l → all-finite (take (suc i) l) ≡ all-finite (take i l) && finite (getD l i nan)
+finite-suc : (l : List Float) (i : ℕ) → i < length l → all-finite (take (suc i) l) ≡ all-finite (take i l) && finite (getD l i nan)
 unfolding all-finite
 finite-suc [] i h = absurd (not-suc-le-zero h)
 finite-suc (x ∷ l) zero h = go (finite x)

@@ -38,7 +38,7 @@ module _ (p n : ℕ) (y z : List Float) where
 
 -- ---- one vector
 
-pub width : (k n : ℕ) → k * n + n - k * n ≡ n
+width : (k n : ℕ) → k * n + n - k * n ≡ n
 width k n = omega arith
 
 -- what is read
