@@ -17,16 +17,26 @@ use Rattle.driver.specs.declared.Need.{Need}
 use Rattle.driver.specs.declared.Need.the-variants.{Met, Unmet}
 use Rattle.driver.specs.Calls.{stage-need}
 use Rattle.session.specs.Attempt.{Asking, done, stopped, _>>=_, evaluate, stages-for, Radius, Outcome, iterate, spectral-radius, stage-loop, run-recurrence, outcome, close, attempt-step, evaluated, end}
-use Rattle.session.specs.Alike.{Alike, Same-end, Same-start}
+use Rattle.session.specs.Alike.{Alike, Same, Same-end, Same-start}
 use Rattle.session.proofs.Truth.{differ}
 use Rattle.session.proofs.Needs.{Needed, need-holds, two-from}
 use Rattle.session.proofs.Alikes.{bind-alike, evaluate-alike, same-evaluated, same-ending}
 use Rattle.session.proofs.Agree.{Agree, _or_, three, five, seven, nine, ten, direction-agrees, perturbed-agrees, turned-agrees, first-agrees, row-agrees, exchanged-agrees, candidate-agrees, last-same, five-three, nine-seven}
 
-module _ (f : Family) (n : ℕ) (a : Arguments) where
-  abbrev pub Same : Outcome → Outcome → Type 0
-  Same x y = x ≡ y
+start-agrees : (v w : Vectors) → Same-start v w → Agree three v w
+start-agrees v w p state e = p .state-same
+start-agrees v w p first-derivative e = p .first-same
+start-agrees v w p eigenvector e = p .eigenvector-same
+start-agrees v w p last-derivative e = absurd (differ e)
+start-agrees v w p derivative e = absurd (differ e)
+start-agrees v w p previous-two e = absurd (differ e)
+start-agrees v w p previous-one e = absurd (differ e)
+start-agrees v w p next-stage e = absurd (differ e)
+start-agrees v w p perturbed-state e = absurd (differ e)
+start-agrees v w p perturbed-derivative e = absurd (differ e)
+start-agrees v w p candidate e = absurd (differ e)
 
+module _ (f : Family) (n : ℕ) (a : Arguments) where
   abbrev Radii : Radius → Radius → Type 0
   Radii x y = (x .radius ≡ y .radius) × (x .passes ≡ y .passes) × Agree five (x .vectors) (y .vectors)
 
@@ -126,20 +136,7 @@ module _ (f : Family) (n : ℕ) (a : Arguments) where
   -- alike, and where they are done with one and the same outcome, all eleven vectors of it
   pub attempt-alike : (v w : Vectors) → Same-start v w → Alike Same (attempt-step f n a v) (attempt-step f n a w)
   unfolding attempt-step from-radius from-need
-  attempt-alike v w p = bind-alike Radii Same from-radius from-radius (spectral-radius f n a v) (spectral-radius f n a w) (radius-alike v w agree) from-alike
-    where
-      agree : Agree three v w
-      agree state e = p .state-same
-      agree first-derivative e = p .first-same
-      agree eigenvector e = p .eigenvector-same
-      agree last-derivative e = absurd (differ e)
-      agree derivative e = absurd (differ e)
-      agree previous-two e = absurd (differ e)
-      agree previous-one e = absurd (differ e)
-      agree next-stage e = absurd (differ e)
-      agree perturbed-state e = absurd (differ e)
-      agree perturbed-derivative e = absurd (differ e)
-      agree candidate e = absurd (differ e)
+  attempt-alike v w p = bind-alike Radii Same from-radius from-radius (spectral-radius f n a v) (spectral-radius f n a w) (radius-alike v w (start-agrees v w p)) from-alike
 
   pub depends : (v w : Vectors) → Same-start v w → (d : ℕ → List Float) → (evaluated (attempt-step f n a v) d 0 ≡ evaluated (attempt-step f n a w) d 0) × Same-end (end (attempt-step f n a v) d 0) (end (attempt-step f n a w) d 0)
   depends v w p d = (same-evaluated Same _ _ d 0 (attempt-alike v w p), same-ending _ _ d 0 (attempt-alike v w p))

@@ -11,9 +11,14 @@ use Rattle.workspace.specs.declared.Arguments.{Arguments}
 use Rattle.workspace.specs.Vectors.{all-finite}
 use Rattle.driver.specs.declared.Phase.{Phase}
 use Rattle.driver.specs.Calls.{Held, Called, room, finishes, has-room, reply}
-use Rattle.session.specs.Attempt.{Asking, done, stopped, ask, Outcome, evaluated, is-done, reaches-candidate, end}
+use Rattle.session.specs.Attempt.{Asking, done, stopped, ask, Outcome, Evaluated, evaluated, is-done, reaches-candidate, end}
 use Rattle.session.specs.Claim.{called-for, answers, after, last-found, room-in, Waits, Finishes, Stops, Ends}
 use Rattle.session.proofs.Truth.{both, or-left, or-right}
+
+-- (an answer that calls for nothing is no evaluation)
+abbrev pub some-empty : List Evaluated → Type 0
+some-empty [] = Unit {0}
+some-empty (x ∷ xs) = ⊥
 
 -- the candidate's evaluation, and no other, is finished by a finite reply
 pub record Closes (φ : Phase) (k : List Float → Asking Outcome) : Type 0 where

@@ -25,26 +25,15 @@ use Rattle.driver.specs.declared.Answer.{Answer}
 use Rattle.driver.specs.declared.Answer.the-variants.{Evaluate, Refused}
 use Rattle.driver.specs.Answers.{Says}
 use Rattle.driver.specs.Calls.{Held, Called, Step, step-to, in-phase, at-pass, at-stage, take-first, take-callback, ask-pass, ask-stage, stage-need, by-need, begin-stages, take-pass, ask-candidate, take-stage, take-candidate, replied, whole-area, as-long, check, start, attempted, going-on, attempt, counted, spoiled, settled, reply, accepted, accept, called-back, accept-with-callback, abandon, Call, Start, Attempt, Reply, Accept, Accept-with-callback, Abandon, made}
-use Rattle.session.specs.Refusals.{Verdict, goes-on, turned-away, verdict-of, Left}
+use Rattle.session.specs.Refusals.{goes-on, verdict-of, Left}
 use Rattle.session.proofs.Truth.{and-left, and-right}
 use Rattle.session.proofs.Needs.{Needed, need-holds}
 use Rattle.session.proofs.Lengths.{long-area, replied-long}
-use Rattle.session.proofs.Refused.{says-refused}
-
-abbrev is-refused : Verdict → Type 0
-is-refused goes-on = ⊥
-is-refused (turned-away i) = Unit {0}
-
-abbrev number-or : ℕ → Verdict → ℕ
-number-or j goes-on = j
-number-or j (turned-away i) = i
+use Rattle.session.proofs.Refused.{is-away, same-number, says-refused}
 
 -- not refused at all
 unrefused : (y : Answer) (i : ℕ) → verdict-of y ≡ goes-on → y ≡ Refused i → ⊥
-unrefused y i g e = subst is-refused (ap verdict-of (sym e) ∙ g) tt
-
-same-number : (i j : ℕ) → Refused i ≡ Refused j → i ≡ j
-same-number i j e = ap (λ (y : Answer). number-or 0 (verdict-of y)) e
+unrefused y i g e = subst is-away (ap verdict-of (sym e) ∙ g) tt
 
 -- ---- a reply that passed its tests
 

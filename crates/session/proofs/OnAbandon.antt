@@ -44,7 +44,7 @@ abandon-good h σ cs does q = subst (λ (x : Called). Good (step σ Abandon) x) 
     awaits = abandoned h q .0
 
     go : (δ : Doing) → Does (σ .family) (σ .n) δ h
-        → Good (doing-now σ (waiting (λ k. none) δ)) (record { answer = Empty; held = record { kept = in-phase P.Empty (h .kept); counters = h .counters; area = h .area } })
+        → Good (step (doing-now σ δ) Abandon) (record { answer = Empty; held = record { kept = in-phase P.Empty (h .kept); counters = h .counters; area = h .area } })
     go none e = absurd (differ (sym (idle (h .kept) P.Empty e refl) ∙ awaits))
     go (within (done (ready-with v))) e = absurd (differ (sym (idle (h .kept) P.Ready (e .0 .phase-is) refl) ∙ awaits))
     go (within (done (tried o))) e = absurd (differ (sym (idle (h .kept) P.Finished (e .0 .phase-is) refl) ∙ awaits))

@@ -91,7 +91,7 @@ module _ (h : Held) (q : taken (accept h .answer) ≡ true) where
       back = unpack-pack (h .kept .n) w long-w
 
       go : (δ : Doing) → Finished-at h (σ .family) (σ .n) δ
-          → Good (doing-now σ (at-rest (after-attempt (λ v. within (accept-step v))) δ)) (going-on (h .counters) (accepted (h .kept) (unpack (h .kept .n) (h .area))))
+          → Good (step (doing-now σ δ) Accept) (going-on (h .counters) (accepted (h .kept) (unpack (h .kept .n) (h .area))))
       go δ (finished-at o at same) = record {
         shown-is = ap₂ ready-at (ap (λ (u : Vectors). u state) back ∙ ap (λ (u : Vectors). u candidate) same) (ap (λ (u : Vectors). u first-derivative) back ∙ ap (λ (u : Vectors). u last-derivative) same);
         counts-are = cs;
@@ -155,7 +155,7 @@ module _ (h : Held) (y : List Float) (t : Float) (q : taken (accept-with-callbac
       x : Called
       x = going-on (h .counters) (called-back (h .kept) y t (unpack (h .kept .n) (h .area)))
 
-      go : (δ : Doing) → Finished-at h (σ .family) (σ .n) δ → Good (doing-now σ (at-rest (after-attempt (λ v. within (callback-step (σ .n) y t v))) δ)) x
+      go : (δ : Doing) → Finished-at h (σ .family) (σ .n) δ → Good (step (doing-now σ δ) (Accept-with-callback y t)) x
       go δ (finished-at o at same) =
           subst (λ (f : ℕ). Good (record { family = f; n = σ .n; doing = within (callback-step (σ .n) y t (o .vectors)); counts = σ .counts }) x) (at .family-is)
           (subst (λ (n : ℕ). Good (record { family = h .kept .family; n = n; doing = within (callback-step n y t (o .vectors)); counts = σ .counts }) x) (at .n-is)

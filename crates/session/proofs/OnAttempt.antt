@@ -63,10 +63,10 @@ module _ (h : Held) (σ : Session) (cs : h .counters ≡ σ .counts) (a : Argume
       (record { shown-is = g .shown-is; counts-are = ap (λ (x : Called). x .held .counters) (attempt-is h a p) ∙ cs; does = g .shows }))
 
   pub attempt-good : Does (σ .family) (σ .n) (σ .doing) h → taken (attempt h a .answer) ≡ true → Good (step σ (Attempt a)) (attempt h a)
-  unfolding step Does Shows at-rest vectors-of may-attempt
+  unfolding step doing-now Does Shows at-rest vectors-of may-attempt
   attempt-good does q = go (allowed h a q) (σ .doing) does
     where
-      go : Allowed h a → (δ : Doing) → Does (σ .family) (σ .n) δ h → Good (doing-now σ (at-rest (λ r. within (tries (σ .family) (σ .n) a (vectors-of r))) δ)) (attempt h a)
+      go : Allowed h a → (δ : Doing) → Does (σ .family) (σ .n) δ h → Good (step (doing-now σ δ) (Attempt a)) (attempt h a)
       go p none e = absurd (differ (sym (ap may-attempt e) ∙ p .phase-allows))
       go p (within (done (ready-with v))) e = tries-good v P.Ready p (e .0) (e .1)
       go p (within (done (tried o))) e =

@@ -15,7 +15,7 @@ use Rattle.driver.specs.declared.Answer.the-variants.{Evaluate, Finished, Ready
 use Rattle.driver.specs.Calls.{Held, replied, as-long, pending, awaiting, has-room, check, going-on, spoiled, settled, reply, Reply, taken}
 use Rattle.session.specs.Attempt.{done, stopped, ask}
 use Rattle.session.specs.Claim.{room-in}
-use Rattle.session.specs.Session.{ready-with, tried, Doing, none, within, Session, waiting, counts-on, replied-with, step, waits, waits-with-room}
+use Rattle.session.specs.Session.{ready-with, tried, Doing, none, within, Session, waiting, counts-on, doing-now, replied-with, step, waits, waits-with-room}
 use Rattle.session.proofs.Truth.{differ, and-left, and-right, and-none, and-assoc}
 use Rattle.session.proofs.Lengths.{long-area, pack-length, replied-long}
 use Rattle.session.proofs.Leaves.{replied-high}
@@ -92,10 +92,10 @@ module _ (h : Held) (d : List Float) (q : taken (reply h d .answer) ≡ true) wh
   whole = and-left (W h) (as-long (h .kept .n) d) (passed .lengths-good)
 
   pub reply-good : (σ : Session) → h .counters ≡ σ .counts → Does (σ .family) (σ .n) (σ .doing) h → Good (step σ (Reply d)) (reply h d)
-  unfolding step Does Shows replied-with waiting pending
+  unfolding step doing-now Does Shows replied-with waiting pending
   reply-good σ cs does = go (σ .doing) does
     where
-      go : (δ : Doing) → Does (σ .family) (σ .n) δ h → Good (record { family = σ .family; n = σ .n; doing = replied-with d δ; counts = counts-on (replied-with d δ) (σ .counts) }) (reply h d)
+      go : (δ : Doing) → Does (σ .family) (σ .n) δ h → Good (step (doing-now σ δ) (Reply d)) (reply h d)
       go none e = absurd (differ (sym (idle (h .kept) P.Empty e refl) ∙ passed .awaits))
       go (within (done (ready-with v))) e = absurd (differ (sym (idle (h .kept) P.Ready (e .0 .phase-is) refl) ∙ passed .awaits))
       go (within (done (tried o))) e = absurd (differ (sym (idle (h .kept) P.Finished (e .0 .phase-is) refl) ∙ passed .awaits))

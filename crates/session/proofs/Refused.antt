@@ -131,17 +131,19 @@ says-refused (Refused i) k s = ap (λ (v : Values). Refused (first (v .numbers))
     first (i ∷ is) = i
 says-refused Empty k s = absurd (omega (arith, s .same-case))
 
-abbrev is-away : Verdict → Type 0
+abbrev pub is-away : Verdict → Type 0
 is-away goes-on = ⊥
 is-away (turned-away i) = Unit {0}
 
-away-number : Verdict → ℕ
+abbrev pub away-number : Verdict → ℕ
 away-number goes-on = 0
 away-number (turned-away i) = i
 
+pub same-number : (i j : ℕ) → Refused i ≡ Refused j → i ≡ j
+same-number i j e = ap (λ (y : Answer). away-number (verdict-of y)) e
+
 -- each number on its own cause and on no other
 pub refused : (h : Held) (c : Call) (k : ℕ) → Says (made h c .answer) (Refused k) ↔ first-failing (tests-of h c) ≡ turned-away k
-unfolding away-number
 refused h c k = (λ s. sym (told h c .verdict-is) ∙ ap verdict-of (says-refused (made h c .answer) k s), λ e. go (made h c .answer) (told h c .verdict-is ∙ e))
   where
     go : (y : Answer) → verdict-of y ≡ turned-away k → Says y (Refused k)

@@ -19,10 +19,10 @@ use Rattle.driver.specs.declared.Answer.the-variants.{Evaluate, Finished, Ready
 use Rattle.driver.specs.Calls.{Held, Called, step-to, in-phase, replied, sized, whole-area, awaiting, finishes, going-on, counted, spoiled, settled, reply}
 use Rattle.session.specs.Attempt.{Asking, done, stopped, ask, _>>=_, evaluate, Outcome, Evaluated, is-done}
 use Rattle.session.specs.Claim.{called-for, Allowed, room-in}
-use Rattle.session.specs.Alike.{Alike, Same-start}
+use Rattle.session.specs.Alike.{Alike, Same, Same-start}
 use Rattle.session.specs.Session.{Shown, evaluates, ready-at, stops, nothing, Seen, answer-shown, call-seen, Resting, ready-with, tried, Doing, none, within, Session, finished-by, counts-on, doing-shown, session-seen, has-tried}
 use Rattle.session.proofs.Lengths.{whole-pack}
-use Rattle.session.proofs.Follows.{Follows}
+use Rattle.session.proofs.Follows.{some-empty, Follows}
 use Rattle.session.proofs.Asked.{reply-is}
 use Rattle.session.proofs.Room.{pends}
 
@@ -102,10 +102,6 @@ module _ (r : Record) (c : Counters) (v : Vectors) (hk : known (r .family) ≡ t
 
 -- ---- an attempt
 
-abbrev some-empty : List Evaluated → Type 0
-some-empty [] = Unit {0}
-some-empty (x ∷ xs) = ⊥
-
 tell : (t : Float) (p : List Float) (y : Answer) (h : Held) → called-for y h ≡ record { time = t; point = p } ∷ [] → answer-shown y h ≡ evaluates t p
 unfolding called-for answer-shown
 tell t p (Evaluate u b) h e = ap first e
@@ -120,9 +116,6 @@ tell t p Empty h e = absurd (subst some-empty e tt)
 
 abbrev on : Asking Outcome → Asking Resting
 on m = m >>= λ o. done (tried o)
-
-abbrev pub Same : Outcome → Outcome → Type 0
-Same x y = x ≡ y
 
 alike-done : (m m′ : Asking Outcome) → Alike Same m m′ → has-tried (within (on m′)) ≡ is-done m
 unfolding _>>=_ has-tried is-done

@@ -14,7 +14,7 @@ use Rattle.driver.specs.Calls.{Held, Called, attempt, reply}
 use Rattle.session.specs.Attempt.{Asking, done, stopped, ask, Outcome, Evaluated, evaluated, End, reached, end}
 use Rattle.session.specs.Claim.{called-for, Allowed, Fits, Finishes, Ends, after, last-found, in-one-piece, replies-to, Runs, Took}
 use Rattle.session.proofs.Served.{stages-from}
-use Rattle.session.proofs.Follows.{Ahead, ahead-room, ahead-on, Follows, same-points, same-ends}
+use Rattle.session.proofs.Follows.{some-empty, Ahead, ahead-room, ahead-on, Follows, same-points, same-ends}
 use Rattle.session.proofs.Passes.{attempt-follows}
 
 pub run : (h : Held) (a : Arguments) (d : ℕ → List Float) → Allowed h a → ((i : ℕ) → length (d i) ≡ h .kept .n) → Fits h a d → Runs h a d
@@ -29,10 +29,6 @@ run h a d p long fits = let follows = attempt-follows h a p in let m = in-one-pi
 -- ---- a finished attempt
 
 -- an answer that calls for something is the first case
-abbrev some-empty : List Evaluated → Type 0
-some-empty [] = Unit {0}
-some-empty (x ∷ xs) = ⊥
-
 calls : (y : Answer) (g : Held) (e : Evaluated) → called-for y g ≡ e ∷ [] → case-number y ≡ 1
 unfolding called-for case-number
 calls (Evaluate t b) g e q = refl

@@ -17,6 +17,10 @@ Alike R (ask t p k) (done y) = ⊥
 Alike R (ask t p k) (stopped j w) = ⊥
 Alike R (ask t p k) (ask u q l) = (t ≡ u) × (p ≡ q) × ((d : List Float) → Alike R (k d) (l d))
 
+-- and in the narrowest sense, where they are done with one and the same
+abbrev pub Same : {A : Type 0} → A → A → Type 0
+Same x y = x ≡ y
+
 -- the same outcome, or refused with the same number
 abbrev pub Same-end : {A : Type 0} → End A → End A → Type 0
 Same-end (reached x) (reached y) = x ≡ y
