@@ -1,5 +1,7 @@
 // Figures that document 01 gives without a mark, and published ones, beside the coefficients of the proved code.
 // Each source is named where its figures are compared.
+mod worked;
+
 ghost use mathlib.Core.Path.{_≡_};
 ghost use Prim.Native.Nat.{_+_, _-_, _^_, _≤_, _<_};
 use libc::STDOUT_FILENO;
@@ -152,6 +154,7 @@ fn reaches() -> Tally {
 }
 
 fn main() {
+    worked::print_case();
     legendre_two_figures();
     print_tally(b"RKC's stability interval, s = 2 to 200", intervals());
     print_tally(b"RKC's times, s = 2 to 200, stages 2 to s", times());
