@@ -24,4 +24,5 @@ pub mod OnReply
 pub mod OnAccept
 pub mod OnAbandon
 pub mod Lives
+pub mod Skipped
 pub mod Case

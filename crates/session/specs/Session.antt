@@ -46,6 +46,15 @@ unfoldable pub seen-of : Held → List Call → List Seen
 seen-of h [] = []
 seen-of h (c ∷ cs) = let rest = seen-of (made h c .held) cs in cond (taken (made h c .answer)) (call-seen (made h c) ∷ rest) rest
 
+-- those that are taken, each handed what the call before left; and what they leave
+unfoldable pub taken-of : Held → List Call → List Call
+taken-of h [] = []
+taken-of h (c ∷ cs) = let rest = taken-of (made h c .held) cs in cond (taken (made h c .answer)) (c ∷ rest) rest
+
+unfoldable pub held-after : Held → List Call → Held
+held-after h [] = h
+held-after h (c ∷ cs) = held-after (made h c .held) cs
+
 -- ---- the Rust's functions
 
 -- between two of them: ready, or an attempt is finished
