@@ -15,6 +15,8 @@ mod checks;
 mod position;
 mod replies;
 
+pub use checks::may_accept;
+
 // Where a record is between two calls.
 pub enum Phase {
     Empty,

@@ -172,7 +172,7 @@ length-pack RKG2 n v h = length-join (all v h)
 
 -- ---- every step keeps the length
 
-length-tabulate : (f : ℕ → Float) (i n : ℕ) → length (tabulate f i n) ≡ n
+pub length-tabulate : (f : ℕ → Float) (i n : ℕ) → length (tabulate f i n) ≡ n
 length-tabulate f i zero = refl
 length-tabulate f i (suc n) = ap suc (length-tabulate f (suc i) n)
 

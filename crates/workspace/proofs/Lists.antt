@@ -18,7 +18,7 @@ split zero b = inl zero-le
 split (suc a) zero = inr (suc-le-suc zero-le)
 split (suc a) (suc b) = ⊎-elim (λ p. inl (suc-le-suc p)) (λ q. inr (suc-le-suc q)) (split a b)
 
-getD-tabulate : (f : ℕ → Float) (i n j : ℕ) → j < n → getD (tabulate f i n) j nan ≡ f (i + j)
+pub getD-tabulate : (f : ℕ → Float) (i n j : ℕ) → j < n → getD (tabulate f i n) j nan ≡ f (i + j)
 getD-tabulate f i zero j h = absurd (not-suc-le-zero h)
 getD-tabulate f i (suc n) zero h = ap f (sym (add-zero i))
 getD-tabulate f i (suc n) (suc j) h = getD-tabulate f (suc i) n j (le-of-suc-le-suc h) ∙ ap f (suc-add i j ∙ sym (add-suc i j))

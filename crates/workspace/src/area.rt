@@ -18,7 +18,7 @@ pub fn all_finite(v: &[f64]) -> bool
     good
 }
 
-fn copy_into(to: &mut [f64], from: &[f64])
+pub fn copy_into(to: &mut [f64], from: &[f64])
     requires { ⌜ length (now to) ≡ length (now from) ⌝ }
     ensures { λ _. ⌜ now (to .exit) ≡ now (from .entry) ⌝ }
 {

@@ -9,6 +9,7 @@ pub mod iteration;
 pub mod stages;
 
 pub use area::all_finite;
+pub use area::copy_into;
 pub use area::copy_vector;
 pub use area::fill_vector;
 pub use area::finite_vector;

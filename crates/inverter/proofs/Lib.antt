@@ -1,0 +1,9 @@
+mod Fields
+mod Readings
+mod Soundness
+mod Chain
+mod Said
+mod Calls
+mod Ends
+mod Run
+mod Outset

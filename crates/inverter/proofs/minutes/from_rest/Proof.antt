@@ -1,0 +1,47 @@
+-- `inverter::minutes::from_rest` meets its contract, by those of its calls. Assumes nothing.
+use borrow.Author.Needs.{needs}
+use mathlib.Core.Path.{_≡_, ap, subst, _∙_}
+use mathlib.Core.List.{List}
+use Prim.Native.Nat.{_*_}
+use native.Mathlib.Omega.{arith}
+use lib.ListN.{length, length-replicate, replicate}
+use lib.Ieee.{Float}
+use Rattle.ieee.specs.Double.{nought}
+use Rattle.workspace.specs.Vectors.{_with_≔_, unpack, state}
+use Rattle.inverter.specs.Day.{Told, run, outset}
+use Rattle.inverter.proofs.Outset.{outset-area}
+use Rattle.inverter.proofs.minutes.from_rest.Statement.{statement}
+use Rattle.inverter.proofs.minutes.from_rest.Tie as tie
+
+fill-vector-requires : tie.Need-fill-vector-requires
+fill-vector-requires c κs = let s = c .before .before .before .before .before in
+    let l : length (s .args .area .now) ≡ 11 * s .args .m .n = ap length (s .pre .1 .0) ∙ length-replicate (11 * s .args .m .n) nought in
+    (omega (arith, l), omega arith)
+
+run-requires : tie.Need-run-requires
+run-requires c κs = let s = c .before .before .before .before .before .before .before .before .before .before .before in
+    let l : length (s .args .area .now) ≡ 11 * s .args .m .n = ap length (s .pre .1 .0) ∙ length-replicate (11 * s .args .m .n) nought in
+    (s .pre .0, (omega (arith, l, c .before .before .before .before .before .fill-vector .kept .0), (s .pre .1 .1 .0, (s .pre .1 .1 .1 .0, s .pre .1 .1 .1 .1))))
+
+same-length : tie.Need-same-length
+same-length c = search needs
+
+same-length-2 : tie.Need-same-length-2
+same-length-2 c = search needs
+
+same-length-3 : tie.Need-same-length-3
+same-length-3 c = search needs
+
+returns : tie.Need-returns
+returns c = let s = c .before .before .before .before .before .before .before .before .before .before .before .before .before .before .before .before .before .before in
+    let m = s .args .m in
+    let f = c .before .before .before .before .before .before .before .before .before .before .before .before .fill-vector in
+    let l : length (s .args .area .now) ≡ 11 * m .n = ap length (s .pre .1 .0) ∙ length-replicate (11 * m .n) nought in
+    let e = f .ensures ∙ ap (λ (a : List Float). unpack (m .n) a with state ≔ replicate (m .n) (m .initial)) (s .pre .1 .0) in
+    let q = outset-area m (f .last .0) (f .kept .0 ∙ l) e in
+    subst (λ (a : List Float). Told (run m 0 (s .args .readings .now) (outset a)) (c .before .before .before .before .before .before .run .result) (c .before .before .before .before .before .before .run .last .1 .1 .1 .1 .0)) q (c .before .before .before .before .before .before .run .ensures)
+
+pub from-rest-spec : {M : Type 1} → statement M
+from-rest-spec =
+    tie.close
+    (tie.spec fill-vector-requires run-requires same-length same-length-2 same-length-3 returns)

@@ -1,0 +1,16 @@
+-- `inverter::text::sound` meets its contract: the tests are those of the definition. Assumes nothing.
+use Rattle.family.specs.Family.{known}
+use Rattle.inverter.specs.Text.{sound}
+use borrow.Author.Needs.{needs}
+use Rattle.inverter.proofs.text.sound.Statement.{statement}
+use Rattle.inverter.proofs.text.sound.Tie as tie
+
+finite-constants-requires : tie.Need-finite-constants-requires
+finite-constants-requires c κs = search needs
+
+returns : tie.Need-returns
+unfolding sound known
+returns c = rw (c .finite-constants .ensures)
+
+pub sound-spec : {M : Type 1} → statement M
+sound-spec = tie.close (tie.spec finite-constants-requires returns)

@@ -1,0 +1,64 @@
+-- `inverter::total_of` meets its contract, by that of `from_rest`: the part of the zeros that is lent is zero. Assumes nothing.
+use borrow.Author.Needs.{needs}
+use mathlib.Core.Path.{_≡_, sym, ap, _∙_}
+use Prim.Native.Nat.{_*_, _≤_}
+use native.Mathlib.Omega.{arith}
+use lib.ListN.{length, take, length-replicate}
+use lib.Seq.{length-take-le}
+use Rattle.ieee.specs.Double.{nought}
+use Rattle.inverter.proofs.Outset.{take-replicate}
+use Rattle.inverter.proofs.total_of.Statement.{statement}
+use Rattle.inverter.proofs.total_of.Tie as tie
+
+zeros-requires : tie.Need-zeros-requires
+zeros-requires c κs = search needs
+
+blank-requires : tie.Need-blank-requires
+blank-requires c κs = search needs
+
+mul-whole : tie.Need-mul-whole
+mul-whole c = search needs
+
+array-borrow-prefix-area : tie.Need-array-borrow-prefix-area
+array-borrow-prefix-area c = search needs
+
+slice-aggregate-from-rest : tie.Need-slice-aggregate-from-rest
+slice-aggregate-from-rest c = let n = c .before .before .before .before .before .args .m .n in
+    let l : length (c .before .before .zeros .result) ≡ 5632 = ap length (c .before .before .zeros .ensures) ∙ length-replicate 5632 nought in
+    sym (length-take-le (11 * n) (c .before .before .zeros .result) (omega (arith, l, c .before .before .before .before .before .pre .0 .1)))
+
+array-borrow-prefix-scratch : tie.Need-array-borrow-prefix-scratch
+array-borrow-prefix-scratch c = search needs
+
+slice-aggregate-from-rest-2 : tie.Need-slice-aggregate-from-rest-2
+slice-aggregate-from-rest-2 c = let n = c .before .before .before .before .before .before .args .m .n in
+    let b = c .before .before .blank in
+    sym (length-take-le n (b .result) (omega (arith, b .ok .1 .0, c .before .before .before .before .before .before .pre .0 .1)))
+
+from-rest-requires : tie.Need-from-rest-requires
+from-rest-requires c κs = let s = c .before .before .before .before .before .before .before in
+    let n = s .args .m .n in
+    let b = c .before .before .before .blank in
+    let h : 11 * n ≤ 5632 = omega (arith, s .pre .0 .1) in
+    (s .pre .0 .0, (ap (take (11 * n)) (c .before .before .before .before .zeros .ensures) ∙ take-replicate (11 * n) 5632 nought h, (length-take-le n (b .result) (omega (arith, b .ok .1 .0, s .pre .0 .1)), s .pre .1)))
+
+same-length : tie.Need-same-length
+same-length c = search needs
+
+returns : tie.Need-returns
+returns c = search needs
+
+pub total-of-spec : {M : Type 1} → statement M
+total-of-spec =
+    tie.close
+    (tie.spec
+    zeros-requires
+    blank-requires
+    mul-whole
+    array-borrow-prefix-area
+    slice-aggregate-from-rest
+    array-borrow-prefix-scratch
+    slice-aggregate-from-rest-2
+    from-rest-requires
+    same-length
+    returns)

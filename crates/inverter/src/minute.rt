@@ -1,0 +1,171 @@
+// A minute of the day: the calls of the engine, and the model's rates as their replies.
+ghost use mathlib.Core.Path.{_≡_};
+ghost use Prim.Native.Nat.{_*_, _≤_, _<_};
+ghost use lib.ListN.{length};
+ghost use Rattle.workspace.specs.Vectors.{unpack, named};
+ghost use Rattle.driver.specs.Promises.{holding};
+ghost use Rattle.inverter.specs.Day as spec;
+ghost use Rattle.inverter.specs.Model as chain;
+use crate::Inverter;
+use crate::model;
+use driver::Answer;
+use driver::Counters;
+use driver::Next;
+use driver::Record;
+use driver::Replied;
+use workspace::Arguments;
+
+fn time_of(minute: u64) -> f64
+    requires { ⌜ minute < 1440 ⌝ }
+    ensures { λ r. ⌜ r ≡ spec.time-of minute ⌝ }
+{
+    ieee::double_of(60 * minute)
+}
+
+fn arguments(minute: u64) -> Arguments
+    requires { ⌜ minute < 1440 ⌝ }
+    ensures { λ r. ⌜ r ≡ spec.arguments minute ⌝ }
+{
+    Arguments {
+        time: time_of(minute),
+        step: ieee::double_of(60),
+        absolute_tolerance: 1.0,
+        relative_tolerance: 1.0,
+        adaptive: false,
+    }
+}
+
+// Vector k of the area, copied out.
+fn read_vector(area: &[f64], n: usize, k: usize, to: &mut [f64])
+    requires { ⌜ 11 * n ≤ length (now area) ⌝ }
+    requires { ⌜ length (now to) ≡ n ⌝ }
+    requires { ⌜ k < 11 ⌝ }
+    ensures { λ _. ⌜ now (to .exit) ≡ unpack n (now (area .entry)) (named k) ⌝ }
+{
+    let a = k * n;
+    let b = a + n;
+    workspace::copy_into(to, &area[a..b]);
+}
+
+// The rates at vector k of the area.
+fn rates_at(m: Inverter, reading: f64, area: &[f64], k: usize, to: &mut [f64])
+    requires { ⌜ 11 * m .n ≤ length (now area) ⌝ }
+    requires { ⌜ length (now to) ≡ m .n ⌝ }
+    requires { ⌜ k < 11 ⌝ }
+    ensures { λ _. ⌜ now (to .exit) ≡ chain.rates m (unpack (m .n) (now (area .entry)) (named k)) reading ⌝ }
+{
+    let n = m.n;
+    let a = k * n;
+    let b = a + n;
+    model::rates(m, reading, &area[a..b], to);
+}
+
+fn with_counters(next: Next, counters: Counters) -> Replied
+    ensures { λ r. ⌜ r ≡ record { answer = next .answer; «record» = next .«record»; counters = counters } ⌝ }
+{
+    let answer = next.answer;
+    let record = next.record;
+    Replied {
+        answer,
+        record,
+        counters,
+    }
+}
+
+// The first call of a minute.
+fn begin(
+    m: Inverter,
+    record: Record,
+    counters: Counters,
+    area: &mut [f64],
+    scratch: &mut [f64],
+    minute: u64,
+) -> Replied
+    requires { ⌜ 11 * m .n ≤ length (now area) ⌝ }
+    requires { ⌜ length (now scratch) ≡ m .n ⌝ }
+    requires { ⌜ minute < 1440 ⌝ }
+    ensures { λ r. ⌜ spec.given r (now (area .exit)) ≡ spec.begun m minute (holding «record» counters (now (area .entry))) ⌝ }
+{
+    let n = m.n;
+    let time = time_of(minute);
+    let phase = record.phase;
+    if driver::may_accept(phase) {
+        read_vector(area, n, workspace::CANDIDATE, scratch);
+        let next = driver::accept_with_callback(record, area, scratch, time);
+        return with_counters(next, counters);
+    }
+    read_vector(area, n, workspace::STATE, scratch);
+    let next = driver::start(record, area, m.family, n, scratch, time);
+    with_counters(next, counters)
+}
+
+// The call that an answer asks for.
+fn next(
+    m: Inverter,
+    reply: Replied,
+    area: &mut [f64],
+    scratch: &mut [f64],
+    reading: f64,
+    minute: u64,
+) -> Replied
+    requires { ⌜ 11 * m .n ≤ length (now area) ⌝ }
+    requires { ⌜ length (now scratch) ≡ m .n ⌝ }
+    requires { ⌜ minute < 1440 ⌝ }
+    requires { ⌜ spec.asked (reply .answer) < 11 ⌝ }
+    ensures { λ r. ⌜ spec.given r (now (area .exit)) ≡ spec.next m minute reading (spec.given reply (now (area .entry))) ⌝ }
+{
+    let answer = reply.answer;
+    let record = reply.record;
+    let counters = reply.counters;
+    match answer {
+        Answer::Evaluate { time: _, vector } => {
+            rates_at(m, reading, area, vector, scratch);
+            driver::reply(record, counters, area, scratch)
+        }
+        Answer::Ready => with_counters(driver::attempt(record, area, arguments(minute)), counters),
+        Answer::Finished { norm: _ } => reply,
+        Answer::Refused(_) => reply,
+        Answer::Empty => reply,
+    }
+}
+
+// Whether an answer asks for no call.
+fn settled(answer: Answer) -> bool
+    ensures { λ r. ⌜ r ≡ spec.settled answer ⌝ }
+{
+    match answer {
+        Answer::Evaluate { time: _, vector: _ } => false,
+        Answer::Ready => false,
+        Answer::Finished { norm: _ } => true,
+        Answer::Refused(_) => true,
+        Answer::Empty => true,
+    }
+}
+
+// From the state that is kept, or the candidate, to the minute's last answer.
+pub fn pass(
+    m: Inverter,
+    record: Record,
+    counters: Counters,
+    area: &mut [f64],
+    scratch: &mut [f64],
+    reading: f64,
+    minute: u64,
+) -> Replied
+    requires { ⌜ 11 * m .n ≤ length (now area) ⌝ }
+    requires { ⌜ length (now scratch) ≡ m .n ⌝ }
+    requires { ⌜ minute < 1440 ⌝ }
+    ensures { λ r. ⌜ spec.given r (now (area .exit)) ≡ spec.passed m minute reading (holding «record» counters (now (area .entry))) ⌝ }
+{
+    let mut reply = begin(m, record, counters, area, scratch, minute);
+    let mut left: u64 = 214;
+    while 0 < left {
+        let answer = reply.answer;
+        if settled(answer) {
+            return reply;
+        }
+        reply = next(m, reply, area, scratch, reading, minute);
+        left -= 1;
+    }
+    reply
+}

@@ -1,0 +1,143 @@
+// The minutes of a day, one after another.
+ghost use mathlib.Core.Path.{_≡_};
+ghost use Prim.Native.Nat.{_*_, _≤_, _<_};
+ghost use lib.ListN.{length, replicate};
+ghost use Rattle.ieee.specs.Double.{nought};
+ghost use Rattle.inverter.specs.Day as spec;
+use crate::Count;
+use crate::Inverter;
+use crate::Total;
+use crate::minute;
+use driver::Answer;
+use driver::Counters;
+use driver::Replied;
+
+// The number that a minute was refused with, 0 for none.
+fn refusal(answer: Answer) -> u64
+    ensures { λ r. ⌜ r ≡ spec.refusal answer ⌝ }
+{
+    match answer {
+        Answer::Refused(number) => number,
+        Answer::Evaluate { time: _, vector: _ } => 0,
+        Answer::Finished { norm: _ } => 0,
+        Answer::Ready => 0,
+        Answer::Empty => 0,
+    }
+}
+
+// Whether the minute is finished with the junction above its rated temperature.
+fn is_above(m: Inverter, answer: Answer, area: &[f64]) -> bool
+    requires { ⌜ 1 ≤ m .n ⌝ }
+    requires { ⌜ 11 * m .n ≤ length (now area) ⌝ }
+    ensures { λ r. ⌜ r ≡ spec.is-above m answer (now (area .entry)) ⌝ }
+{
+    match answer {
+        Answer::Finished { norm: _ } => {
+            let n = m.n;
+            let junction = 10 * n;
+            m.rated < area[junction]
+        }
+        Answer::Evaluate { time: _, vector: _ } => false,
+        Answer::Ready => false,
+        Answer::Refused(_) => false,
+        Answer::Empty => false,
+    }
+}
+
+fn one_if(b: bool) -> u64
+    ensures { λ r. ⌜ r ≡ spec.one-if b ⌝ }
+{
+    if b { 1 } else { 0 }
+}
+
+fn outset() -> Count
+    ensures { λ r. ⌜ r ≡ spec.no-count ⌝ }
+{
+    Count {
+        record: driver::new_record(),
+        counters: Counters {
+            evaluations: 0,
+            finished_attempts: 0,
+        },
+        above: 0,
+        refused: 0,
+    }
+}
+
+// A minute's end counted.
+fn counted(m: Inverter, end: Replied, area: &[f64], count: Count) -> Count
+    requires { ⌜ 1 ≤ m .n ⌝ }
+    requires { ⌜ 11 * m .n ≤ length (now area) ⌝ }
+    requires { ⌜ (count .above < 1440) × (count .refused < 1440) ⌝ }
+    ensures { λ r. ⌜ r ≡ spec.counted m (spec.given end (now (area .entry))) count ⌝ }
+{
+    let record = end.record;
+    let counters = end.counters;
+    let answer = end.answer;
+    Count {
+        record,
+        counters,
+        above: count.above + one_if(is_above(m, answer, area)),
+        refused: count.refused + one_if(refusal(answer) != 0),
+    }
+}
+
+fn total(count: Count) -> Total
+    ensures { λ r. ⌜ r ≡ spec.total-of count ⌝ }
+{
+    Total {
+        hours: ieee::double_of(count.above) / ieee::double_of(60),
+        above: count.above,
+        evaluations: count.counters.evaluations,
+        finished_attempts: count.counters.finished_attempts,
+        refused: count.refused,
+    }
+}
+
+// A minute for each reading.
+fn run(
+    m: Inverter,
+    readings: &[f64],
+    area: &mut [f64],
+    scratch: &mut [f64],
+    refusals: &mut [u64],
+) -> Total
+    requires { ⌜ 1 ≤ m .n ⌝ }
+    requires { ⌜ 11 * m .n ≤ length (now area) ⌝ }
+    requires { ⌜ length (now scratch) ≡ m .n ⌝ }
+    requires { ⌜ length (now readings) ≤ 1440 ⌝ }
+    requires { ⌜ length (now refusals) ≡ length (now readings) ⌝ }
+    ensures { λ r. ⌜ spec.Told (spec.run m 0 (now (readings .entry)) (spec.outset (now (area .entry)))) r (now (refusals .exit)) ⌝ }
+{
+    let mut count = outset();
+    let mut i = 0;
+    while i < readings.len() {
+        let record = count.record;
+        let counters = count.counters;
+        let end = minute::pass(m, record, counters, area, scratch, readings[i], i as u64);
+        let answer = end.answer;
+        refusals[i] = refusal(answer);
+        count = counted(m, end, area, count);
+        i += 1;
+    }
+    total(count)
+}
+
+// The same from the outset, where the area is zero.
+pub fn from_rest(
+    m: Inverter,
+    readings: &[f64],
+    area: &mut [f64],
+    scratch: &mut [f64],
+    refusals: &mut [u64],
+) -> Total
+    requires { ⌜ 1 ≤ m .n ⌝ }
+    requires { ⌜ now area ≡ replicate (11 * m .n) nought ⌝ }
+    requires { ⌜ length (now scratch) ≡ m .n ⌝ }
+    requires { ⌜ length (now readings) ≤ 1440 ⌝ }
+    requires { ⌜ length (now refusals) ≡ length (now readings) ⌝ }
+    ensures { λ r. ⌜ spec.Told (spec.run m 0 (now (readings .entry)) (spec.outset (spec.first-area m))) r (now (refusals .exit)) ⌝ }
+{
+    workspace::fill_vector(area, m.n, workspace::STATE, m.initial);
+    run(m, readings, area, scratch, refusals)
+}
