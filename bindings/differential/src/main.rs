@@ -37,7 +37,9 @@ fn main() -> ExitCode {
     let result = match words.first().map(String::as_str) {
         Some("quick") => all(&QUICK, seed),
         Some("long") => all(&LONG, seed),
-        Some("scenario") => scenarios::life(seed, 512, &oracle::FAMILIES, &mut Coverage::default()),
+        Some("scenario") => {
+            scenarios::session(seed, 512, &oracle::FAMILIES, &mut Coverage::default())
+        }
         Some("call") => hostile::call(seed, &mut Tally::default()),
         _ => Err("differential quick | long [seed], scenario SEED, call SEED".to_string()),
     };
@@ -71,7 +73,7 @@ fn all(size: &Size, seed: u64) -> Result<(), String> {
     }
     let mut coverage = Coverage::default();
     every_count(size, seed, &departures, &mut coverage)?;
-    // Elsewhere than on the named build RKC is left out where the table departs; a random life may come to any count.
+    // Elsewhere than on the named build RKC is left out where the table departs; a random session may come to any count.
     let families = if departures.is_empty() {
         &oracle::FAMILIES[..]
     } else {
@@ -81,7 +83,7 @@ fn all(size: &Size, seed: u64) -> Result<(), String> {
     while coverage.attempts < size.attempts {
         let seed = mixed(seed ^ mixed(index));
         let largest = if index % 16 == 0 { 512 } else { 64 };
-        scenarios::life(seed, largest, families, &mut coverage)
+        scenarios::session(seed, largest, families, &mut coverage)
             .map_err(|difference| format!("scenario {seed}: {difference}"))?;
         index += 1;
     }

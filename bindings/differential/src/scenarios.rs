@@ -1,4 +1,4 @@
-//! Seeded scenarios: the stage counts and pass counts one by one, and random lives of starts, attempts, rejections,
+//! Seeded scenarios: the stage counts and pass counts one by one, and random sessions of starts, attempts, rejections,
 //! accepts, callbacks and failures.
 use crate::model::{Model, Replies};
 use crate::pair::{Ending, Pair, Stop};
@@ -332,9 +332,9 @@ fn spoiled(random: &mut Random, replies: Replies, among: usize) -> Replies {
     Replies { bad, ..replies }
 }
 
-/// A random life: starts, and attempts each rejected, accepted, or ended by a callback. Wild ones hold doubles of every
+/// A random session: starts, and attempts each rejected, accepted, or ended by a callback. Wild ones hold doubles of every
 /// kind and models that overflow.
-pub fn life(
+pub fn session(
     seed: u64,
     largest: usize,
     families: &[u64],
@@ -357,14 +357,14 @@ pub fn life(
     });
     let mut pair = Pair::new(n, area, strict, random.draw());
     pair.write_down(&mut coverage.trace);
-    let result = live(&mut pair, random, wild, families, coverage);
+    let result = starts(&mut pair, random, wild, families, coverage);
     coverage.evaluations += pair.counters.evaluations;
     coverage.turned_away += pair.turned_away;
     coverage.trace = pair.written();
     result
 }
 
-fn live(
+fn starts(
     pair: &mut Pair,
     random: &mut Random,
     wild: bool,

@@ -45,7 +45,7 @@ impl Trace {
         }
     }
 
-    /// A life begins.
+    /// A session begins.
     pub fn begin(&mut self, counters: &Counters, area: &[f64]) {
         let n = area.len() / VECTORS;
         self.words.extend([

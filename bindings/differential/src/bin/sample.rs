@@ -1,8 +1,8 @@
 //! Writes the traces that the program `replay` is run on, to standard output.
 //!
-//! Each life is run on both sides at once, and what is written was compared with the Rust's at every call: a difference
-//! ends the program. Lives are drawn one after another for each family, and one is kept if it holds a kind of call, ending
-//! or number that no life of that family before it held, and is short. To them come the least and the largest count of
+//! Each session is run on both sides at once, and what is written was compared with the Rust's at every call: a difference
+//! ends the program. Sessions are drawn one after another for each family, and one is kept if it holds a kind of call, ending
+//! or number that no session of that family before it held, and is short. To them come the least and the largest count of
 //! stages of every family, and one attempt at n = 64 and at n = 512.
 use differential::random::mixed;
 use differential::scenarios::{self, Coverage};
@@ -10,10 +10,10 @@ use differential::trace::Trace;
 use std::collections::BTreeSet;
 use std::io::Write;
 
-/// The longest life that is kept, in words.
+/// The longest session that is kept, in words.
 const LONGEST: usize = 3000;
 
-/// How many lives of a family are drawn.
+/// How many sessions of a family are drawn.
 const DRAWN: u64 = 4000;
 
 const LEFT_OUT: &str = "left out: the overflow in RKC";
@@ -32,13 +32,13 @@ fn words(coverage: &mut Coverage) -> Vec<u64> {
         .map_or(Vec::new(), |trace| trace.words)
 }
 
-/// Lives of one family.
-fn lives(family: u64, all: &mut Vec<u64>) -> Result<(), String> {
+/// Sessions of one family.
+fn sessions(family: u64, all: &mut Vec<u64>) -> Result<(), String> {
     let mut held = BTreeSet::new();
     for index in 0..DRAWN {
         let seed = mixed(family ^ mixed(index));
         let mut coverage = fresh();
-        scenarios::life(seed, 8, &[family], &mut coverage)
+        scenarios::session(seed, 8, &[family], &mut coverage)
             .map_err(|difference| format!("scenario {seed}: {difference}"))?;
         let words = words(&mut coverage);
         let usable =
@@ -68,7 +68,7 @@ fn attempt(
 fn sample() -> Result<Vec<u64>, String> {
     let mut all = Vec::new();
     for family in oracle::FAMILIES {
-        lives(family, &mut all)?;
+        sessions(family, &mut all)?;
         let permitted: Vec<usize> = oracle::permitted(family).collect();
         let (least, largest) = (permitted[0], permitted[permitted.len() - 1]);
         attempt(family, least, 1, 2, &mut all)?;

@@ -1,0 +1,245 @@
+// Sessions with the engine, made again call by call from traces of the Rust: every answer, count, point and vector is to be the
+// Rust's, bit for bit. data/traces was written by bindings/differential/src/bin/sample.rs.
+ghost use Prim.Native.Nat.{_≤_};
+use driver::Answer;
+use driver::Counters;
+use driver::Record;
+use tally::Tally;
+
+mod calls;
+mod tally;
+mod trace;
+mod vectors;
+
+// Where a session stands: the next word, n, and what the engine is handed.
+pub struct Session {
+    pub at: usize,
+    pub n: usize,
+    pub record: Record,
+    pub counters: Counters,
+    pub tally: Tally,
+}
+
+fn right_answer(s: &[u8], at: usize, answer: Answer) -> bool {
+    let code = stored::word(s, at);
+    let number = stored::word(s, trace::on(at, 1));
+    let value = trace::double(s, trace::on(at, 2));
+    match answer {
+        Answer::Evaluate { time, vector } => {
+            if code != 1 {
+                return false;
+            }
+            if number != vector as u64 {
+                return false;
+            }
+            stored::same(time, value)
+        }
+        Answer::Finished { norm } => {
+            if code != 2 {
+                return false;
+            }
+            stored::same(norm, value)
+        }
+        Answer::Ready => code == 3,
+        Answer::Refused(cause) => {
+            if code != 4 {
+                return false;
+            }
+            number == cause
+        }
+        Answer::Empty => code == 5,
+    }
+}
+
+// 1 to 10 for an answer that turns away, else 10 and its code.
+fn kind(answer: Answer) -> u64 {
+    match answer {
+        Answer::Evaluate { time: _, vector: _ } => 11,
+        Answer::Finished { norm: _ } => 12,
+        Answer::Ready => 13,
+        Answer::Refused(cause) => cause,
+        Answer::Empty => 15,
+    }
+}
+
+fn right_counters(s: &[u8], at: usize, counters: Counters) -> bool {
+    if stored::word(s, at) != counters.evaluations {
+        return false;
+    }
+    stored::word(s, trace::on(at, 1)) == counters.finished_attempts
+}
+
+// s, k and the scaled radius.
+fn right_finish(s: &[u8], at: usize, record: Record) -> bool {
+    if stored::word(s, at) != record.staging.stages {
+        return false;
+    }
+    if stored::word(s, trace::on(at, 1)) != record.iteration.pass {
+        return false;
+    }
+    let radius = trace::double(s, trace::on(at, 2));
+    stored::same(radius, record.iteration.scaled_radius)
+}
+
+fn begun(s: &[u8], at: usize, tally: Tally, area: &mut [f64], expected: &mut [f64]) -> Session {
+    let n = stored::word(s, at);
+    let counters = Counters {
+        evaluations: stored::word(s, trace::on(at, 1)),
+        finished_attempts: stored::word(s, trace::on(at, 2)),
+    };
+    let mut size: usize = 512;
+    if n < 512 {
+        size = n as usize;
+    }
+    let from = trace::on(at, 3);
+    vectors::anew(s, from, size, area);
+    let next = vectors::anew(s, from, size, expected);
+    Session {
+        at: next,
+        n: size,
+        record: driver::new_record(),
+        counters,
+        tally: tally::with_session(tally),
+    }
+}
+
+// The answer is right, and where it is finished so are s, k and the scaled radius.
+fn right_all(s: &[u8], at: usize, answer: Answer, record: Record) -> bool {
+    if !right_answer(s, at, answer) {
+        return false;
+    }
+    if stored::word(s, at) == 2 {
+        return right_finish(s, trace::on(at, 5), record);
+    }
+    true
+}
+
+// The place of the area that a call left, after what it answered at this place.
+fn area_at(s: &[u8], at: usize) -> usize {
+    if stored::word(s, at) == 2 {
+        return trace::on(at, 8);
+    }
+    trace::on(at, 5)
+}
+
+fn called(
+    s: &[u8],
+    call: u64,
+    session: Session,
+    area: &mut [f64],
+    expected: &mut [f64],
+    brought: &mut [f64],
+    seen: &mut [u64; 112],
+) -> Session {
+    let before = session.record;
+    let held = session.counters;
+    let out = calls::make(s, call, session.at, before, held, area, brought);
+    let record = out.record;
+    let counters = out.counters;
+    let answer = out.answer;
+    let right = right_all(s, out.at, answer, record);
+    let counts = right_counters(s, trace::on(out.at, 3), counters);
+    let next = vectors::follow(s, area_at(s, out.at), session.n, expected);
+    let differ = vectors::differing(area, expected);
+    tally::count(seen, call, kind(answer));
+    Session {
+        at: next,
+        n: session.n,
+        record,
+        counters,
+        tally: tally::with_call(session.tally, right, counts, differ, area.len()),
+    }
+}
+
+fn least(a: usize, b: usize) -> usize
+    ensures { λ r. ⌜ (r ≤ a) × (r ≤ b) ⌝ }
+{
+    if a < b {
+        return a;
+    }
+    b
+}
+
+fn step(
+    s: &[u8],
+    session: Session,
+    area: &mut [f64],
+    expected: &mut [f64],
+    brought: &mut [f64],
+    seen: &mut [u64; 112],
+) -> Session {
+    let call = stored::word(s, session.at);
+    let at = trace::on(session.at, 1);
+    if call == 0 {
+        return begun(s, at, session.tally, area, expected);
+    }
+    let end = least(
+        11 * least(session.n, 512),
+        least(area.len(), expected.len()),
+    );
+    let mut on = session;
+    on.at = at;
+    called(
+        s,
+        call,
+        on,
+        &mut area[..end],
+        &mut expected[..end],
+        brought,
+        seen,
+    )
+}
+
+// All sessions of s. A call takes at least one word.
+fn sessions(
+    s: &[u8],
+    area: &mut [f64],
+    expected: &mut [f64],
+    brought: &mut [f64],
+    seen: &mut [u64; 112],
+) -> Tally {
+    let mut session = Session {
+        at: 0,
+        n: 0,
+        record: driver::new_record(),
+        counters: Counters {
+            evaluations: 0,
+            finished_attempts: 0,
+        },
+        tally: tally::none(),
+    };
+    let mut left = s.len() / 8;
+    while left > 0 {
+        if session.at >= s.len() / 8 {
+            return session.tally;
+        }
+        session = step(s, session, area, expected, brought, seen);
+        left -= 1;
+    }
+    session.tally
+}
+
+fn all_sessions(s: &[u8], seen: &mut [u64; 112]) -> Tally {
+    let mut area = [0.0; 5632];
+    let mut expected = [0.0; 5632];
+    let mut brought = [0.0; 513];
+    sessions(s, &mut area, &mut expected, &mut brought, seen)
+}
+
+fn room() -> [u8; 1048576] {
+    [0; 1048576]
+}
+
+fn main() {
+    let fd = os::open_read(b"traces");
+    if fd < 0 {
+        os::fail(b"traces");
+        return;
+    }
+    let mut bytes = room();
+    let n = io::read_full(fd, &mut bytes);
+    libc::close(fd);
+    let mut seen = [0; 112];
+    let all = all_sessions(&bytes[..n], &mut seen);
+    tally::print(all, &seen);
+}

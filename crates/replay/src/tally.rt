@@ -1,0 +1,120 @@
+// What was seen, and what differs.
+use libc::STDOUT_FILENO;
+
+pub struct Tally {
+    pub sessions: u64,
+    pub calls: u64,
+    pub doubles: u64,
+    pub answers: u64,
+    pub counts: u64,
+    pub entries: u64,
+}
+
+pub fn none() -> Tally {
+    Tally {
+        sessions: 0,
+        calls: 0,
+        doubles: 0,
+        answers: 0,
+        counts: 0,
+        entries: 0,
+    }
+}
+
+fn one_more(count: u64, more: bool) -> u64 {
+    if more {
+        std::num::wrapping_add_u64(count, 1)
+    } else {
+        count
+    }
+}
+
+pub fn with_session(tally: Tally) -> Tally {
+    let mut more = tally;
+    more.sessions = one_more(tally.sessions, true);
+    more
+}
+
+// With a call whose answer and counts are right or not, and whose area has so many doubles, of which so many differ.
+pub fn with_call(tally: Tally, answer: bool, counts: bool, differ: u64, doubles: usize) -> Tally {
+    Tally {
+        sessions: tally.sessions,
+        calls: one_more(tally.calls, true),
+        doubles: std::num::wrapping_add_u64(tally.doubles, doubles as u64),
+        answers: one_more(tally.answers, !answer),
+        counts: one_more(tally.counts, !counts),
+        entries: std::num::wrapping_add_u64(tally.entries, differ),
+    }
+}
+
+// How often each call, 1 to 6, was answered so: 16 places a call.
+pub fn count(seen: &mut [u64; 112], call: u64, answer: u64) {
+    if call < 7 {
+        if answer < 16 {
+            let at = call as usize * 16 + answer as usize;
+            seen[at] = std::num::wrapping_add_u64(seen[at], 1);
+        }
+    }
+}
+
+fn say(text: &[u8]) {
+    io::write_all(STDOUT_FILENO, text);
+}
+
+fn number(n: u64) {
+    io::print_decimal(STDOUT_FILENO, n);
+}
+
+fn call_name(call: usize) {
+    match call {
+        1 => say(b"start"),
+        2 => say(b"attempt"),
+        3 => say(b"reply"),
+        4 => say(b"accept"),
+        5 => say(b"accept with a callback"),
+        _ => say(b"abandon"),
+    }
+}
+
+fn answer_name(answer: usize) {
+    match answer {
+        11 => say(b", evaluate: "),
+        12 => say(b", finished: "),
+        13 => say(b", ready: "),
+        15 => say(b", empty: "),
+        refused => {
+            say(b", turned away with ");
+            number(refused as u64);
+            say(b": ");
+        }
+    }
+}
+
+fn print_seen(seen: &[u64; 112]) {
+    let mut at: usize = 0;
+    while at < 112 {
+        if seen[at] > 0 {
+            call_name(at / 16);
+            answer_name(at % 16);
+            number(seen[at]);
+            say(b"\n");
+        }
+        at += 1;
+    }
+}
+
+pub fn print(tally: Tally, seen: &[u64; 112]) {
+    print_seen(seen);
+    number(tally.sessions);
+    say(b" sessions, ");
+    number(tally.calls);
+    say(b" calls, ");
+    number(tally.doubles);
+    say(b" doubles of areas\n");
+    number(tally.answers);
+    say(b" answers, ");
+    number(tally.counts);
+    say(b" counts, ");
+    number(tally.entries);
+    say(b" doubles differ\n");
+}
