@@ -7,6 +7,7 @@ pub mod Asked
 pub mod Stages
 pub mod Passes
 pub mod Served
+pub mod Close
 pub mod Theorem
 pub mod Room
 pub mod Always

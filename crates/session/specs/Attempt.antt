@@ -85,10 +85,10 @@ module _ (f : Family) (n : ℕ) (a : Arguments) where
   run-recurrence s v = let c = recurrence f s in
       stage-loop s (s - 1) 2 c (first-stage n (a .step) (c .«theta_previous») v)
 
-  -- `finite(candidate)?`, then the evaluation at the candidate and the error
   unfoldable pub outcome : ℕ → ℕ → Float → Vectors → Outcome
   outcome s k r v = record { norm = error-norm f n s a v; stages = s; passes = k; scaled-radius = r; vectors = v }
 
+  -- `finite(candidate)?`, then the evaluation at the candidate and the error
   unfoldable pub close : ℕ → ℕ → Float → Vectors → Asking Outcome
   close s k r v = let v = with-candidate v in
       cond (all-finite (v candidate))
