@@ -1,9 +1,10 @@
 -- Document 01's case, by computation, as a session: RKL1, n = 1, state 1, step 1, every reply 0. A start and its reply, an attempt and four replies, an accept; among them calls that are not taken.
-use mathlib.Core.Path.{_≡_, refl}
+use mathlib.Core.Path.{_≡_, refl, ap, ap₂, _∙_}
 use mathlib.Core.Bool.{true}
 use mathlib.Core.List.{List, [], _∷_, _++_, map}
 use Prim.Native.Nat.{ℕ}
 use lib.Count.{trailingZeros}
+use lib.ListN.{length}
 use lib.Ieee.{Float, binary64, toBits, add, sub, mul, div, neg, le, lt, eq, ofInt, round, toUnsigned, sum, units, odd, size, span, climb, isNan}
 use Rattle.ieee.specs.Double.{double, nearest, square, min-positive, root-epsilon, nought, one}
 use Rattle.ieee.specs.Sqrt.{root-below, root, halves, root-units, sqrt}
@@ -13,9 +14,11 @@ use Rattle.coefficients.specs.Rows.{omega-zero, omega-one-of, b-first, first-mu
 use Rattle.workspace.specs.declared.Arguments.{Arguments}
 use Rattle.workspace.specs.Vectors.{vector-count, each, sum-of-squares, root-of-squares, vector-norm, all-finite}
 use Rattle.workspace.specs.Kernel.{with-direction, perturbation-of, perturbed, turned, radius-of, ended, scaled, first-stage, orthogonal-entry, entry, with-row, exchanged, with-candidate, error, with-last, divisor, scaled-error, scaled-error-norm, error-norm}
-use Rattle.driver.specs.Calls.{stage-need, Call, Start, Attempt, Reply, Accept, Abandon, sized, as-long, good-times, good-tolerance, good-tolerances, room}
+use Rattle.driver.specs.declared.Counters.{Counters}
+use Rattle.driver.specs.Calls.{Held, stage-need, Call, Start, Attempt, Reply, Accept, Abandon, sized, as-long, good-times, good-tolerance, good-tolerances, room}
 use Rattle.session.specs.Attempt.{_>>=_, evaluate, stages-for, iterate, spectral-radius, stage-loop, run-recurrence, outcome, close, attempt-step}
-use Rattle.session.specs.Session.{Shown, evaluates, finished-with, ready-at, stops, nothing, Seen, vectors-of, initialize, tries, accept-step, at-rest, after-attempt, waiting, finished-by, counts-on, doing-now, replied-with, step, doing-shown, session-seen, rests, has-tried, waits, waits-with-room, takes, session, fresh}
+use Rattle.session.specs.Session.{Shown, evaluates, finished-with, ready-at, stops, nothing, Seen, seen-of, vectors-of, initialize, tries, accept-step, at-rest, after-attempt, waiting, finished-by, counts-on, doing-now, replied-with, step, doing-shown, session-seen, rests, has-tried, waits, waits-with-room, takes, session, fresh}
+use Rattle.session.proofs.Lives.{lives}
 
 -- opens, where it is named on an `unfolding` line, what a double's operation, an attempt of RKL1 and a session are made of
 unfoldable doubles : Unit {0}
@@ -30,20 +33,20 @@ unfoldable sessions : Unit {0}
 unfolding known family-of permitted vector-count sized as-long good-times good-tolerance good-tolerances room vectors-of initialize tries accept-step at-rest after-attempt waiting finished-by counts-on doing-now replied-with step doing-shown session-seen rests has-tried waits waits-with-room takes session fresh
 sessions = tt
 
-arguments : Arguments
+pub arguments : Arguments
 arguments = record { time = nought; step = one; «absolute_tolerance» = nearest 1 1000000; «relative_tolerance» = nearest 1 1000000; adaptive = true }
 
-calls : List Call
-calls = Reply zeros ∷ Start 2 1 (one ∷ []) nought ∷ Attempt arguments ∷ Reply zeros ∷ Attempt arguments ∷ Reply zeros ∷ Reply zeros ∷ Accept ∷ Reply zeros ∷ Reply zeros ∷ Reply zeros ∷ Accept ∷ Accept ∷ Abandon ∷ []
+pub calls : List Call
+calls = Start 2 1 (one ∷ []) nought ∷ Attempt arguments ∷ Reply zeros ∷ Attempt arguments ∷ Reply zeros ∷ Reply zeros ∷ Accept ∷ Reply zeros ∷ Reply zeros ∷ Reply zeros ∷ Accept ∷ Accept ∷ Abandon ∷ []
   where
     zeros : List Float
     zeros = nought ∷ []
 
-bits : Float → ℕ
+pub bits : Float → ℕ
 bits x = toBits binary64 x
 
 -- 1 evaluate: time and point; 2 finished: norm, s, k, r, candidate; 3 ready: state and derivative; 4 stopped; 5 nothing
-kind : Shown → List ℕ
+pub kind : Shown → List ℕ
 kind (evaluates t p) = 1 ∷ bits t ∷ map bits p
 kind (finished-with e s k r p) = 2 ∷ bits e ∷ s ∷ k ∷ bits r ∷ map bits p
 kind (ready-at y d) = 3 ∷ map bits y ++ map bits d
@@ -51,11 +54,12 @@ kind (stops i) = 4 ∷ i ∷ []
 kind nothing = 5 ∷ []
 
 -- and both counts before
-told : Seen → List ℕ
+pub told : Seen → List ℕ
 told x = x .counts .evaluations ∷ x .counts .«finished_attempts» ∷ kind (x .shown)
 
-case : map told (session 11 (fresh (record { evaluations = 0; «finished_attempts» = 0 })) calls)
-    ≡ (0 ∷ 0 ∷ 1 ∷ 0 ∷ 0x3ff0000000000000 ∷ [])
+pub told-in-case : List (List ℕ)
+told-in-case =
+    (0 ∷ 0 ∷ 1 ∷ 0 ∷ 0x3ff0000000000000 ∷ [])
     ∷ (1 ∷ 0 ∷ 3 ∷ 0x3ff0000000000000 ∷ 0 ∷ [])
     ∷ (1 ∷ 0 ∷ 1 ∷ 0 ∷ 0x3ff0000004000000 ∷ [])
     ∷ (2 ∷ 0 ∷ 1 ∷ 0x3fc5555555555555 ∷ 0x3ff0000000000000 ∷ [])
@@ -64,5 +68,23 @@ case : map told (session 11 (fresh (record { evaluations = 0; «finished_attempt
     ∷ (5 ∷ 1 ∷ 2 ∷ 0x3db4585555555555 ∷ 3 ∷ 1 ∷ 0 ∷ 0x3fefffffffffffff ∷ [])
     ∷ (5 ∷ 1 ∷ 3 ∷ 0x3fefffffffffffff ∷ 0 ∷ [])
     ∷ []
-unfolding told kind bits calls arguments doubles attempts sessions
+
+pub zeroes : Counters
+zeroes = record { evaluations = 0; «finished_attempts» = 0 }
+
+pub case : map told (session 11 (fresh zeroes) calls) ≡ told-in-case
+unfolding told kind bits calls arguments told-in-case zeroes doubles attempts sessions
 case = refl
+
+-- ---- and so of the calls
+
+starts : (size : ℕ) (counts : Counters) → size ≡ 11 → takes size (fresh counts) (Start 2 1 (one ∷ []) nought) ≡ true
+unfolding sessions all-finite
+starts size counts l = rw l refl
+
+as-session : (h : Held) → length (h .area) ≡ 11 → seen-of h calls ≡ session (length (h .area)) (fresh (h .counters)) calls
+unfolding calls
+as-session h l = lives h 2 1 (one ∷ []) nought _ (starts (length (h .area)) (h .counters) l)
+
+pub case-of-calls : (h : Held) → length (h .area) ≡ 11 → h .counters ≡ zeroes → map told (seen-of h calls) ≡ told-in-case
+case-of-calls h l e = ap (map told) (as-session h l ∙ ap₂ (λ (size : ℕ) (counts : Counters). session size (fresh counts) calls) l e) ∙ case

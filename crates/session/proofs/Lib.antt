@@ -26,4 +26,5 @@ pub mod OnAccept
 pub mod OnAbandon
 pub mod Lives
 pub mod Skipped
+pub mod Among
 pub mod Case

@@ -14,7 +14,7 @@ use Rattle.driver.specs.declared.Need.the-variants.{Met}
 use Rattle.driver.specs.declared.Answer.{Answer}
 use Rattle.driver.specs.declared.Answer.the-variants.{Evaluate, Finished, Ready, Refused, Empty}
 use Rattle.driver.specs.Answers.{case-number, Says}
-use Rattle.driver.specs.Calls.{Held, Called, in-phase, stage-need, sized, whole-area, awaiting, has-room, may-attempt, good-times, good-tolerances, attempt, reply}
+use Rattle.driver.specs.Calls.{Held, Called, in-phase, stage-need, sized, whole-area, awaiting, has-room, may-attempt, good-times, good-tolerances, attempt, reply, Call, Reply}
 use Rattle.session.specs.Attempt.{Asking, Outcome, Evaluated, evaluated, reaches-candidate, End, reached, refused, end, attempt-step}
 use Rattle.session.specs.Refusals.{largest-number}
 
@@ -37,6 +37,11 @@ answers (suc m) d i x = called-for (x .answer) (x .held) ++ answers m d (suc i) 
 unfoldable pub after : ℕ → (ℕ → List Float) → ℕ → Called → Called
 after zero d i x = x
 after (suc m) d i x = after m d (suc i) (reply (x .held) (d i))
+
+-- these replies as calls
+unfoldable pub replies-from : ℕ → (ℕ → List Float) → ℕ → List Call
+replies-from zero d i = []
+replies-from (suc m) d i = Reply (d i) ∷ replies-from m d (suc i)
 
 -- what the last of these calls found, h being what the call of x found
 unfoldable pub last-found : ℕ → (ℕ → List Float) → ℕ → Held → Called → Held

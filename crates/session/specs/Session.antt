@@ -175,7 +175,7 @@ waits (within (done r)) = false
 waits (within (stopped i v)) = false
 waits (within (ask t p k)) = true
 
--- Waits for a derivative, and has room to count it. The evaluation that a finite reply, as the empty list is, ends an attempt with also needs room for a finished attempt: it is that of the phase Candidate and no other (`Closes` in proofs/Follows.antt).
+-- Waits for a derivative, and has room to count it. The evaluation that a finite reply, as the empty list is, ends an attempt with also needs room for a finished attempt: it is that of the phase Candidate and no other (`Closes` in proofs/Follows.antt, `Shows` in proofs/Shows.antt).
 unfoldable pub waits-with-room : Doing → Counters → Bool
 waits-with-room none c = false
 waits-with-room (within (done r)) c = false
