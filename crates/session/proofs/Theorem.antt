@@ -50,20 +50,24 @@ each-calls h a d long total fits (ask t p k) replies i b x l f (suc j) lt =
 same-says : (x y : Answer) → x ≡ y → Says x y
 same-says x y e = record { same-case = ap case-number e; same-values = ap case-values e }
 
-pub took : (h : Held) (a : Arguments) (d : ℕ → List Float) (o : Outcome) → Allowed h a → ((i : ℕ) → length (d i) ≡ h .kept .n) → Fits h a d
-    → end (in-one-piece h a) d 0 ≡ reached o → Took h a d o (after (o .stages + o .passes) d 0 (attempt h a))
-took h a d o p long fits e =
-    let total = replies-to h a d in
-    let le : 0 + total ≤ total = omega arith in
-    let f : Finishes h a o total (after total d 0 (attempt h a)) =
-    subst (λ (z : End Outcome). Ends h a z total (last-found total d 0 h (attempt h a)) (after total d 0 (attempt h a))) e (run h a d p long fits .same-end) in
-    subst (λ (i : ℕ). Took h a d o (after i d 0 (attempt h a))) (f .replies-are) (record {
-      replies-are = f .replies-are;
-      one-pass = f .one-pass;
-      twelve-passes = f .twelve-passes;
-      stages-are = stages-from h a o total (after total d 0 (attempt h a)) f;
-      each-evaluates = λ j lt. each-calls h a d long total (fits .evaluations-fit) (in-one-piece h a) 0 0 h (attempt h a) (le, fits .attempts-fit) (attempt-follows h a p) j (let q = f .replies-are in omega arith);
-      answer-is = same-says _ (Finished (o .norm)) (f .answer-is);
-      evaluations-are = (let q = f .replies-are in let q′ = f .evaluations-are in omega arith);
-      attempts-are = f .attempts-are;
-    })
+module _ (h : Held) (a : Arguments) (d : ℕ → List Float) (o : Outcome) (p : Allowed h a) (long : (i : ℕ) → length (d i) ≡ h .kept .n) (fits : Fits h a d) (e : end (in-one-piece h a) d 0 ≡ reached o) where
+  finishes-then : Finishes h a o (replies-to h a d) (after (replies-to h a d) d 0 (attempt h a))
+  finishes-then = subst (λ (z : End Outcome). Ends h a z (replies-to h a d) (last-found (replies-to h a d) d 0 h (attempt h a)) (after (replies-to h a d) d 0 (attempt h a))) e (run h a d p long fits .same-end)
+
+  pub finished : Finishes h a o (o .stages + o .passes) (after (o .stages + o .passes) d 0 (attempt h a))
+  finished = subst (λ (i : ℕ). Finishes h a o i (after i d 0 (attempt h a))) (finishes-then .replies-are) finishes-then
+
+  pub took : Took h a d o (after (o .stages + o .passes) d 0 (attempt h a))
+  took =
+      let total = replies-to h a d in
+      let le : 0 + total ≤ total = omega arith in
+      let q = finishes-then .replies-are in record {
+        replies-are = q;
+        one-pass = finished .one-pass;
+        twelve-passes = finished .twelve-passes;
+        stages-are = stages-from h a o _ _ finished;
+        each-evaluates = λ j lt. each-calls h a d long total (fits .evaluations-fit) (in-one-piece h a) 0 0 h (attempt h a) (le, fits .attempts-fit) (attempt-follows h a p) j (omega arith);
+        answer-is = same-says _ (Finished (o .norm)) (finished .answer-is);
+        evaluations-are = finished .evaluations-are;
+        attempts-are = finished .attempts-are;
+      }

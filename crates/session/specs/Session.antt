@@ -1,5 +1,5 @@
 -- The Rust's kernel from its `initialize` on, in direct style: `attempt_step` and `accept_step` one after the other, as the calls begin, feed and drop them. What it shows is what the calls show. Document 01, "Demand 2's domain".
-use Prim.Native.Nat.{ℕ, _+_, _*_}
+use Prim.Native.Nat.{ℕ, zero, suc, _+_, _*_}
 use mathlib.Core.Bool.{Bool, true, false, cond, not, _&&_, _||_}
 use mathlib.Core.List.{List, [], _∷_}
 use lib.Dec.{eqb}
@@ -13,8 +13,8 @@ use Rattle.workspace.specs.Vectors.{Vectors, _with_≔_, named, vector-count, u
 use Rattle.driver.specs.declared.Counters.{Counters}
 use Rattle.driver.specs.declared.Answer.{Answer}
 use Rattle.driver.specs.declared.Answer.the-variants.{Evaluate, Finished, Ready, Refused, Empty}
-use Rattle.driver.specs.Calls.{Held, Called, Call, Start, Attempt, Reply, Accept, Accept-with-callback, Abandon, made, taken, sized, as-long, good-times, good-tolerances, room}
-use Rattle.session.specs.Attempt.{Asking, done, stopped, ask, _>>=_, evaluate, Outcome, attempt-step}
+use Rattle.driver.specs.Calls.{Held, Called, reply, Call, Start, Attempt, Reply, Accept, Accept-with-callback, Abandon, made, taken, sized, as-long, good-times, good-tolerances, room}
+use Rattle.session.specs.Attempt.{Asking, done, stopped, ask, _>>=_, evaluate, Outcome, Evaluated, attempt-step}
 
 -- ---- the calls over a list of them
 
@@ -29,6 +29,13 @@ pub data Shown : Type 0 where
 pub record Seen : Type 0 where
   pub shown : Shown
   pub counts : Counters
+
+-- an evaluation and an outcome of the attempt in one piece, so seen
+abbrev pub evaluation-shown : Evaluated → Shown
+evaluation-shown x = evaluates (x .time) (x .point)
+
+abbrev pub outcome-shown : Outcome → Shown
+outcome-shown o = finished-with (o .norm) (o .stages) (o .passes) (o .scaled-radius) (o .vectors candidate)
 
 unfoldable pub answer-shown : Answer → Held → Shown
 answer-shown (Evaluate t b) h = evaluates t (unpack (h .kept .n) (h .area) (named b))
@@ -54,6 +61,11 @@ taken-of h (c ∷ cs) = let rest = taken-of (made h c .held) cs in cond (taken (
 unfoldable pub held-after : Held → List Call → Held
 held-after h [] = h
 held-after h (c ∷ cs) = held-after (made h c .held) cs
+
+-- what is seen of an answer and of m replies after it, d i, d (i + 1), ..
+unfoldable pub seen-along : ℕ → (ℕ → List Float) → ℕ → Called → List Seen
+seen-along zero d i x = call-seen x ∷ []
+seen-along (suc m) d i x = call-seen x ∷ seen-along m d (suc i) (reply (x .held) (d i))
 
 -- ---- the Rust's functions
 
@@ -147,7 +159,7 @@ step σ Abandon = doing-now σ (waiting (λ k. none) (σ .doing))
 unfoldable pub doing-shown : Doing → Shown
 doing-shown none = nothing
 doing-shown (within (done (ready-with v))) = ready-at (v state) (v first-derivative)
-doing-shown (within (done (tried o))) = finished-with (o .norm) (o .stages) (o .passes) (o .scaled-radius) (o .vectors candidate)
+doing-shown (within (done (tried o))) = outcome-shown o
 doing-shown (within (stopped i v)) = stops i
 doing-shown (within (ask t p k)) = evaluates t p
 
