@@ -1,9 +1,11 @@
 -- Steps in code are the steps of the definition: how one is put together from its parts, and what a call leaves of the area.
 use mathlib.Core.Path.{_≡_, refl, sym, ap, subst, _∙_}
 use mathlib.Core.Bool.{Bool, true, false, cond, _||_}
-use mathlib.Core.List.{List}
+use mathlib.Core.List.{List, [], _∷_}
 use Prim.Native.Nat.{ℕ, _+_, _*_, _≤_, _<_}
 use borrow.Author.Tests.{lt-ltb, le-ltb}
+use types.Run.{OneOf, miss}
+use denote.Enum.Declared.{tagOf}
 use lib.Dec.{eqb}
 use lib.ListN.{length}
 use lib.Ieee.{Float}
@@ -16,10 +18,13 @@ use Rattle.workspace.specs.declared.Arguments.{Arguments}
 use Rattle.workspace.specs.Vectors.{Vectors, unpack, vector-count}
 use Rattle.workspace.specs.Kernel.{with-direction, perturbation-of, turned, radius-of, ended, scaled, first-stage, with-row, exchanged, with-candidate}
 use Rattle.workspace.proofs.Areas.{packed}
+use Rattle.driver.specs.declared.Phase.{Phase}
+use Rattle.driver.specs.declared.Phase.the-variants as P
 use Rattle.driver.specs.declared.Record.{Record}
 use Rattle.driver.specs.declared.Next.{Next}
 use Rattle.driver.specs.declared.Need.the-variants.{Met}
-use Rattle.driver.specs.Calls.{Step, going-on, with-radius, at-pass, at-stage, ask-pass, ask-stage, by-need, begin-stages, take-pass, ask-candidate, take-stage}
+use Rattle.driver.specs.Calls.{Step, going-on, with-radius, at-pass, at-stage, ask-pass, ask-stage, by-need, begin-stages, take-first, take-pass, ask-candidate, take-stage, replied}
+use Rattle.driver.proofs.Phase as Phases
 use Rattle.driver.specs.Promises.{Keeps, Steps}
 
 -- what a call leaves, from its step
@@ -131,3 +136,15 @@ module _ (r : Record) (v : Vectors) (d : List Float) where
       (ap (ask-candidate r) (q ∙ ap with-candidate (p ∙ ap (λ (y : Coefficients). with-row f (r .n) (r .arguments .step) y v d) e))
       ∙ sym (ap staged (le-ltb (r .staging .stage) (r .staging .stages) h)))
       t
+
+-- the phases that a reply takes alike: those of these positions among the variants
+pub alike : (p : Phase) → OneOf (0 ∷ 1 ∷ 2 ∷ 6 ∷ []) (tagOf Phases.the-type p) → take-first ≡ replied p
+unfolding replied
+alike P.Empty k = refl
+alike P.First k = refl
+alike P.Ready k = refl
+alike P.Pass k = absurd (miss (0 ∷ 1 ∷ 2 ∷ 6 ∷ []) 3 tt k)
+alike P.Stage k = absurd (miss (0 ∷ 1 ∷ 2 ∷ 6 ∷ []) 4 tt k)
+alike P.Candidate k = absurd (miss (0 ∷ 1 ∷ 2 ∷ 6 ∷ []) 5 tt k)
+alike P.Finished k = refl
+alike P.Callback k = absurd (miss (0 ∷ 1 ∷ 2 ∷ 6 ∷ []) 7 tt k)

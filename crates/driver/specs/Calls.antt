@@ -1,5 +1,5 @@
 -- The calls, one after another: what each answers, and what it leaves of record, counters and area. Document 01, "driver.rs: the calls" and "When a call is turned away".
-use Prim.Native.Nat.{ℕ, suc, _+_, _-_, _*_, _^_}
+use Prim.Native.Nat.{ℕ, _+_, _-_, _*_, _^_}
 use mathlib.Core.Bool.{Bool, true, false, cond, not, _&&_, _||_}
 use mathlib.Core.List.{List}
 use lib.Dec.{leb, ltb, eqb}
@@ -30,6 +30,7 @@ pub record Held : Type 0 where
   pub counters : Counters
   pub area : List Float
 
+-- what a call answers, and what it leaves
 pub record Called : Type 0 where
   pub answer : Answer
   pub held : Held
@@ -126,7 +127,7 @@ take-candidate r v d = let f = family-of (r .family) in
     let w = with-last f (r .n) (r .arguments) v d in
     step-to (Finished (error-norm f (r .n) (r .staging .stages) (r .arguments) w)) (in-phase P.Finished r) w
 
--- (the phases with no evaluation pending are turned away before)
+-- (Empty, Ready and Finished are never reached here: test 4 answers first)
 unfoldable pub replied : Phase → Record → Vectors → List Float → Step
 replied P.Empty = take-first
 replied P.First = take-first

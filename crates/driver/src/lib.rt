@@ -234,10 +234,13 @@ fn counted(answer: Answer, counters: Counters) -> Counters
 {
     match answer {
         Answer::Evaluate { time: _, vector: _ } => evaluated(counters),
-        Answer::Finished { norm: _ } => Counters {
-            evaluations: counters.evaluations + 1,
-            finished_attempts: counters.finished_attempts + 1,
-        },
+        Answer::Finished { norm: _ } => {
+            let more = evaluated(counters);
+            Counters {
+                evaluations: more.evaluations,
+                finished_attempts: counters.finished_attempts + 1,
+            }
+        }
         Answer::Ready => evaluated(counters),
         Answer::Refused(_) => evaluated(counters),
         Answer::Empty => evaluated(counters),

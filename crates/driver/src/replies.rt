@@ -153,12 +153,11 @@ fn ask_candidate(record: Record, area: &[f64]) -> Next
     let n = record.n;
     if workspace::finite_vector(area, n, workspace::CANDIDATE) {
         let time = record.arguments.time + record.arguments.step;
+        let vector = workspace::CANDIDATE;
+        let answer = Answer::Evaluate { time, vector };
         let asked = position::in_phase(record, Phase::Candidate);
         return Next {
-            answer: Answer::Evaluate {
-                time,
-                vector: workspace::CANDIDATE,
-            },
+            answer,
             record: asked,
         };
     }
@@ -220,13 +219,10 @@ pub fn replied(record: Record, area: &mut [f64], derivative: &[f64]) -> Next
 {
     let phase = record.phase;
     match phase {
-        Phase::Empty => take_first(record, area, derivative),
-        Phase::First => take_first(record, area, derivative),
-        Phase::Ready => take_first(record, area, derivative),
         Phase::Pass => take_pass(record, area, derivative),
         Phase::Stage => take_stage(record, area, derivative),
         Phase::Candidate => take_candidate(record, area, derivative),
-        Phase::Finished => take_first(record, area, derivative),
         Phase::Callback => take_callback(record, area, derivative),
+        _ => take_first(record, area, derivative),
     }
 }
