@@ -184,6 +184,7 @@ mod library {
 }
 
 /// Begins anew, in any phase: keeps the state and asks for the first derivative.
+#[inline]
 pub fn start(
     record: Record,
     area: &mut [f64],
@@ -208,6 +209,7 @@ pub fn start(
 }
 
 /// Steps from the kept state; when ready or after a finished attempt.
+#[inline]
 pub fn attempt(
     record: Record,
     area: &mut [f64],
@@ -233,6 +235,7 @@ pub fn attempt(
 }
 
 /// Brings the derivative that was asked for.
+#[inline]
 pub fn reply(
     record: Record,
     counters: &mut Counters,
@@ -254,12 +257,14 @@ pub fn reply(
 }
 
 /// After a finished attempt: the candidate becomes the kept state.
+#[inline]
 pub fn accept(record: Record, area: &mut [f64]) -> Reply {
     // SAFETY: as in `start`.
     unsafe { library::stabilized_accept(record, area.as_mut_ptr(), area.len()) }
 }
 
 /// After a finished attempt: another state and time are kept, and its derivative is asked for.
+#[inline]
 pub fn accept_with_callback(record: Record, area: &mut [f64], state: &[f64], time: f64) -> Reply {
     // SAFETY: as in `start`.
     unsafe {
@@ -275,6 +280,7 @@ pub fn accept_with_callback(record: Record, area: &mut [f64], state: &[f64], tim
 }
 
 /// While an evaluation is pending: ends it uncounted.
+#[inline]
 pub fn abandon(record: Record, area: &[f64]) -> Reply {
     // SAFETY: as in `start`.
     unsafe { library::stabilized_abandon(record, area.as_ptr(), area.len()) }

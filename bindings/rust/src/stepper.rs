@@ -105,22 +105,21 @@ impl<F: FnMut(&mut [f64], &[f64], f64)> Stepper<F> {
     /// Evaluates as long as the engine asks for it. The value of the last answer.
     fn run(&mut self, first: Reply) -> Result<f64, Refusal> {
         let mut reply = first;
-        loop {
-            self.record = reply.record;
-            let answer = reply.answer;
-            match answer.code {
-                code::EVALUATE => self.evaluate(answer.number as usize, answer.value),
-                code::REFUSED => {
-                    return Err(Refusal::of_number(answer.number).expect("numbers are 1 to 10"));
-                }
-                _ => return Ok(answer.value),
-            }
+        while reply.answer.code == code::EVALUATE {
+            self.evaluate(reply.answer.number as usize, reply.answer.value);
             reply = calls::reply(
-                self.record,
+                reply.record,
                 &mut self.counters,
                 &mut self.area,
                 &self.derivative,
             );
+        }
+        self.record = reply.record;
+        match reply.answer.code {
+            code::REFUSED => {
+                Err(Refusal::of_number(reply.answer.number).expect("numbers are 1 to 10"))
+            }
+            _ => Ok(reply.answer.value),
         }
     }
 
