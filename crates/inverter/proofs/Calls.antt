@@ -4,65 +4,64 @@ use mathlib.Core.Bool.{true, false, false≢true}
 use Prim.Native.Nat.{ℕ, zero, suc, _-_, _<_}
 use native.Mathlib.Omega.{arith}
 use lib.Ieee.{Float}
-use Rattle.workspace.specs.Vectors.{named, unpack, state, candidate}
+use Rattle.workspace.specs.Vectors.{named, unpack, state}
 use Rattle.driver.specs.declared.Answer.{Answer}
 use Rattle.driver.specs.declared.Answer.the-variants.{Evaluate, Finished, Ready, Refused, Empty}
-use Rattle.driver.specs.Calls.{Held, Called, may-accept, start, attempt, reply, accept-with-callback}
-use Rattle.inverter.specs.declared.Inverter.{Inverter}
-use Rattle.inverter.specs.Model.{rates}
-use Rattle.inverter.specs.Day.{time-of, arguments, called, begun, go-on, next, driven, asked, settled}
+use Rattle.driver.specs.Calls.{Held, Called, may-accept, start, attempt, reply, accept}
+use Rattle.heat_sink.specs.declared.Inverter.{Inverter}
+use Rattle.heat_sink.specs.Model.{rates}
+use Rattle.inverter.specs.Day.{time-of, arguments, called, begun, reading-at, go-on, next, driven, asked, settled}
 
 pub asked-vector : {a : Answer} {time : Float} {vector : ℕ} → a ≡ Evaluate time vector → asked a < 11 → vector < 11
 unfolding asked
 asked-vector e h = subst (λ (k : ℕ). k < 11) (ap asked e) h
 
-module _ (m : Inverter) (minute : ℕ) where
-  -- ---- the first call
+-- ---- the first call
 
-  pub handed-back : (h : Held) → may-accept (h .kept .phase) ≡ true
-      → accept-with-callback h (unpack (m .n) (h .area) candidate) (time-of minute) ≡ begun m minute h
+module _ (m : Inverter) (minute : ℕ) (h : Held) where
+  pub accepted : may-accept (h .kept .phase) ≡ true → accept h ≡ begun m minute h
   unfolding begun
-  handed-back h e = simp e
+  accepted e = simp e
 
-  pub started : (h : Held) → may-accept (h .kept .phase) ≡ false → start h (m .family) (m .n) (unpack (m .n) (h .area) state) (time-of minute) ≡ begun m minute h
+  pub started : may-accept (h .kept .phase) ≡ false → start h (m .family) (m .n) (unpack (m .n) (h .area) state) (time-of minute) ≡ begun m minute h
   unfolding begun
-  started h e = simp e
+  started e = simp e
 
-  -- ---- the calls that follow
+-- ---- the calls that follow
 
-  module _ (reading : Float) where
-    pub next-reply : {a : Answer} {time : Float} {vector : ℕ} (h : Held) → a ≡ Evaluate time vector
-        → reply h (rates m (unpack (m .n) (h .area) (named vector)) reading) ≡ next m minute reading (called a h)
-    unfolding next go-on
-    next-reply h e = ap (λ (x : Answer). go-on m minute reading x h) (sym e)
+module _ (m : Inverter) (minute : ℕ) (reading upcoming : Float) where
+  pub next-reply : {a : Answer} {time : Float} {vector : ℕ} (h : Held) → a ≡ Evaluate time vector
+      → reply h (rates m (unpack (m .n) (h .area) (named vector)) (reading-at reading upcoming vector)) ≡ next m minute reading upcoming (called a h)
+  unfolding next go-on
+  next-reply h e = ap (λ (x : Answer). go-on m minute reading upcoming x h) (sym e)
 
-    pub next-attempt : {a : Answer} (h : Held) → a ≡ Ready → attempt h (arguments minute) ≡ next m minute reading (called a h)
-    unfolding next go-on
-    next-attempt h e = ap (λ (x : Answer). go-on m minute reading x h) (sym e)
+  pub next-attempt : {a : Answer} (h : Held) → a ≡ Ready → attempt h (arguments minute) ≡ next m minute reading upcoming (called a h)
+  unfolding next go-on
+  next-attempt h e = ap (λ (x : Answer). go-on m minute reading upcoming x h) (sym e)
 
-    stays : (a : Answer) (h : Held) → settled a ≡ true → go-on m minute reading a h ≡ called a h
-    unfolding go-on settled
-    stays (Evaluate time vector) h e = absurd (false≢true e)
-    stays (Finished norm) h e = refl
-    stays Ready h e = absurd (false≢true e)
-    stays (Refused number) h e = refl
-    stays Empty h e = refl
+  stays : (a : Answer) (h : Held) → settled a ≡ true → go-on m minute reading upcoming a h ≡ called a h
+  unfolding go-on settled
+  stays (Evaluate time vector) h e = absurd (false≢true e)
+  stays (Finished norm) h e = refl
+  stays Ready h e = absurd (false≢true e)
+  stays (Refused number) h e = refl
+  stays Empty h e = refl
 
-    pub next-settled : (c : Called) → settled (c .answer) ≡ true → next m minute reading c ≡ c
-    unfolding next
-    next-settled c e = stays (c .answer) (c .held) e
+  pub next-settled : (c : Called) → settled (c .answer) ≡ true → next m minute reading upcoming c ≡ c
+  unfolding next
+  next-settled c e = stays (c .answer) (c .held) e
 
-    pub driven-settled : (k : ℕ) (c : Called) → settled (c .answer) ≡ true → driven m minute reading k c ≡ c
-    unfolding driven
-    driven-settled zero c e = refl
-    driven-settled (suc k) c e = ap (driven m minute reading k) (next-settled c e) ∙ driven-settled k c e
+  pub driven-settled : (k : ℕ) (c : Called) → settled (c .answer) ≡ true → driven m minute reading upcoming k c ≡ c
+  unfolding driven
+  driven-settled zero c e = refl
+  driven-settled (suc k) c e = ap (driven m minute reading upcoming k) (next-settled c e) ∙ driven-settled k c e
 
-    pub driven-none : (c : Called) → driven m minute reading 0 c ≡ c
-    unfolding driven
-    driven-none c = refl
+  pub driven-none : (c : Called) → driven m minute reading upcoming 0 c ≡ c
+  unfolding driven
+  driven-none c = refl
 
-    pub driven-turn : (k : ℕ) (c : Called) → 0 < k → driven m minute reading k c ≡ driven m minute reading (k - 1) (next m minute reading c)
-    unfolding driven
-    driven-turn zero c p = absurd (omega arith)
-    driven-turn (suc k) c p = let e : k ≡ suc k - 1 = omega arith in
-        ap (λ (j : ℕ). driven m minute reading j (next m minute reading c)) e
+  pub driven-turn : (k : ℕ) (c : Called) → 0 < k → driven m minute reading upcoming k c ≡ driven m minute reading upcoming (k - 1) (next m minute reading upcoming c)
+  unfolding driven
+  driven-turn zero c p = absurd (omega arith)
+  driven-turn (suc k) c p = let e : k ≡ suc k - 1 = omega arith in
+      ap (λ (j : ℕ). driven m minute reading upcoming j (next m minute reading upcoming c)) e

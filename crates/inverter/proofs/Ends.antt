@@ -27,7 +27,7 @@ use Rattle.driver.specs.Calls as calls
 use Rattle.driver.specs.Calls.{Held, Called, Step, check}
 use Rattle.driver.proofs.Sizes.{both}
 use Rattle.driver.proofs.Ranges.{pass-in, need-most}
-use Rattle.inverter.specs.declared.Inverter.{Inverter}
+use Rattle.heat_sink.specs.declared.Inverter.{Inverter}
 use Rattle.inverter.specs.Day.{begun, go-on, next, driven, settled, asked, passed, time-of}
 
 -- the most calls that follow an evaluation in this phase, its reply included
@@ -180,10 +180,9 @@ module _ (k : ℕ) (h : Held) where
   start-follows f n y t l =
       checked k h 1 _ _ (λ e. checked k h 2 _ _ (λ e. checked k h 3 _ _ (λ e. checked k h 5 _ _ (λ e. checked k h 6 _ _ (λ e. (omega arith, l))))))
 
-  callback-follows : (y : List Float) (t : Float) → 214 ≤ k → Follows k (calls.accept-with-callback h y t)
-  unfolding calls.accept-with-callback calls.going-on calls.called-back calls.first-at Follow calls-left
-  callback-follows y t l =
-      checked k h 1 _ _ (λ e. checked k h 2 _ _ (λ e. checked k h 3 _ _ (λ e. checked k h 4 _ _ (λ e. checked k h 5 _ _ (λ e. checked k h 6 _ _ (λ e. (omega arith, l)))))))
+  accept-follows : 213 ≤ k → Follows k (calls.accept h)
+  unfolding calls.accept calls.going-on calls.accepted Follow
+  accept-follows l = checked k h 1 _ _ (λ e. checked k h 2 _ _ (λ e. checked k h 3 _ _ (λ e. checked k h 4 _ _ (λ e. l))))
 
 -- ---- a minute
 
@@ -192,12 +191,12 @@ module _ (m : Inverter) (minute : ℕ) where
   unfolding begun
   begun-follows h = go (calls.may-accept (h .kept .phase))
     where
-      go : (b : Bool) → Follows 214 (cond b (calls.accept-with-callback h (unpack (m .n) (h .area) candidate) (time-of minute)) (calls.start h (m .family) (m .n) (unpack (m .n) (h .area) state) (time-of minute)))
-      go true = callback-follows 214 h _ _ (omega arith)
+      go : (b : Bool) → Follows 214 (cond b (calls.accept h) (calls.start h (m .family) (m .n) (unpack (m .n) (h .area) state) (time-of minute)))
+      go true = accept-follows 214 h (omega arith)
       go false = start-follows 214 h _ _ _ _ (omega arith)
 
-  module _ (reading : Float) where
-    on : (k : ℕ) (a : Answer) (h : Held) → Follow (suc k) a (h .kept) → Follows k (go-on m minute reading a h)
+  module _ (reading upcoming : Float) where
+    on : (k : ℕ) (a : Answer) (h : Held) → Follow (suc k) a (h .kept) → Follows k (go-on m minute reading upcoming a h)
     unfolding go-on Follow
     on k (Evaluate time vector) h f = reply-follows k h _ (f .1)
     on k (Finished norm) h f = tt
@@ -205,14 +204,14 @@ module _ (m : Inverter) (minute : ℕ) where
     on k (Refused number) h f = tt
     on k Empty h f = tt
 
-    next-follows : (k : ℕ) (c : Called) → Follows (suc k) c → Follows k (next m minute reading c)
+    next-follows : (k : ℕ) (c : Called) → Follows (suc k) c → Follows k (next m minute reading upcoming c)
     unfolding next
     next-follows k c f = on k (c .answer) (c .held) f
 
-    pub turn-follows : (k : ℕ) (c : Called) → 0 < k → Follows k c → Follows (k - 1) (next m minute reading c)
+    pub turn-follows : (k : ℕ) (c : Called) → 0 < k → Follows k c → Follows (k - 1) (next m minute reading upcoming c)
     turn-follows zero c h f = absurd (omega arith)
     turn-follows (suc k) c h f = let e : k ≡ suc k - 1 = omega arith in
-        subst (λ (j : ℕ). Follows j (next m minute reading c)) e (next-follows k c f)
+        subst (λ (j : ℕ). Follows j (next m minute reading upcoming c)) e (next-follows k c f)
 
     some-left : (p : Phase) (r : Record) → 1 ≤ calls-left p r
     unfolding calls-left
@@ -233,12 +232,12 @@ module _ (m : Inverter) (minute : ℕ) where
     none-left (Refused number) r f = refl
     none-left Empty r f = refl
 
-    driven-ends : (k : ℕ) (c : Called) → Follows k c → settled (driven m minute reading k c .answer) ≡ true
+    driven-ends : (k : ℕ) (c : Called) → Follows k c → settled (driven m minute reading upcoming k c .answer) ≡ true
     unfolding driven
     driven-ends zero c f = none-left (c .answer) (c .held .kept) f
-    driven-ends (suc k) c f = driven-ends k (next m minute reading c) (next-follows k c f)
+    driven-ends (suc k) c f = driven-ends k (next m minute reading upcoming c) (next-follows k c f)
 
     -- the calls that a minute may take are enough
-    pub ends : (h : Held) → settled (passed m minute reading h .answer) ≡ true
+    pub ends : (h : Held) → settled (passed m minute reading upcoming h .answer) ≡ true
     unfolding passed
     ends h = driven-ends 214 (begun m minute h) (begun-follows h)

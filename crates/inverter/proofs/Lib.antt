@@ -1,7 +1,3 @@
-mod Fields
-mod Readings
-mod Soundness
-mod Chain
 mod Said
 mod Calls
 mod Ends

@@ -10,7 +10,7 @@ use Rattle.ieee.specs.Double.{nought}
 use Rattle.family.specs.Family.{RKC}
 use Rattle.workspace.specs.Vectors.{Vector, Vectors, _with_≔_, number, vector-count, unpack, state}
 use Rattle.workspace.proofs.Areas.{number-below, room, packed}
-use Rattle.inverter.specs.declared.Inverter.{Inverter}
+use Rattle.heat_sink.specs.declared.Inverter.{Inverter}
 use Rattle.inverter.specs.Day.{first-area}
 
 pub take-replicate : (k n : ℕ) (x : Float) → k ≤ n → take k (replicate n x) ≡ replicate k x

@@ -10,67 +10,111 @@ use lib.Dec.{eqb}
 use lib.ListN.{length, getD, take, drop, set, drop-of-length-le}
 use lib.Seq.{getD-take, getD-drop, drop-cons, take-suc-set, take-all}
 use lib.Ieee.{Float, nan}
-use Rattle.workspace.specs.Vectors.{unpack, candidate}
+use lib.Ieee.Scale.{finite}
+use Rattle.workspace.specs.Vectors.{Vector, number, unpack, state, candidate}
+use Rattle.driver.specs.declared.Answer.{Answer}
+use Rattle.driver.specs.declared.Replied.{Replied}
 use Rattle.driver.specs.Calls.{Called}
 use Rattle.driver.specs.Promises.{holding}
-use Rattle.inverter.specs.declared.Inverter.{Inverter}
+use Rattle.heat_sink.specs.declared.Inverter.{Inverter}
 use Rattle.inverter.specs.declared.Count.{Count}
 use Rattle.inverter.specs.declared.Total.{Total}
 use Rattle.inverter.specs.declared.Outcome.the-variants.{Day, Malformed}
-use Rattle.inverter.specs.Day.{one-if, passed, is-above, refusal, counted, tally, held, tallied, run, first-area, outset, Told, Reports, reported, day}
-use Rattle.inverter.specs.Text as Text
+use Rattle.inverter.specs.Day.{one-if, passed, upcoming, finished, junction, is-above, refusal, counted, end-of, tally, held, tallied, run, first-area, outset, Told, Reports, reported, day}
+use Rattle.sheet.specs.Text as Text
 
 pub one-most : (b : Bool) → one-if b ≤ 1
 one-most true = omega arith
 one-most false = omega arith
 
 -- a minute more counts at most one more
-pub above-most : (m : Inverter) (c : Called) (t : Count) (i : ℕ) → t .above ≤ i → counted m c t .above ≤ i + 1
+pub above-most : (m : Inverter) (e : Replied) (x : Float) (t : Count) (i : ℕ) → t .above ≤ i → counted m e x t .above ≤ i + 1
 unfolding counted
-above-most m c t i h = omega (arith, one-most (is-above m (c .answer) (c .held .area)))
+above-most m e x t i h = omega (arith, one-most (is-above m (e .answer) x))
 
-pub refused-most : (m : Inverter) (c : Called) (t : Count) (i : ℕ) → t .refused ≤ i → counted m c t .refused ≤ i + 1
+pub refused-most : (m : Inverter) (e : Replied) (x : Float) (t : Count) (i : ℕ) → t .refused ≤ i → counted m e x t .refused ≤ i + 1
 unfolding counted
-refused-most m c t i h = omega (arith, one-most (not (eqb (refusal (c .answer)) 0)))
+refused-most m e x t i h = omega (arith, one-most (not (eqb (refusal (e .answer)) 0)))
 
--- the junction: the first temperature of the candidate
-pub junction-at : (n : ℕ) (area : List Float) → 1 ≤ n → getD area (10 * n) nan ≡ getD (unpack n area candidate) 0 nan
-unfolding unpack
-junction-at n area h = sym (getD-take n (drop (10 * n) area) 0 nan h ∙ getD-drop (10 * n) area 0 nan ∙ ap (λ (k : ℕ). getD area k nan) (add-zero (10 * n)))
+-- the junction: the first temperature of the candidate, or of the kept state
+module _ (m : Inverter) (a : Answer) (area : List Float) (some : 1 ≤ m .n) where
+  at-vector : (v : Vector) → getD area (number v * m .n) nan ≡ getD (unpack (m .n) area v) 0 nan
+  unfolding unpack
+  at-vector v =
+      sym
+      (getD-take (m .n) (drop (number v * m .n) area) 0 nan some
+      ∙ getD-drop (number v * m .n) area 0 nan
+      ∙ ap (λ (k : ℕ). getD area k nan) (add-zero (number v * m .n)))
 
--- a minute, of which the code has found the end, what is counted and the refusal
-module _ (m : Inverter) (readings : List Float) (i : ℕ) (count : Count) (area : List Float) (refusals : List ℕ) where
-  pub minute-turn : (end : Called) {count′ : Count} {number : ℕ} → i < length readings → length refusals ≡ length readings
-      → end ≡ passed m i (getD readings i nan) (holding (count .«record») (count .counters) area)
-      → count′ ≡ counted m end count → number ≡ refusal (end .answer)
-      → run m i (drop i readings) (tally count area (take i refusals)) ≡ run m (i + 1) (drop (i + 1) readings) (tally count′ (end .held .area) (take (i + 1) (set refusals i number)))
+  pub junction-candidate : finished a ≡ true → getD area (10 * m .n) nan ≡ junction m a area
+  unfolding junction
+  junction-candidate e = rw e (at-vector candidate)
+
+  pub junction-state : finished a ≡ false → getD area (9 * m .n) nan ≡ junction m a area
+  unfolding junction
+  junction-state e = rw e (at-vector state)
+
+-- the reading that follows
+module _ (readings : List Float) (i : ℕ) where
+  pub upcoming-next : i + 1 < length readings → finite (getD readings (i + 1) nan) ≡ true
+      → getD readings (i + 1) nan ≡ upcoming (getD readings i nan) (drop (i + 1) readings)
+  unfolding upcoming
+  upcoming-next h e = rw (drop-cons readings (i + 1) nan h) (simp e)
+
+  pub upcoming-not-finite : i + 1 < length readings → finite (getD readings (i + 1) nan) ≡ false
+      → getD readings i nan ≡ upcoming (getD readings i nan) (drop (i + 1) readings)
+  unfolding upcoming
+  upcoming-not-finite h e = rw (drop-cons readings (i + 1) nan h) (simp e)
+
+  pub upcoming-none : length readings ≤ i + 1 → getD readings i nan ≡ upcoming (getD readings i nan) (drop (i + 1) readings)
+  unfolding upcoming
+  upcoming-none h = ap (upcoming (getD readings i nan)) (sym (drop-of-length-le readings h))
+
+-- one element more
+grown : {A : Type 0} (l : List A) (i : ℕ) (x : A) → i < length l → take i l ++ (x ∷ []) ≡ take (i + 1) (set l i x)
+grown l i x h = sym (take-suc-set l i x h) ∙ ap (λ (k : ℕ). take k (set l i x)) (sym (add-one i))
+
+-- a minute, of which the code has found the end, what is counted, the refusal and the junction temperature
+module _ (m : Inverter) (readings : List Float) (i : ℕ) (count : Count) (area : List Float) (refusals : List ℕ) (junctions : List Float) where
+  pub minute-turn : (end : Called) {count′ : Count} {number : ℕ} {temperature after : Float} → i < length readings
+      → length refusals ≡ length readings → length junctions ≡ length readings
+      → after ≡ upcoming (getD readings i nan) (drop (i + 1) readings)
+      → end ≡ passed m i (getD readings i nan) after (holding (count .«record») (count .counters) area)
+      → number ≡ refusal (end .answer) → temperature ≡ junction m (end .answer) (end .held .area)
+      → count′ ≡ counted m (end-of end) temperature count
+      → run m i (drop i readings) (tally count area (take i refusals) (take i junctions))
+      ≡ run m (i + 1) (drop (i + 1) readings) (tally count′ (end .held .area) (take (i + 1) (set refusals i number)) (take (i + 1) (set junctions i temperature)))
   unfolding run tallied
-  minute-turn end {count′} {number} h l e f g =
-      let t = tally count area (take i refusals) in
-      let s : take i refusals ++ (refusal (end .answer) ∷ []) ≡ take (i + 1) (set refusals i number) =
-      ap (λ (k : ℕ). take i refusals ++ (k ∷ [])) (sym g)
-      ∙ sym (take-suc-set refusals i number (omega arith))
-      ∙ ap (λ (k : ℕ). take k (set refusals i number)) (sym (add-one i)) in
+  minute-turn end {count′} {number} {temperature} {after} h lr lj u e g j f =
+      let t = tally count area (take i refusals) (take i junctions) in
+      let rest = drop (i + 1) readings in
+      let here = getD readings i nan in
       ap (λ (xs : List Float). run m i xs t) (drop-cons readings i nan h)
-      ∙ ap (λ (k : ℕ). run m (i + 1) (drop k readings) (tallied m (passed m i (getD readings i nan) (held t)) t)) (sym (add-one i))
-      ∙ ap (λ (c : Called). run m (i + 1) (drop (i + 1) readings) (tallied m c t)) (sym e)
-      ∙ ap (λ (c : Count). run m (i + 1) (drop (i + 1) readings) (tally c (end .held .area) (take i refusals ++ (refusal (end .answer) ∷ [])))) (sym f)
-      ∙ ap (λ (r : List ℕ). run m (i + 1) (drop (i + 1) readings) (tally count′ (end .held .area) r)) s
+      ∙ ap (λ (k : ℕ). run m (i + 1) (drop k readings) (tallied m (passed m i here (upcoming here (drop k readings)) (held t)) t)) (sym (add-one i))
+      ∙ ap (λ (x : Float). run m (i + 1) rest (tallied m (passed m i here x (held t)) t)) (sym u)
+      ∙ ap (λ (c : Called). run m (i + 1) rest (tallied m c t)) (sym e)
+      ∙ ap (λ (x : Float). run m (i + 1) rest (tally (counted m (end-of end) x count) (end .held .area) (take i refusals ++ (refusal (end .answer) ∷ [])) (take i junctions ++ (x ∷ [])))) (sym j)
+      ∙ ap (λ (c : Count). run m (i + 1) rest (tally c (end .held .area) (take i refusals ++ (refusal (end .answer) ∷ [])) (take i junctions ++ (temperature ∷ [])))) (sym f)
+      ∙ ap (λ (k : ℕ). run m (i + 1) rest (tally count′ (end .held .area) (take i refusals ++ (k ∷ [])) (take i junctions ++ (temperature ∷ [])))) (sym g)
+      ∙ ap (λ (r : List ℕ). run m (i + 1) rest (tally count′ (end .held .area) r (take i junctions ++ (temperature ∷ [])))) (grown refusals i number (omega arith))
+      ∙ ap (λ (r : List Float). run m (i + 1) rest (tally count′ (end .held .area) (take (i + 1) (set refusals i number)) r)) (grown junctions i temperature (omega arith))
 
   -- after the last minute
-  pub minutes-end : length readings ≤ i → length refusals ≡ length readings → run m i (drop i readings) (tally count area (take i refusals)) ≡ tally count area refusals
+  pub minutes-end : length readings ≤ i → length refusals ≡ length readings → length junctions ≡ length readings
+      → run m i (drop i readings) (tally count area (take i refusals) (take i junctions)) ≡ tally count area refusals junctions
   unfolding run
-  minutes-end h l =
-      ap (λ (xs : List Float). run m i xs (tally count area (take i refusals))) (drop-of-length-le readings h)
-      ∙ ap (tally count area) (take-all i refusals (omega arith))
+  minutes-end h lr lj =
+      ap (λ (xs : List Float). run m i xs (tally count area (take i refusals) (take i junctions))) (drop-of-length-le readings h)
+      ∙ ap (λ (r : List ℕ). tally count area r (take i junctions)) (take-all i refusals (omega arith))
+      ∙ ap (tally count area refusals) (take-all i junctions (omega arith))
 
 -- the report of a text that is a day, and of one that is none
-module _ (text before : List ℕ) where
-  pub reports-day : {m : Inverter} {readings : List Float} {r : Total} {left : List ℕ} → Text.parsed text ≡ Text.Day m readings
-      → Told (run m 0 readings (outset (first-area m))) r left → Reports (day text before) (Day r) left
+module _ (text before : List ℕ) (junctions : List Float) where
+  pub reports-day : {m : Inverter} {readings : List Float} {r : Total} {left : List ℕ} {temperatures : List Float} → Text.parsed text ≡ Text.Day m readings
+      → Told (run m 0 readings (outset (first-area m))) r left temperatures → Reports (day text before junctions) (Day r) left temperatures
   unfolding day reported
-  reports-day e t = rw e (record { outcomes = ap Day (t .totals); numbers = t .numbers })
+  reports-day e t = rw e (record { outcomes = ap Day (t .totals); numbers = t .numbers; temperatures = t .temperatures })
 
-  pub reports-bad : {line : ℕ} → Text.parsed text ≡ Text.Bad-at line → Reports (day text before) (Malformed line) before
+  pub reports-bad : {line : ℕ} → Text.parsed text ≡ Text.Bad-at line → Reports (day text before junctions) (Malformed line) before junctions
   unfolding day reported
-  reports-bad e = rw e (record { outcomes = refl; numbers = refl })
+  reports-bad e = rw e (record { outcomes = refl; numbers = refl; temperatures = refl })

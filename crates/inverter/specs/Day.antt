@@ -1,28 +1,29 @@
 -- A day of one inverter, over the calls of the engine: the heat sink's temperatures a minute at a time, each minute heated by its reading, and how
 -- many minutes end with the junction above its rated temperature.
 use Prim.Native.Nat.{ℕ, zero, suc, _+_, _*_}
-use mathlib.Core.Bool.{Bool, true, false, cond, not}
+use mathlib.Core.Bool.{Bool, true, false, cond, not, _&&_}
 use mathlib.Core.List.{List, [], _∷_, _++_}
 use mathlib.Core.Path.{_≡_}
 use lib.Dec.{eqb}
 use lib.ListN.{getD, replicate}
 use lib.Ieee.{Float, nan, lt}
+use lib.Ieee.Scale.{finite}
 use Rattle.ieee.specs.Double.{_⊘_, double, nought, one}
 use Rattle.workspace.specs.declared.Arguments.{Arguments}
-use Rattle.workspace.specs.Vectors.{Vectors, _with_≔_, named, pack, state, candidate, unpack}
+use Rattle.workspace.specs.Vectors.{Vectors, _with_≔_, number, named, pack, state, candidate, unpack}
 use Rattle.driver.specs.declared.Answer.{Answer}
 use Rattle.driver.specs.declared.Answer.the-variants.{Evaluate, Finished, Ready, Refused, Empty}
 use Rattle.driver.specs.declared.Counters.{Counters}
 use Rattle.driver.specs.declared.Replied.{Replied}
-use Rattle.driver.specs.Calls.{Held, Called, may-accept, start, attempt, reply, accept-with-callback}
+use Rattle.driver.specs.Calls.{Held, Called, may-accept, start, attempt, reply, accept}
 use Rattle.driver.specs.Promises.{new-record, holding}
-use Rattle.inverter.specs.declared.Inverter.{Inverter}
+use Rattle.heat_sink.specs.declared.Inverter.{Inverter}
 use Rattle.inverter.specs.declared.Count.{Count}
 use Rattle.inverter.specs.declared.Total.{Total}
 use Rattle.inverter.specs.declared.Outcome.{Outcome}
 use Rattle.inverter.specs.declared.Outcome.the-variants.{Day, Malformed}
-use Rattle.inverter.specs.Text as Text
-use Rattle.inverter.specs.Model.{rates}
+use Rattle.sheet.specs.Text as Text
+use Rattle.heat_sink.specs.Model.{rates}
 
 -- ---- a minute
 
@@ -36,46 +37,59 @@ arguments minute = record { time = time-of minute; step = double 60; «absolute_
 abbrev pub called : Answer → Held → Called
 called a h = record { answer = a; held = h }
 
-module _ (m : Inverter) (minute : ℕ) where
-  -- The rate jumps with the reading, so the candidate of a finished attempt is handed back, to be evaluated anew. In any other phase the minute starts
-  -- from the kept state: the first minute, and one that follows a refused one
-  unfoldable pub begun : Held → Called
-  begun h =
-      cond (may-accept (h .kept .phase))
-      (accept-with-callback h (unpack (m .n) (h .area) candidate) (time-of minute))
-      (start h (m .family) (m .n) (unpack (m .n) (h .area) state) (time-of minute))
+-- A minute after a finished one goes on from its candidate. Any other starts from the kept state: the first minute, and one that follows a refused one
+unfoldable pub begun : Inverter → ℕ → Held → Called
+begun m minute h =
+    cond (may-accept (h .kept .phase)) (accept h) (start h (m .family) (m .n) (unpack (m .n) (h .area) state) (time-of minute))
 
+-- a reading holds through its minute, so that the rate jumps at the minute's end: there, at the candidate, the upcoming reading holds
+unfoldable pub reading-at : Float → Float → ℕ → Float
+reading-at reading upcoming vector = cond (eqb vector (number candidate)) upcoming reading
+
+module _ (m : Inverter) (minute : ℕ) (reading upcoming : Float) where
   -- the call that an answer asks for; none after finished, refused and empty
-  unfoldable pub go-on : Float → Answer → Held → Called
-  go-on reading (Evaluate time vector) h = reply h (rates m (unpack (m .n) (h .area) (named vector)) reading)
-  go-on reading Ready h = attempt h (arguments minute)
-  go-on reading (Finished norm) h = called (Finished norm) h
-  go-on reading (Refused number) h = called (Refused number) h
-  go-on reading Empty h = called Empty h
+  unfoldable pub go-on : Answer → Held → Called
+  go-on (Evaluate time vector) h = reply h (rates m (unpack (m .n) (h .area) (named vector)) (reading-at reading upcoming vector))
+  go-on Ready h = attempt h (arguments minute)
+  go-on (Finished norm) h = called (Finished norm) h
+  go-on (Refused number) h = called (Refused number) h
+  go-on Empty h = called Empty h
 
-  unfoldable pub next : Float → Called → Called
-  next reading c = go-on reading (c .answer) (c .held)
+  unfoldable pub next : Called → Called
+  next c = go-on (c .answer) (c .held)
 
-  unfoldable pub driven : Float → ℕ → Called → Called
-  driven reading zero c = c
-  driven reading (suc k) c = driven reading k (next reading c)
+  unfoldable pub driven : ℕ → Called → Called
+  driven zero c = c
+  driven (suc k) c = driven k (next c)
 
   -- the most calls that follow: the state's evaluation, the attempt, 12 passes, 199 stages and the candidate's evaluation
   abbrev pub most-calls : ℕ
   most-calls = 214
 
-  unfoldable pub passed : Float → Held → Called
-  passed reading h = driven reading most-calls (begun h)
+  unfoldable pub passed : Held → Called
+  passed h = driven most-calls (begun m minute h)
 
 -- ---- the minutes of a day
 
--- a minute counts as above where it is finished and its last junction temperature is above the rated one
-unfoldable pub is-above : Inverter → Answer → List Float → Bool
-is-above m (Finished norm) area = lt (m .rated) (getD (unpack (m .n) area candidate) 0 nan)
-is-above m (Evaluate time vector) area = false
-is-above m Ready area = false
-is-above m (Refused number) area = false
-is-above m Empty area = false
+-- a reading that is not finite does not spoil the end of the minute before, nor is there one after the last
+unfoldable pub upcoming : Float → List Float → Float
+upcoming reading [] = reading
+upcoming reading (after ∷ readings) = cond (finite after) after reading
+
+unfoldable pub finished : Answer → Bool
+finished (Finished norm) = true
+finished (Evaluate time vector) = false
+finished Ready = false
+finished (Refused number) = false
+finished Empty = false
+
+-- the temperature of the junction after the minute: the candidate's, and that of the kept state where the minute is not finished
+unfoldable pub junction : Inverter → Answer → List Float → Float
+junction m a area = getD (cond (finished a) (unpack (m .n) area candidate) (unpack (m .n) area state)) 0 nan
+
+-- a minute counts as above where it is finished with its junction above the rated temperature
+unfoldable pub is-above : Inverter → Answer → Float → Bool
+is-above m a temperature = finished a && lt (m .rated) temperature
 
 -- the number that a minute is refused with, 0 where it is not
 unfoldable pub refusal : Answer → ℕ
@@ -88,40 +102,46 @@ refusal Empty = 0
 abbrev pub one-if : Bool → ℕ
 one-if b = cond b 1 0
 
--- one more minute: what it leaves, whether it was above, and whether it was refused
-unfoldable pub counted : Inverter → Called → Count → Count
-counted m c t = record {
-  «record» = c .held .kept;
-  counters = c .held .counters;
-  above = t .above + one-if (is-above m (c .answer) (c .held .area));
-  refused = t .refused + one-if (not (eqb (refusal (c .answer)) 0));
+-- one more minute, its last answer, record and counters, and its junction temperature
+unfoldable pub counted : Inverter → Replied → Float → Count → Count
+counted m end temperature t = record {
+  «record» = end .«record»;
+  counters = end .counters;
+  above = t .above + one-if (is-above m (end .answer) temperature);
+  refused = t .refused + one-if (not (eqb (refusal (end .answer)) 0));
 }
 
--- what the minutes so far come to, the area as it stands, and the refusals of each
+-- what the minutes so far come to, the area as it stands, and the refusal and the junction of each
 pub record Tally : Type 0 where
   pub count : Count
   pub area : List Float
   pub refusals : List ℕ
+  pub junctions : List Float
 
-abbrev pub tally : Count → List Float → List ℕ → Tally
-tally count area refusals = record { count = count; area = area; refusals = refusals }
+abbrev pub tally : Count → List Float → List ℕ → List Float → Tally
+tally count area refusals junctions = record { count = count; area = area; refusals = refusals; junctions = junctions }
 
 abbrev pub held : Tally → Held
 held t = holding (t .count .«record») (t .count .counters) (t .area)
 
+abbrev pub end-of : Called → Replied
+end-of c = record { answer = c .answer; «record» = c .held .kept; counters = c .held .counters }
+
 unfoldable pub tallied : Inverter → Called → Tally → Tally
-tallied m c t = tally (counted m c (t .count)) (c .held .area) (t .refusals ++ (refusal (c .answer) ∷ []))
+tallied m c t = let temperature = junction m (c .answer) (c .held .area) in
+    tally (counted m (end-of c) temperature (t .count)) (c .held .area) (t .refusals ++ (refusal (c .answer) ∷ [])) (t .junctions ++ (temperature ∷ []))
 
 unfoldable pub run : Inverter → ℕ → List Float → Tally → Tally
 run m minute [] t = t
-run m minute (reading ∷ readings) t = run m (minute + 1) readings (tallied m (passed m minute reading (held t)) t)
+run m minute (reading ∷ readings) t =
+    run m (minute + 1) readings (tallied m (passed m minute reading (upcoming reading readings) (held t)) t)
 
 unfoldable pub no-count : Count
 no-count = let none : Counters = record { evaluations = 0; «finished_attempts» = 0 } in
     record { «record» = new-record; counters = none; above = 0; refused = 0 }
 
 abbrev pub outset : List Float → Tally
-outset area = tally no-count area []
+outset area = tally no-count area [] []
 
 -- at the outset the kept state is the starting temperature throughout, and all else is 0
 unfoldable pub first-area : Inverter → List Float
@@ -142,30 +162,33 @@ total-of t = record {
 abbrev pub total : Tally → Total
 total t = total-of (t .count)
 
--- the outcome, and the list of the refusals as it is left
+-- the outcome, and what the two lists, of refusals and of junction temperatures, are left as
 pub record Report : Type 0 where
   pub outcome : Outcome
   pub refusals : List ℕ
+  pub junctions : List Float
 
-unfoldable pub reported : Text.Parsed → List ℕ → Report
-reported (Text.Day m readings) before = let t = run m 0 readings (outset (first-area m)) in
-    record { outcome = Day (total t); refusals = t .refusals }
-reported (Text.Bad-at line) before = record { outcome = Malformed line; refusals = before }
+unfoldable pub reported : Text.Parsed → List ℕ → List Float → Report
+reported (Text.Day m readings) refusals junctions = let t = run m 0 readings (outset (first-area m)) in
+    record { outcome = Day (total t); refusals = t .refusals; junctions = t .junctions }
+reported (Text.Bad-at line) refusals junctions = record { outcome = Malformed line; refusals = refusals; junctions = junctions }
 
 -- the report of a text
-unfoldable pub day : List ℕ → List ℕ → Report
-day text before = reported (Text.parsed text) before
+unfoldable pub day : List ℕ → List ℕ → List Float → Report
+day text refusals junctions = reported (Text.parsed text) refusals junctions
 
-pub record Reports (promised : Report) (given : Outcome) (left : List ℕ) : Type 0 where
+pub record Reports (promised : Report) (given : Outcome) (refusals : List ℕ) (junctions : List Float) : Type 0 where
   pub outcomes : given ≡ promised .outcome
-  pub numbers : left ≡ promised .refusals
+  pub numbers : refusals ≡ promised .refusals
+  pub temperatures : junctions ≡ promised .junctions
 
 -- ---- the code's values
 
--- the total and the refusals that the code leaves
-pub record Told (t : Tally) (r : Total) (refusals : List ℕ) : Type 0 where
+-- the total and the lists that the code leaves
+pub record Told (t : Tally) (r : Total) (refusals : List ℕ) (junctions : List Float) : Type 0 where
   pub totals : r ≡ total t
   pub numbers : refusals ≡ t .refusals
+  pub temperatures : junctions ≡ t .junctions
 
 -- what a call of the code hands back, with the area it leaves
 abbrev pub given : Replied → List Float → Called

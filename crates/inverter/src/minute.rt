@@ -5,14 +5,13 @@ ghost use lib.ListN.{length};
 ghost use Rattle.workspace.specs.Vectors.{unpack, named};
 ghost use Rattle.driver.specs.Promises.{holding};
 ghost use Rattle.inverter.specs.Day as spec;
-ghost use Rattle.inverter.specs.Model as chain;
-use crate::Inverter;
-use crate::model;
+ghost use Rattle.heat_sink.specs.Model as chain;
 use driver::Answer;
 use driver::Counters;
 use driver::Next;
 use driver::Record;
 use driver::Replied;
+use heat_sink::Inverter;
 use workspace::Arguments;
 
 fn time_of(minute: u64) -> f64
@@ -57,7 +56,7 @@ fn rates_at(m: Inverter, reading: f64, area: &[f64], k: usize, to: &mut [f64])
     let n = m.n;
     let a = k * n;
     let b = a + n;
-    model::rates(m, reading, &area[a..b], to);
+    heat_sink::rates(m, reading, &area[a..b], to);
 }
 
 fn with_counters(next: Next, counters: Counters) -> Replied
@@ -87,16 +86,24 @@ fn begin(
     ensures { λ r. ⌜ spec.given r (now (area .exit)) ≡ spec.begun m minute (holding «record» counters (now (area .entry))) ⌝ }
 {
     let n = m.n;
-    let time = time_of(minute);
     let phase = record.phase;
     if driver::may_accept(phase) {
-        read_vector(area, n, workspace::CANDIDATE, scratch);
-        let next = driver::accept_with_callback(record, area, scratch, time);
-        return with_counters(next, counters);
+        return with_counters(driver::accept(record, area), counters);
     }
     read_vector(area, n, workspace::STATE, scratch);
-    let next = driver::start(record, area, m.family, n, scratch, time);
+    let next = driver::start(record, area, m.family, n, scratch, time_of(minute));
     with_counters(next, counters)
+}
+
+// The reading that holds where vector k is evaluated.
+fn reading_at(reading: f64, upcoming: f64, k: usize) -> f64
+    ensures { λ r. ⌜ r ≡ spec.reading-at reading upcoming k ⌝ }
+{
+    if k == workspace::CANDIDATE {
+        upcoming
+    } else {
+        reading
+    }
 }
 
 // The call that an answer asks for.
@@ -106,20 +113,27 @@ fn next(
     area: &mut [f64],
     scratch: &mut [f64],
     reading: f64,
+    upcoming: f64,
     minute: u64,
 ) -> Replied
     requires { ⌜ 11 * m .n ≤ length (now area) ⌝ }
     requires { ⌜ length (now scratch) ≡ m .n ⌝ }
     requires { ⌜ minute < 1440 ⌝ }
     requires { ⌜ spec.asked (reply .answer) < 11 ⌝ }
-    ensures { λ r. ⌜ spec.given r (now (area .exit)) ≡ spec.next m minute reading (spec.given reply (now (area .entry))) ⌝ }
+    ensures { λ r. ⌜ spec.given r (now (area .exit)) ≡ spec.next m minute reading upcoming (spec.given reply (now (area .entry))) ⌝ }
 {
     let answer = reply.answer;
     let record = reply.record;
     let counters = reply.counters;
     match answer {
         Answer::Evaluate { time: _, vector } => {
-            rates_at(m, reading, area, vector, scratch);
+            rates_at(
+                m,
+                reading_at(reading, upcoming, vector),
+                area,
+                vector,
+                scratch,
+            );
             driver::reply(record, counters, area, scratch)
         }
         Answer::Ready => with_counters(driver::attempt(record, area, arguments(minute)), counters),
@@ -142,7 +156,7 @@ fn settled(answer: Answer) -> bool
     }
 }
 
-// From the state that is kept, or the candidate, to the minute's last answer.
+// From the minute's start to its last answer.
 pub fn pass(
     m: Inverter,
     record: Record,
@@ -150,12 +164,13 @@ pub fn pass(
     area: &mut [f64],
     scratch: &mut [f64],
     reading: f64,
+    upcoming: f64,
     minute: u64,
 ) -> Replied
     requires { ⌜ 11 * m .n ≤ length (now area) ⌝ }
     requires { ⌜ length (now scratch) ≡ m .n ⌝ }
     requires { ⌜ minute < 1440 ⌝ }
-    ensures { λ r. ⌜ spec.given r (now (area .exit)) ≡ spec.passed m minute reading (holding «record» counters (now (area .entry))) ⌝ }
+    ensures { λ r. ⌜ spec.given r (now (area .exit)) ≡ spec.passed m minute reading upcoming (holding «record» counters (now (area .entry))) ⌝ }
 {
     let mut reply = begin(m, record, counters, area, scratch, minute);
     let mut left: u64 = 214;
@@ -164,7 +179,7 @@ pub fn pass(
         if settled(answer) {
             return reply;
         }
-        reply = next(m, reply, area, scratch, reading, minute);
+        reply = next(m, reply, area, scratch, reading, upcoming, minute);
         left -= 1;
     }
     reply

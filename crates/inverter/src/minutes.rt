@@ -1,16 +1,17 @@
 // The minutes of a day, one after another.
 ghost use mathlib.Core.Path.{_≡_};
-ghost use Prim.Native.Nat.{_*_, _≤_, _<_};
-ghost use lib.ListN.{length, replicate};
+ghost use Prim.Native.Nat.{_+_, _*_, _≤_, _<_};
+ghost use lib.Ieee.{nan};
+ghost use lib.ListN.{length, replicate, getD, drop};
 ghost use Rattle.ieee.specs.Double.{nought};
 ghost use Rattle.inverter.specs.Day as spec;
 use crate::Count;
-use crate::Inverter;
 use crate::Total;
 use crate::minute;
 use driver::Answer;
 use driver::Counters;
 use driver::Replied;
+use heat_sink::Inverter;
 
 // The number that a minute was refused with, 0 for none.
 fn refusal(answer: Answer) -> u64
@@ -25,23 +26,38 @@ fn refusal(answer: Answer) -> u64
     }
 }
 
-// Whether the minute is finished with the junction above its rated temperature.
-fn is_above(m: Inverter, answer: Answer, area: &[f64]) -> bool
-    requires { ⌜ 1 ≤ m .n ⌝ }
-    requires { ⌜ 11 * m .n ≤ length (now area) ⌝ }
-    ensures { λ r. ⌜ r ≡ spec.is-above m answer (now (area .entry)) ⌝ }
+fn finished(answer: Answer) -> bool
+    ensures { λ r. ⌜ r ≡ spec.finished answer ⌝ }
 {
     match answer {
-        Answer::Finished { norm: _ } => {
-            let n = m.n;
-            let junction = 10 * n;
-            m.rated < area[junction]
-        }
+        Answer::Finished { norm: _ } => true,
         Answer::Evaluate { time: _, vector: _ } => false,
         Answer::Ready => false,
         Answer::Refused(_) => false,
         Answer::Empty => false,
     }
+}
+
+// The first temperature of the candidate, or of the kept state where the minute is not finished.
+fn junction(m: Inverter, answer: Answer, area: &[f64]) -> f64
+    requires { ⌜ 1 ≤ m .n ⌝ }
+    requires { ⌜ 11 * m .n ≤ length (now area) ⌝ }
+    ensures { λ r. ⌜ r ≡ spec.junction m answer (now (area .entry)) ⌝ }
+{
+    let n = m.n;
+    if finished(answer) {
+        let at = workspace::CANDIDATE * n;
+        return area[at];
+    }
+    let at = workspace::STATE * n;
+    area[at]
+}
+
+// Whether the minute is finished with the junction above its rated temperature.
+fn is_above(m: Inverter, answer: Answer, junction: f64) -> bool
+    ensures { λ r. ⌜ r ≡ spec.is-above m answer junction ⌝ }
+{
+    finished(answer) & (m.rated < junction)
 }
 
 fn one_if(b: bool) -> u64
@@ -65,11 +81,9 @@ fn outset() -> Count
 }
 
 // A minute's end counted.
-fn counted(m: Inverter, end: Replied, area: &[f64], count: Count) -> Count
-    requires { ⌜ 1 ≤ m .n ⌝ }
-    requires { ⌜ 11 * m .n ≤ length (now area) ⌝ }
+fn counted(m: Inverter, end: Replied, junction: f64, count: Count) -> Count
     requires { ⌜ (count .above < 1440) × (count .refused < 1440) ⌝ }
-    ensures { λ r. ⌜ r ≡ spec.counted m (spec.given end (now (area .entry))) count ⌝ }
+    ensures { λ r. ⌜ r ≡ spec.counted m end junction count ⌝ }
 {
     let record = end.record;
     let counters = end.counters;
@@ -77,7 +91,7 @@ fn counted(m: Inverter, end: Replied, area: &[f64], count: Count) -> Count
     Count {
         record,
         counters,
-        above: count.above + one_if(is_above(m, answer, area)),
+        above: count.above + one_if(is_above(m, answer, junction)),
         refused: count.refused + one_if(refusal(answer) != 0),
     }
 }
@@ -94,6 +108,21 @@ fn total(count: Count) -> Total
     }
 }
 
+// The reading that holds from the end of minute i on.
+fn upcoming(readings: &[f64], i: usize) -> f64
+    requires { ⌜ i < length (now readings) ⌝ }
+    ensures { λ r. ⌜ r ≡ spec.upcoming (getD (now (readings .entry)) i nan) (drop (i + 1) (now (readings .entry))) ⌝ }
+{
+    let j = i + 1;
+    if readings.len() <= j {
+        return readings[i];
+    }
+    if ieee::is_finite(readings[j]) {
+        return readings[j];
+    }
+    readings[i]
+}
+
 // A minute for each reading.
 fn run(
     m: Inverter,
@@ -101,23 +130,37 @@ fn run(
     area: &mut [f64],
     scratch: &mut [f64],
     refusals: &mut [u64],
+    junctions: &mut [f64],
 ) -> Total
     requires { ⌜ 1 ≤ m .n ⌝ }
     requires { ⌜ 11 * m .n ≤ length (now area) ⌝ }
     requires { ⌜ length (now scratch) ≡ m .n ⌝ }
     requires { ⌜ length (now readings) ≤ 1440 ⌝ }
     requires { ⌜ length (now refusals) ≡ length (now readings) ⌝ }
-    ensures { λ r. ⌜ spec.Told (spec.run m 0 (now (readings .entry)) (spec.outset (now (area .entry)))) r (now (refusals .exit)) ⌝ }
+    requires { ⌜ length (now junctions) ≡ length (now readings) ⌝ }
+    ensures { λ r. ⌜ spec.Told (spec.run m 0 (now (readings .entry)) (spec.outset (now (area .entry)))) r (now (refusals .exit)) (now (junctions .exit)) ⌝ }
 {
     let mut count = outset();
     let mut i = 0;
     while i < readings.len() {
         let record = count.record;
         let counters = count.counters;
-        let end = minute::pass(m, record, counters, area, scratch, readings[i], i as u64);
+        let after = upcoming(readings, i);
+        let end = minute::pass(
+            m,
+            record,
+            counters,
+            area,
+            scratch,
+            readings[i],
+            after,
+            i as u64,
+        );
         let answer = end.answer;
+        let temperature = junction(m, answer, area);
         refusals[i] = refusal(answer);
-        count = counted(m, end, area, count);
+        junctions[i] = temperature;
+        count = counted(m, end, temperature, count);
         i += 1;
     }
     total(count)
@@ -130,14 +173,16 @@ pub fn from_rest(
     area: &mut [f64],
     scratch: &mut [f64],
     refusals: &mut [u64],
+    junctions: &mut [f64],
 ) -> Total
     requires { ⌜ 1 ≤ m .n ⌝ }
     requires { ⌜ now area ≡ replicate (11 * m .n) nought ⌝ }
     requires { ⌜ length (now scratch) ≡ m .n ⌝ }
     requires { ⌜ length (now readings) ≤ 1440 ⌝ }
     requires { ⌜ length (now refusals) ≡ length (now readings) ⌝ }
-    ensures { λ r. ⌜ spec.Told (spec.run m 0 (now (readings .entry)) (spec.outset (spec.first-area m))) r (now (refusals .exit)) ⌝ }
+    requires { ⌜ length (now junctions) ≡ length (now readings) ⌝ }
+    ensures { λ r. ⌜ spec.Told (spec.run m 0 (now (readings .entry)) (spec.outset (spec.first-area m))) r (now (refusals .exit)) (now (junctions .exit)) ⌝ }
 {
     workspace::fill_vector(area, m.n, workspace::STATE, m.initial);
-    run(m, readings, area, scratch, refusals)
+    run(m, readings, area, scratch, refusals, junctions)
 }

@@ -23,27 +23,32 @@ array-borrow-prefix-area : tie.Need-array-borrow-prefix-area
 array-borrow-prefix-area c = search needs
 
 slice-aggregate-from-rest : tie.Need-slice-aggregate-from-rest
-slice-aggregate-from-rest c = let n = c .before .before .before .before .before .args .m .n in
-    let l : length (c .before .before .zeros .result) ≡ 5632 = ap length (c .before .before .zeros .ensures) ∙ length-replicate 5632 nought in
-    sym (length-take-le (11 * n) (c .before .before .zeros .result) (omega (arith, l, c .before .before .before .before .before .pre .0 .1)))
+slice-aggregate-from-rest c = let n = c .before .before .before .before .before .before .args .m .n in
+    let z = c .before .before .zeros in
+    let l : length (z .result) ≡ 5632 = ap length (z .ensures) ∙ length-replicate 5632 nought in
+    sym (length-take-le (11 * n) (z .result) (omega (arith, l, c .before .before .before .before .before .before .pre .0 .1)))
 
 array-borrow-prefix-scratch : tie.Need-array-borrow-prefix-scratch
 array-borrow-prefix-scratch c = search needs
 
 slice-aggregate-from-rest-2 : tie.Need-slice-aggregate-from-rest-2
-slice-aggregate-from-rest-2 c = let n = c .before .before .before .before .before .before .args .m .n in
+slice-aggregate-from-rest-2 c = let n = c .before .before .before .before .before .before .before .args .m .n in
     let b = c .before .before .blank in
-    sym (length-take-le n (b .result) (omega (arith, b .ok .1 .0, c .before .before .before .before .before .before .pre .0 .1)))
+    sym (length-take-le n (b .result) (omega (arith, b .ok .1 .0, c .before .before .before .before .before .before .before .pre .0 .1)))
 
 from-rest-requires : tie.Need-from-rest-requires
-from-rest-requires c κs = let s = c .before .before .before .before .before .before .before in
+from-rest-requires c κs = let s = c .before .before .before .before .before .before .before .before .before in
     let n = s .args .m .n in
-    let b = c .before .before .before .blank in
+    let b = c .before .before .before .before .blank in
     let h : 11 * n ≤ 5632 = omega (arith, s .pre .0 .1) in
-    (s .pre .0 .0, (ap (take (11 * n)) (c .before .before .before .before .zeros .ensures) ∙ take-replicate (11 * n) 5632 nought h, (length-take-le n (b .result) (omega (arith, b .ok .1 .0, s .pre .0 .1)), s .pre .1)))
+    let z = ap (take (11 * n)) (c .before .before .before .before .before .zeros .ensures) ∙ take-replicate (11 * n) 5632 nought h in
+    (s .pre .0 .0, (z, (length-take-le n (b .result) (omega (arith, b .ok .1 .0, s .pre .0 .1)), s .pre .1)))
 
 same-length : tie.Need-same-length
 same-length c = search needs
+
+same-length-2 : tie.Need-same-length-2
+same-length-2 c = search needs
 
 returns : tie.Need-returns
 returns c = search needs
@@ -61,4 +66,5 @@ total-of-spec =
     slice-aggregate-from-rest-2
     from-rest-requires
     same-length
+    same-length-2
     returns)

@@ -3,27 +3,21 @@ use borrow.Author.Needs.{needs}
 use mathlib.Core.Path.{sym, ap, _∙_}
 use mathlib.Core.List.{List}
 use lib.Ieee.{Float}
-use Rattle.workspace.specs.Vectors.{unpack, state, candidate}
-use Rattle.driver.specs.Calls.{start, accept-with-callback}
+use Rattle.workspace.specs.Vectors.{unpack, state}
+use Rattle.driver.specs.Calls.{start}
 use Rattle.driver.specs.Promises.{holding}
 use Rattle.driver.specs.declared.Replied.{Replied}
 use Rattle.inverter.specs.Day.{given}
 use Rattle.inverter.proofs.Said.{met}
-use Rattle.inverter.proofs.Calls.{handed-back, started}
+use Rattle.inverter.proofs.Calls.{accepted, started}
 use Rattle.inverter.proofs.minute.begin.Statement.{statement}
 use Rattle.inverter.proofs.minute.begin.Tie as tie
-
-time-of-requires : tie.Need-time-of-requires
-time-of-requires c κs = search needs
 
 may-accept-requires : tie.Need-may-accept-requires
 may-accept-requires c κs = search needs
 
-read-vector-requires : tie.Need-read-vector-requires
-read-vector-requires c κs = search needs
-
-accept-with-callback-requires : tie.Need-accept-with-callback-requires
-accept-with-callback-requires c κs = search needs
+accept-requires : tie.Need-accept-requires
+accept-requires c κs = search needs
 
 with-counters-requires : tie.Need-with-counters-requires
 with-counters-requires c κs = search needs
@@ -31,20 +25,18 @@ with-counters-requires c κs = search needs
 same-length : tie.Need-same-length
 same-length c = search needs
 
-same-length-2 : tie.Need-same-length-2
-same-length-2 c = search needs
-
 returns : tie.Need-returns
-returns c = let s = c .before .before .before .before .before .before .before .before .before .before .before .before .before .before .before .before in
+returns c = let s = c .before .before .before .before .before .before .before .before .before in
     let h = holding (s .args .«record») (s .args .counters) (s .args .area .now) in
-    ap (λ (r : Replied). given r (c .before .before .before .accept-with-callback .last .1 .0)) (c .with-counters .ensures)
-    ∙ met (c .before .before .before .accept-with-callback .ensures (s .args .counters))
-    ∙ ap (λ (y : List Float). accept-with-callback h y (c .before .before .before .before .before .before .before .before .before .before .before .before .before .time-of .result)) (c .before .before .before .before .before .before .before .before .read-vector .ensures)
-    ∙ ap (λ (t : Float). accept-with-callback h (unpack (s .args .m .n) (s .args .area .now) candidate) t) (c .before .before .before .before .before .before .before .before .before .before .before .before .before .time-of .ensures)
-    ∙ handed-back (s .args .m) (s .args .minute) h (sym (c .before .before .before .before .before .before .before .before .before .before .before .before .may-accept .ensures) ∙ c .before .before .before .before .before .before .before .before .before .before .before .if1 .taken)
+    ap (λ (r : Replied). given r (c .before .before .before .accept .last .1 .0)) (c .with-counters .ensures)
+    ∙ met (c .before .before .before .accept .ensures (s .args .counters))
+    ∙ accepted (s .args .m) (s .args .minute) h (sym (c .before .before .before .before .before .before .may-accept .ensures) ∙ c .before .before .before .before .before .if1 .taken)
 
-read-vector-requires-2 : tie.Need-read-vector-requires-2
-read-vector-requires-2 c κs = search needs
+read-vector-requires : tie.Need-read-vector-requires
+read-vector-requires c κs = search needs
+
+time-of-requires : tie.Need-time-of-requires
+time-of-requires c κs = search needs
 
 start-requires : tie.Need-start-requires
 start-requires c κs = search needs
@@ -52,36 +44,35 @@ start-requires c κs = search needs
 with-counters-requires-2 : tie.Need-with-counters-requires-2
 with-counters-requires-2 c κs = search needs
 
+same-length-2 : tie.Need-same-length-2
+same-length-2 c = search needs
+
 same-length-3 : tie.Need-same-length-3
 same-length-3 c = search needs
 
-same-length-4 : tie.Need-same-length-4
-same-length-4 c = search needs
-
 returns-2 : tie.Need-returns-2
 returns-2 c = let s = c .before .before .before .before .before .before .before .before .before .before .before .before .before .before .before .before in
+    let m = s .args .m in
     let h = holding (s .args .«record») (s .args .counters) (s .args .area .now) in
     ap (λ (r : Replied). given r (c .before .before .before .start .last .1 .0)) (c .with-counters2 .ensures)
     ∙ met (c .before .before .before .start .ensures (s .args .counters))
-    ∙ ap (λ (y : List Float). start h (s .args .m .family) (s .args .m .n) y (c .before .before .before .before .before .before .before .before .before .before .before .before .before .time-of .result)) (c .before .before .before .before .before .before .before .before .read-vector2 .ensures)
-    ∙ ap (λ (t : Float). start h (s .args .m .family) (s .args .m .n) (unpack (s .args .m .n) (s .args .area .now) state) t) (c .before .before .before .before .before .before .before .before .before .before .before .before .before .time-of .ensures)
-    ∙ started (s .args .m) (s .args .minute) h (sym (c .before .before .before .before .before .before .before .before .before .before .before .before .may-accept .ensures) ∙ c .before .before .before .before .before .before .before .before .before .before .before .if1 .left)
+    ∙ ap (λ (y : List Float). start h (m .family) (m .n) y (c .before .before .before .before .time-of .result)) (c .before .before .before .before .before .before .before .before .before .read-vector .ensures)
+    ∙ ap (λ (t : Float). start h (m .family) (m .n) (unpack (m .n) (s .args .area .now) state) t) (c .before .before .before .before .time-of .ensures)
+    ∙ started m (s .args .minute) h (sym (c .before .before .before .before .before .before .before .before .before .before .before .before .before .may-accept .ensures) ∙ c .before .before .before .before .before .before .before .before .before .before .before .before .if1 .left)
 
 pub begin-spec : {M : Type 1} → statement M
 begin-spec =
     tie.close
     (tie.spec
-    time-of-requires
     may-accept-requires
-    read-vector-requires
-    accept-with-callback-requires
+    accept-requires
     with-counters-requires
     same-length
-    same-length-2
     returns
-    read-vector-requires-2
+    read-vector-requires
+    time-of-requires
     start-requires
     with-counters-requires-2
+    same-length-2
     same-length-3
-    same-length-4
     returns-2)

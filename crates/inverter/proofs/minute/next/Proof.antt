@@ -4,9 +4,11 @@ use mathlib.Core.Path.{sym, ap, _∙_}
 use mathlib.Core.List.{List}
 use lib.Ieee.{Float}
 use Rattle.workspace.specs.declared.Arguments.{Arguments}
+use Rattle.workspace.specs.Vectors.{named, unpack}
 use Rattle.driver.specs.declared.Replied.{Replied}
 use Rattle.driver.specs.Calls.{reply, attempt}
 use Rattle.driver.specs.Promises.{holding}
+use Rattle.heat_sink.specs.Model.{rates}
 use Rattle.inverter.specs.Day.{given, settled}
 use Rattle.inverter.proofs.Said.{met}
 use Rattle.inverter.proofs.Calls.{asked-vector, next-reply, next-attempt, next-settled}
@@ -16,8 +18,11 @@ use Rattle.inverter.proofs.minute.next.Tie as tie
 enum-known-answer : tie.Need-enum-known-answer
 enum-known-answer c = search needs
 
+reading-at-requires : tie.Need-reading-at-requires
+reading-at-requires c κs = search needs
+
 rates-at-requires : tie.Need-rates-at-requires
-rates-at-requires c κs = let p = c .before .before .before .before .before .before .before .before .before .pre in (p .0, (p .1 .0, asked-vector (c .before .before .before .answer .given .1) (p .1 .1 .1)))
+rates-at-requires c κs = let p = c .before .before .before .before .before .before .before .before .before .before .pre in (p .0, (p .1 .0, asked-vector (c .before .before .before .before .answer .given .1) (p .1 .1 .1)))
 
 reply-requires : tie.Need-reply-requires
 reply-requires c κs = search needs
@@ -50,10 +55,14 @@ same-length-2 : tie.Need-same-length-2
 same-length-2 c = search needs
 
 returns : tie.Need-returns
-returns c = let s = c .before .before .before .before .before .before .before .before .before .before .before .before .before .before .before .before .before in
+returns c = let s = c .before .before .before .before .before .before .before .before .before .before .before .before .before .before .before .before .before .before in
+    let m = s .args .m in
     let h = holding (s .args .reply .«record») (s .args .reply .counters) (s .args .area .now) in
-    met (c .before .before .reply .ensures) ∙ ap (λ (d : List Float). reply h d) (c .before .before .before .before .before .before .before .rates-at .ensures)
-    ∙ next-reply (s .args .m) (s .args .minute) (s .args .reading) h (c .before .before .before .before .before .before .before .before .before .before .before .answer .given .1)
+    let v = c .before .before .before .before .before .before .before .before .before .before .before .before .answer .given .0 .1 .0 in
+    met (c .before .before .reply .ensures)
+    ∙ ap (λ (d : List Float). reply h d) (c .before .before .before .before .before .before .before .rates-at .ensures)
+    ∙ ap (λ (x : Float). reply h (rates m (unpack (m .n) (h .area) (named v)) x)) (c .before .before .before .before .before .before .before .before .before .before .reading-at .ensures)
+    ∙ next-reply m (s .args .minute) (s .args .reading) (s .args .upcoming) h (c .before .before .before .before .before .before .before .before .before .before .before .before .answer .given .1)
 
 same-length-3 : tie.Need-same-length-3
 same-length-3 c = search needs
@@ -64,28 +73,29 @@ returns-2 c = let s = c .before .before .before .before .before .before .before 
     ap (λ (r : Replied). given r (c .before .before .before .attempt .last .1 .0)) (c .with-counters .ensures)
     ∙ met (c .before .before .before .attempt .ensures (s .args .reply .counters))
     ∙ ap (λ (a : Arguments). attempt h a) (c .before .before .before .before .arguments .ensures)
-    ∙ next-attempt (s .args .m) (s .args .minute) (s .args .reading) h (c .before .before .before .before .before .before .enum-told .given .1)
+    ∙ next-attempt (s .args .m) (s .args .minute) (s .args .reading) (s .args .upcoming) h (c .before .before .before .before .before .before .enum-told .given .1)
 
 returns-3 : tie.Need-returns-3
 unfolding settled
-returns-3 c = let s = c .before .before .before .before .before .before in
-    sym (next-settled (s .args .m) (s .args .minute) (s .args .reading) (given (s .args .reply) (s .args .area .now)) (ap settled (c .enum-told2 .given .1)))
+returns-3 c = let a = c .before .before .before .before .before .before .args in
+    sym (next-settled (a .m) (a .minute) (a .reading) (a .upcoming) (given (a .reply) (a .area .now)) (ap settled (c .enum-told2 .given .1)))
 
 returns-4 : tie.Need-returns-4
 unfolding settled
-returns-4 c = let s = c .before .before .before .before .before .before in
-    sym (next-settled (s .args .m) (s .args .minute) (s .args .reading) (given (s .args .reply) (s .args .area .now)) (ap settled (c .enum-told3 .given .1)))
+returns-4 c = let a = c .before .before .before .before .before .before .args in
+    sym (next-settled (a .m) (a .minute) (a .reading) (a .upcoming) (given (a .reply) (a .area .now)) (ap settled (c .enum-told3 .given .1)))
 
 returns-5 : tie.Need-returns-5
 unfolding settled
-returns-5 c = let s = c .before .before .before .before .before .before in
-    sym (next-settled (s .args .m) (s .args .minute) (s .args .reading) (given (s .args .reply) (s .args .area .now)) (ap settled (c .enum-told4 .given .1)))
+returns-5 c = let a = c .before .before .before .before .before .before .args in
+    sym (next-settled (a .m) (a .minute) (a .reading) (a .upcoming) (given (a .reply) (a .area .now)) (ap settled (c .enum-told4 .given .1)))
 
 pub next-spec : {M : Type 1} → statement M
 next-spec =
     tie.close
     (tie.spec
     enum-known-answer
+    reading-at-requires
     rates-at-requires
     reply-requires
     enum-told

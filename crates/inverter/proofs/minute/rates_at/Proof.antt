@@ -6,7 +6,7 @@ use native.Mathlib.Omega.{arith}
 use lib.Ieee.{Float}
 use Rattle.workspace.proofs.Areas.{room}
 use Rattle.workspace.proofs.Parts.{read-part}
-use Rattle.inverter.specs.Model.{rates}
+use Rattle.heat_sink.specs.Model.{rates}
 use Rattle.inverter.proofs.minute.rates_at.Statement.{statement}
 use Rattle.inverter.proofs.minute.rates_at.Tie as tie
 

@@ -3,7 +3,7 @@ use borrow.Author.Needs.{needs}
 use mathlib.Core.Bool.{not}
 use native.Mathlib.Omega.{arith}
 use lib.Dec.{eqb}
-use Rattle.inverter.specs.Day.{counted, is-above, refusal}
+use Rattle.inverter.specs.Day.{counted}
 use Rattle.inverter.proofs.Run.{one-most}
 use Rattle.inverter.proofs.minutes.counted.Statement.{statement}
 use Rattle.inverter.proofs.minutes.counted.Tie as tie

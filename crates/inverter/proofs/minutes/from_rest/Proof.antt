@@ -14,14 +14,14 @@ use Rattle.inverter.proofs.minutes.from_rest.Statement.{statement}
 use Rattle.inverter.proofs.minutes.from_rest.Tie as tie
 
 fill-vector-requires : tie.Need-fill-vector-requires
-fill-vector-requires c κs = let s = c .before .before .before .before .before in
+fill-vector-requires c κs = let s = c .before .before .before .before .before .before in
     let l : length (s .args .area .now) ≡ 11 * s .args .m .n = ap length (s .pre .1 .0) ∙ length-replicate (11 * s .args .m .n) nought in
     (omega (arith, l), omega arith)
 
 run-requires : tie.Need-run-requires
-run-requires c κs = let s = c .before .before .before .before .before .before .before .before .before .before .before in
+run-requires c κs = let s = c .before .before .before .before .before .before .before .before .before .before .before .before .before in
     let l : length (s .args .area .now) ≡ 11 * s .args .m .n = ap length (s .pre .1 .0) ∙ length-replicate (11 * s .args .m .n) nought in
-    (s .pre .0, (omega (arith, l, c .before .before .before .before .before .fill-vector .kept .0), (s .pre .1 .1 .0, (s .pre .1 .1 .1 .0, s .pre .1 .1 .1 .1))))
+    (s .pre .0, (omega (arith, l, c .before .before .before .before .before .before .fill-vector .kept .0), s .pre .1 .1))
 
 same-length : tie.Need-same-length
 same-length c = search needs
@@ -32,16 +32,27 @@ same-length-2 c = search needs
 same-length-3 : tie.Need-same-length-3
 same-length-3 c = search needs
 
+same-length-4 : tie.Need-same-length-4
+same-length-4 c = search needs
+
 returns : tie.Need-returns
-returns c = let s = c .before .before .before .before .before .before .before .before .before .before .before .before .before .before .before .before .before .before in
+returns c = let s = c .before .before .before .before .before .before .before .before .before .before .before .before .before .before .before .before .before .before .before .before .before .before in
     let m = s .args .m in
-    let f = c .before .before .before .before .before .before .before .before .before .before .before .before .fill-vector in
+    let f = c .before .before .before .before .before .before .before .before .before .before .before .before .before .before .before .fill-vector in
+    let r = c .before .before .before .before .before .before .before .before .run in
     let l : length (s .args .area .now) ≡ 11 * m .n = ap length (s .pre .1 .0) ∙ length-replicate (11 * m .n) nought in
     let e = f .ensures ∙ ap (λ (a : List Float). unpack (m .n) a with state ≔ replicate (m .n) (m .initial)) (s .pre .1 .0) in
     let q = outset-area m (f .last .0) (f .kept .0 ∙ l) e in
-    subst (λ (a : List Float). Told (run m 0 (s .args .readings .now) (outset a)) (c .before .before .before .before .before .before .run .result) (c .before .before .before .before .before .before .run .last .1 .1 .1 .1 .0)) q (c .before .before .before .before .before .before .run .ensures)
+    subst (λ (a : List Float). Told (run m 0 (s .args .readings .now) (outset a)) (r .result) (r .last .1 .1 .1 .1 .0) (r .last .1 .1 .1 .1 .1 .0)) q (r .ensures)
 
 pub from-rest-spec : {M : Type 1} → statement M
 from-rest-spec =
     tie.close
-    (tie.spec fill-vector-requires run-requires same-length same-length-2 same-length-3 returns)
+    (tie.spec
+    fill-vector-requires
+    run-requires
+    same-length
+    same-length-2
+    same-length-3
+    same-length-4
+    returns)

@@ -1,0 +1,3 @@
+mod Fields
+pub mod Readings
+pub mod Soundness

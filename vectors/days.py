@@ -1,0 +1,101 @@
+#!/usr/bin/env python3
+"""Writes the two stored days and the texts that are none, into the crates that run them.
+
+A day is half a sine of sunlight with clouds, drawn from a fixed sequence, so that every run writes the same bytes. Among the readings stand odd
+ones, as a meter gives them: a NaN, infinities, a negative one, a subnormal one, and a huge one near the end.
+Run it in the project's root: python3 vectors/days.py
+"""
+import math
+import os
+import struct
+
+MINUTES = 1440
+
+
+def bits(x):
+    return "%016X" % struct.unpack(">Q", struct.pack(">d", x))[0]
+
+
+def draws(seed):
+    """Numbers from 0 to 1, by Knuth's multiplier of 64 bits."""
+    while True:
+        seed = (seed * 6364136223846793005 + 1442695040888963407) % 2**64
+        yield (seed >> 11) / 2**53
+
+
+def readings(seed, peak, rise, set_):
+    """Watts, a minute each: half a sine from sunrise to sunset, dimmed by clouds that come and go."""
+    draw = draws(seed)
+    cloud = 0.0
+    for minute in range(MINUTES):
+        cloud += 0.1 * (next(draw) - 0.5 - 0.3 * cloud)
+        sun = 0.0
+        if rise < minute < set_:
+            sun = math.sin(math.pi * (minute - rise) / (set_ - rise))
+        yield float(round(peak * sun * (1.0 - min(1.0, 2.0 * abs(cloud)))))
+
+
+def day(family, n, constants, watts):
+    line = " ".join([str(family), str(n)] + [bits(x) for x in constants])
+    return "\n".join([line] + [bits(x) for x in watts]) + "\n"
+
+
+def with_odd(watts, odd):
+    watts = list(watts)
+    for minute, watt in odd.items():
+        watts[minute] = watt
+    return watts
+
+
+# initial, ambient, conduct, cool, heat, rated
+RKL2 = day(3, 16, (25.0, 25.0, 0.5, 0.002, 2e-5, 45.0), with_odd(
+    readings(1, 3000.0, 360, 1200),
+    {30: 5e-324, 100: -3.5, 431: math.nan, 745: math.inf, 1437: 1.7e308}))
+RKC = day(1, 24, (18.0, 31.5, 1.25, 0.004, 4.5e-5, 60.0), with_odd(
+    readings(2, 3400.0, 330, 1260),
+    {5: -0.0, 200: -40.0, 600: math.nan, 601: math.nan, 900: -math.inf}))
+
+
+def texts():
+    """Texts that are no day, and what makes each none."""
+    lines = RKL2.split("\n")
+    head, first, second = lines[0], lines[1], lines[2]
+    fields = head.split(" ")
+
+    def headed(at, field):
+        return " ".join(fields[:at] + [field] + fields[at + 1:]) + "\n" + first + "\n"
+
+    return {
+        "empty": "",
+        "family_0": headed(0, "0"),
+        "family_6": headed(0, "6"),
+        "family_with_zero": headed(0, "03"),
+        "n_0": headed(1, "0"),
+        "n_513": headed(1, "513"),
+        "n_1000": headed(1, "1000"),
+        "constant_nan": headed(4, bits(math.nan)),
+        "constant_missing": " ".join(fields[:7]) + "\n",
+        "two_spaces": head.replace(" ", "  ", 1) + "\n",
+        "lower_case": head + "\n" + first + "\n" + "40a7700000000000\n",
+        "fifteen_digits": head + "\n" + first[:15] + "\n",
+        "carriage_return": head + "\n" + first + "\r\n",
+        "blank_line": head + "\n" + first + "\n\n" + second + "\n",
+        "ends_early": "\n".join(lines[:1440]) + "\n",
+        "no_line_end": RKL2[:-1],
+        "goes_on": RKL2 + first + "\n",
+        "blank_at_the_end": RKL2 + "\n",
+    }
+
+
+def write(path, text):
+    os.makedirs(os.path.dirname(path), exist_ok=True)
+    with open(path, "w", newline="") as file:
+        file.write(text)
+
+
+if __name__ == "__main__":
+    write("crates/day/stdin", RKL2)
+    write("crates/day_junctions/stdin", RKL2)
+    write("crates/day_rkc/stdin", RKC)
+    for name, text in texts().items():
+        write("crates/day_texts/data/" + name, text)
