@@ -2,8 +2,10 @@
  *
  * Every call takes the record by value and gives it back beside an answer. While the answer is STABILIZED_EVALUATE, work
  * out the derivative of vector `number` of the area at time `value` and bring it with stabilized_reply. No call has a
- * precondition beyond pointers that are valid for the counts beside them and areas that do not overlap their inputs:
- * whatever else it is handed, it answers, and a call that is turned away says so by its number.
+ * precondition beyond these two: pointers are valid for the counts beside them, those to counters for one number each;
+ * and what a call writes overlaps nothing else that it is handed, so the area overlaps neither the state nor the
+ * derivative, and the two counters overlap neither each other nor the area nor the derivative. Whatever else it is
+ * handed, it answers, and a call that is turned away says so by its number.
  */
 #ifndef STABILIZED_H
 #define STABILIZED_H

@@ -1,7 +1,7 @@
 //! Finds the five Rust files in a checkout and writes the module lines that name them.
 //!
 //! STABILIZED_RUST is the `src` folder of the checkout. The files are compiled where they stand. Beside them a copy with
-//! added lines, which tell the values of locals, is written to the build folder.
+//! added lines, which record the values of locals, is written to the build folder.
 use std::path::{Path, PathBuf};
 use std::{env, fs};
 
@@ -17,21 +17,23 @@ fn main() {
         .canonicalize()
         .unwrap_or_else(|error| panic!("{source}/solvers/stabilized/general: {error}"));
     let out = PathBuf::from(env::var("OUT_DIR").unwrap());
-    let told = out.join("told");
-    fs::create_dir_all(&told).unwrap();
+    let recorded = out.join("recorded");
+    fs::create_dir_all(&recorded).unwrap();
     for name in FILES {
         let file = folder.join(name).with_extension("rs");
         println!("cargo:rerun-if-changed={}", file.display());
         let text = fs::read_to_string(&file).unwrap();
         let text = match name {
-            "orthogonal" => with_told_locals(&text, "fn run_orthogonal_polynomial", "gamma_tilde"),
-            "chebyshev" => with_told_locals(&text, "fn run_rkc", "nu_tilde"),
+            "orthogonal" => {
+                with_recorded_locals(&text, "fn run_orthogonal_polynomial", "gamma_tilde")
+            }
+            "chebyshev" => with_recorded_locals(&text, "fn run_rkc", "nu_tilde"),
             _ => text,
         };
-        fs::write(told.join(name).with_extension("rs"), text).unwrap();
+        fs::write(recorded.join(name).with_extension("rs"), text).unwrap();
     }
     fs::write(out.join("unchanged.rs"), module_lines(&folder)).unwrap();
-    fs::write(out.join("told.rs"), module_lines(&told)).unwrap();
+    fs::write(out.join("recorded.rs"), module_lines(&recorded)).unwrap();
 }
 
 fn module_lines(folder: &Path) -> String {
@@ -45,20 +47,22 @@ fn module_lines(folder: &Path) -> String {
 }
 
 /// The text with two lines added in the function that begins with `heading`: one before its loop over the stages, which
-/// tells omega_one and the first stage's coefficient, and one after each stage's theta, which tells its row.
-fn with_told_locals(text: &str, heading: &str, fourth: &str) -> String {
+/// records omega_one and the first stage's coefficient, and one after each stage's theta, which records its row.
+fn with_recorded_locals(text: &str, heading: &str, fourth: &str) -> String {
     let begin = text.find(heading).expect(heading);
     let (before, function) = text.split_at(begin);
     let loop_line = "        for stage in 2..=stages {\n";
-    let first =
-        format!("        crate::told::tell_first(stages, omega_one, theta_previous);\n{loop_line}");
+    let first = format!(
+        "        crate::recorded::record_first(stages, omega_one, theta_previous);\n{loop_line}"
+    );
     let theta = function.find("            let theta = ").expect("theta");
     let end = theta + function[theta..].find(";\n").expect("the end of theta") + 2;
-    let row =
-        format!("            crate::told::tell_row(stage, [mu, nu, mu_tilde, {fourth}, theta]);\n");
+    let row = format!(
+        "            crate::recorded::record_row(stage, [mu, nu, mu_tilde, {fourth}, theta]);\n"
+    );
     let head = function[..end].replacen(loop_line, &first, 1);
     assert!(
-        head.contains("tell_first"),
+        head.contains("record_first"),
         "no loop over the stages in {heading}"
     );
     format!("{before}{head}{row}{}", &function[end..])

@@ -1,8 +1,8 @@
-//! differential quick | long [seed]: runs the scenarios and the hostile calls and prints what was reached.
+//! differential quick | long [seed]: runs the scenarios and the random calls and prints what was reached.
 //! differential scenario SEED, differential call SEED: one of them again.
 use differential::build;
-use differential::hostile::{self, Tally};
 use differential::random::mixed;
+use differential::random_calls::{self, Answers};
 use differential::scenarios::{self, Coverage, DIMENSIONS};
 use std::process::ExitCode;
 
@@ -40,7 +40,7 @@ fn main() -> ExitCode {
         Some("scenario") => {
             scenarios::session(seed, 512, &oracle::FAMILIES, &mut Coverage::default())
         }
-        Some("call") => hostile::call(seed, &mut Tally::default()),
+        Some("call") => random_calls::call(seed, &mut Answers::default()),
         _ => Err("differential quick | long [seed], scenario SEED, call SEED".to_string()),
     };
     match result {
@@ -92,13 +92,13 @@ fn all(size: &Size, seed: u64) -> Result<(), String> {
     if !missing.is_empty() {
         return Err(format!("not reached: {}", missing.join(", ")));
     }
-    let mut tally = Tally::default();
+    let mut answers = Answers::default();
     for index in 0..size.calls {
         let seed = mixed(seed ^ mixed(index ^ (1 << 63)));
-        hostile::call(seed, &mut tally)
+        random_calls::call(seed, &mut answers)
             .map_err(|difference| format!("call {seed}: {difference}"))?;
     }
-    report_calls(&tally);
+    report_calls(&answers);
     println!("0 differences");
     Ok(())
 }
@@ -162,9 +162,9 @@ fn report(coverage: &Coverage) {
     }
 }
 
-fn report_calls(tally: &Tally) {
-    println!("{} hostile calls", tally.calls);
-    for ((name, answer), count) in &tally.answers {
+fn report_calls(answers: &Answers) {
+    println!("{} random calls", answers.calls);
+    for ((name, answer), count) in &answers.given {
         match answer {
             0 => println!("{name}, not turned away: {count}"),
             number => println!("{name}, turned away with {number}: {count}"),

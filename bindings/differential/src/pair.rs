@@ -9,7 +9,7 @@ use crate::refusals::{Call, Given, Held, check, number};
 use crate::trace::Trace;
 use oracle::{Oracle, SolveError};
 use stabilized::calls::{
-    self, Answer, Arguments, Counters, Record, Reply, VECTORS, code, phase, vector,
+    self, Answer, Arguments, Counters, Outcome, Record, VECTORS, code, phase, vector,
 };
 use std::cell::{Cell, RefCell};
 
@@ -42,7 +42,7 @@ pub enum Stop {
     Leave,
 }
 
-pub type Outcome = Result<Ending, String>;
+pub type Compared = Result<Ending, String>;
 
 pub struct Pair {
     pub record: Record,
@@ -122,7 +122,7 @@ impl Pair {
         time: f64,
         replies: &Replies,
         stop: Option<(usize, Stop)>,
-    ) -> Outcome {
+    ) -> Compared {
         let n = self.n();
         self.counted = self.counters.evaluations;
         self.oracle = if self.strict {
@@ -136,8 +136,8 @@ impl Pair {
             state,
             time,
         };
-        let reply = self.engine(&call)?;
-        self.follow(reply, replies, stop, |oracle, rhs| {
+        let outcome = self.engine(&call)?;
+        self.follow(outcome, replies, stop, |oracle, rhs| {
             oracle.initialize(state, time, rhs).map(|()| 0.0)
         })
     }
@@ -147,13 +147,13 @@ impl Pair {
         arguments: oracle::Arguments,
         replies: &Replies,
         stop: Option<(usize, Stop)>,
-    ) -> Outcome {
+    ) -> Compared {
         let radius = self.scaled_radius(arguments, replies);
-        let reply = self.engine(&Call::Attempt(arguments_of(arguments)))?;
+        let outcome = self.engine(&Call::Attempt(arguments_of(arguments)))?;
         if self.record.family == 1 && radius.is_ok_and(|r| r >= RKC_OVERFLOW) {
-            return self.left_out(reply, replies);
+            return self.left_out(outcome, replies);
         }
-        let ending = self.follow(reply, replies, stop, |oracle, rhs| {
+        let ending = self.follow(outcome, replies, stop, |oracle, rhs| {
             oracle.attempt(arguments, rhs)
         })?;
         if let Ending::Finished { scaled_radius, .. } = ending
@@ -171,9 +171,9 @@ impl Pair {
 
     pub fn accept(&mut self) -> Result<(), String> {
         let arguments = self.record.arguments;
-        let reply = self.engine(&Call::Accept)?;
+        let outcome = self.engine(&Call::Accept)?;
         self.oracle.accept(arguments.time, arguments.step);
-        expect(&reply.answer, code::READY, 0, 0.0)?;
+        expect(&outcome.answer, code::READY, 0, 0.0)?;
         self.compare(&self.oracle, true, "accept")
     }
 
@@ -183,10 +183,10 @@ impl Pair {
         time: f64,
         replies: &Replies,
         stop: Option<(usize, Stop)>,
-    ) -> Outcome {
+    ) -> Compared {
         let step = self.record.arguments.step;
-        let reply = self.engine(&Call::AcceptWithCallback { state, time })?;
-        self.follow(reply, replies, stop, |oracle, rhs| {
+        let outcome = self.engine(&Call::AcceptWithCallback { state, time })?;
+        self.follow(outcome, replies, stop, |oracle, rhs| {
             oracle
                 .accept_with_callback(state, time, step, rhs)
                 .map(|()| 0.0)
@@ -211,16 +211,16 @@ impl Pair {
     }
 
     /// One call of the engine; what document 01's table settles of it is checked.
-    fn engine(&mut self, call: &Call) -> Result<Reply, String> {
+    fn engine(&mut self, call: &Call) -> Result<Outcome, String> {
         let before = self.area.clone();
         let held = Held {
             record: self.record,
             counters: self.counters,
             area: &before,
         };
-        let reply = make(self.record, &mut self.counters, &mut self.area, call);
+        let outcome = make(self.record, &mut self.counters, &mut self.area, call);
         let given = Given {
-            reply,
+            outcome,
             counters: self.counters,
             area: &self.area,
         };
@@ -228,26 +228,26 @@ impl Pair {
         if let Some(trace) = &mut self.trace {
             trace.call(&held, call, &given);
         }
-        self.record = reply.record;
-        Ok(reply)
+        self.record = outcome.record;
+        Ok(outcome)
     }
 
     /// Drives the engine through all evaluations of one call of the Rust.
     fn follow(
         &mut self,
-        first: Reply,
+        first: Outcome,
         replies: &Replies,
         stop: Option<(usize, Stop)>,
         run: impl Fn(&mut Oracle, &Rhs) -> Result<f64, SolveError>,
-    ) -> Outcome {
+    ) -> Compared {
         let whole = Whole::of(&self.oracle, replies, &run);
-        let (mut reply, mut passes) = (first, 0);
+        let (mut outcome, mut passes) = (first, 0);
         let mut derivative = vec![0.0; self.n()];
         let mut at = self.oracle.clone();
         for (place, (time, point)) in whole.evaluated.iter().enumerate() {
             at = stopped_at(place, &self.oracle, replies, &run);
             let number = asked(self.record.phase);
-            expect(&reply.answer, code::EVALUATE, number as u64, *time)?;
+            expect(&outcome.answer, code::EVALUATE, number as u64, *time)?;
             if !all_same(self.vector(number), point) {
                 return Err(format!("another point at evaluation {place}"));
             }
@@ -261,17 +261,17 @@ impl Pair {
                 return self.stopped(stop);
             }
             let point = self.vector(number).to_vec();
-            replies.evaluate(place, &mut derivative, &point, reply.answer.value);
-            reply = self.engine(&Call::Reply {
+            replies.evaluate(place, &mut derivative, &point, outcome.answer.value);
+            outcome = self.engine(&Call::Reply {
                 derivative: &derivative,
             })?;
         }
-        let ending = self.ending(&reply, &whole, &derivative, passes)?;
+        let ending = self.ending(&outcome, &whole, &derivative, passes)?;
         self.take_over(whole.oracle, at, ending)?;
         Ok(ending)
     }
 
-    fn stopped(&mut self, stop: Stop) -> Outcome {
+    fn stopped(&mut self, stop: Stop) -> Compared {
         match stop {
             Stop::Leave => Ok(Ending::Pending),
             Stop::Abandon => {
@@ -299,8 +299,8 @@ impl Pair {
         self.compare(&self.oracle, self.strict, "the end")
     }
 
-    fn ending(&mut self, reply: &Reply, whole: &Whole, last: &[f64], passes: u64) -> Outcome {
-        let answer = &reply.answer;
+    fn ending(&mut self, outcome: &Outcome, whole: &Whole, last: &[f64], passes: u64) -> Compared {
+        let answer = &outcome.answer;
         let evaluations = whole.evaluated.len() as u64;
         match whole.end {
             Ok(_) if passes == 0 => {
@@ -340,16 +340,16 @@ impl Pair {
     }
 
     /// RKC where the Rust's count overflows: the engine alone, which runs 200 stages.
-    fn left_out(&mut self, first: Reply, replies: &Replies) -> Outcome {
-        let mut reply = first;
+    fn left_out(&mut self, first: Outcome, replies: &Replies) -> Compared {
+        let mut outcome = first;
         let mut derivative = vec![0.0; self.n()];
         for place in 0.. {
-            if reply.answer.code != code::EVALUATE {
+            if outcome.answer.code != code::EVALUATE {
                 break;
             }
-            let point = self.vector(reply.answer.number as usize).to_vec();
-            replies.evaluate(place, &mut derivative, &point, reply.answer.value);
-            reply = self.engine(&Call::Reply {
+            let point = self.vector(outcome.answer.number as usize).to_vec();
+            replies.evaluate(place, &mut derivative, &point, outcome.answer.value);
+            outcome = self.engine(&Call::Reply {
                 derivative: &derivative,
             })?;
             if self.record.phase == phase::STAGE && self.record.staging.stages != 200 {
@@ -527,7 +527,7 @@ fn expect(answer: &Answer, code: u64, number: u64, value: f64) -> Result<(), Str
 }
 
 /// One call of the engine.
-pub fn make(record: Record, counters: &mut Counters, area: &mut [f64], call: &Call) -> Reply {
+pub fn make(record: Record, counters: &mut Counters, area: &mut [f64], call: &Call) -> Outcome {
     match *call {
         Call::Start {
             family,

@@ -3,7 +3,7 @@
 //! [`number`] gives the number of the first test from 1 to 9 that a call fails. [`check`] compares what an engine answered
 //! and left with what the document settles, number 10 included: whether a candidate is finite is seen in the area.
 use crate::random::{all_same, same};
-use stabilized::calls::{Answer, Arguments, Counters, Record, Reply, code, phase, vector};
+use stabilized::calls::{Answer, Arguments, Counters, Outcome, Record, code, phase, vector};
 
 /// A call with what it brings.
 #[derive(Clone, Copy, Debug)]
@@ -133,7 +133,7 @@ pub fn number(held: &Held, call: &Call) -> Option<u64> {
 /// What an engine gave back and left.
 #[derive(Clone, Copy, Debug)]
 pub struct Given<'a> {
-    pub reply: Reply,
+    pub outcome: Outcome,
     pub counters: Counters,
     pub area: &'a [f64],
 }
@@ -284,7 +284,7 @@ fn settled(held: &Held, call: &Call, given: &Given) -> Settled {
                 arguments,
                 ..record
             };
-            record.iteration = given.reply.record.iteration;
+            record.iteration = given.outcome.record.iteration;
             record.iteration.pass = 1;
             s.record = Some(record);
             s.open = &[vector::EIGENVECTOR, vector::PERTURBED_STATE];
@@ -357,7 +357,7 @@ fn settle_reply(s: &mut Settled, record: Record, derivative: &[f64], given: &Giv
             settle_stage(s, record, given, n);
         }
         _ => {
-            let norm = given.reply.answer.value;
+            let norm = given.outcome.answer.value;
             let norm = if arguments.adaptive == 0 { 0.0 } else { norm };
             s.answer = Some(Answer {
                 code: code::FINISHED,
@@ -378,7 +378,7 @@ fn settle_reply(s: &mut Settled, record: Record, derivative: &[f64], given: &Giv
 
 /// On to the next pass, or to stage 2; never a pass after the twelfth.
 fn settle_pass(s: &mut Settled, record: Record, given: &Given) {
-    let after = given.reply.record;
+    let after = given.outcome.record;
     let mut expected = Record {
         phase: after.phase,
         iteration: after.iteration,
@@ -406,7 +406,7 @@ fn settle_pass(s: &mut Settled, record: Record, given: &Given) {
 
 /// On to the next stage with the exchange, or to the candidate, which is turned away with 10 where it is not finite.
 fn settle_stage(s: &mut Settled, record: Record, given: &Given, n: usize) {
-    let after = given.reply.record;
+    let after = given.outcome.record;
     let arguments = record.arguments;
     if record.staging.stage < record.staging.stages {
         let mut staging = after.staging;
@@ -455,14 +455,19 @@ pub fn check(held: &Held, call: &Call, given: &Given) -> Result<(), String> {
         Some(number) => turned_away(held, number),
         None => settled(held, call, given),
     };
-    let reply = &given.reply;
+    let outcome = &given.outcome;
     let answer = s.answer.expect("every call has an answer");
-    if !same_answer(&answer, &reply.answer) {
-        return Err(format!("answer {:?}, expected {answer:?}", reply.answer));
+    if !same_answer(&answer, &outcome.answer) {
+        return Err(format!("answer {:?}, expected {answer:?}", outcome.answer));
     }
     match &s.record {
-        Some(record) if same_record(record, &reply.record) => {}
-        expected => return Err(format!("record {:?}, expected {expected:?}", reply.record)),
+        Some(record) if same_record(record, &outcome.record) => {}
+        expected => {
+            return Err(format!(
+                "record {:?}, expected {expected:?}",
+                outcome.record
+            ));
+        }
     }
     if s.counters != given.counters {
         return Err(format!(

@@ -60,7 +60,7 @@ impl Trace {
     /// A call, and what it answered and left.
     pub fn call(&mut self, held: &Held, call: &Call, given: &Given) {
         self.brought(call);
-        let (answer, record) = (given.reply.answer, given.reply.record);
+        let (answer, record) = (given.outcome.answer, given.outcome.record);
         let Counters {
             evaluations,
             finished_attempts,

@@ -6,11 +6,11 @@
 mod shim;
 mod unchanged;
 
-mod told;
+mod recorded;
 
+pub use recorded::{Row, Rows, rows};
 pub use shim::SolveError;
 pub(crate) use shim::{OdeFunction, OdeProblem, SolveOptions, SolverStats, integrator};
-pub use told::{Row, Rows, rows};
 pub use unchanged::{Arguments, Oracle, RightHandSide, stages};
 
 /// The families, by their numbers.

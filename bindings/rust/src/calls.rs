@@ -130,13 +130,13 @@ pub struct Answer {
 /// What every call gives back.
 #[repr(C)]
 #[derive(Clone, Copy, Debug, Default, PartialEq)]
-pub struct Reply {
+pub struct Outcome {
     pub answer: Answer,
     pub record: Record,
 }
 
 mod library {
-    use super::{Record, Reply};
+    use super::{Outcome, Record};
 
     // A slice is two arguments: the pointer and the count. The engine is proved for every record, number and content, so
     // only the pointers can be wrong.
@@ -150,7 +150,7 @@ mod library {
             state: *const f64,
             state_length: usize,
             time: f64,
-        ) -> Reply;
+        ) -> Outcome;
         pub fn stabilized_attempt(
             record: Record,
             area: *mut f64,
@@ -160,7 +160,7 @@ mod library {
             absolute_tolerance: f64,
             relative_tolerance: f64,
             adaptive: u64,
-        ) -> Reply;
+        ) -> Outcome;
         pub fn stabilized_reply(
             record: Record,
             evaluations: *mut u64,
@@ -169,8 +169,8 @@ mod library {
             area_length: usize,
             derivative: *const f64,
             derivative_length: usize,
-        ) -> Reply;
-        pub fn stabilized_accept(record: Record, area: *mut f64, area_length: usize) -> Reply;
+        ) -> Outcome;
+        pub fn stabilized_accept(record: Record, area: *mut f64, area_length: usize) -> Outcome;
         pub fn stabilized_accept_with_callback(
             record: Record,
             area: *mut f64,
@@ -178,8 +178,8 @@ mod library {
             state: *const f64,
             state_length: usize,
             time: f64,
-        ) -> Reply;
-        pub fn stabilized_abandon(record: Record, area: *const f64, area_length: usize) -> Reply;
+        ) -> Outcome;
+        pub fn stabilized_abandon(record: Record, area: *const f64, area_length: usize) -> Outcome;
     }
 }
 
@@ -192,7 +192,7 @@ pub fn start(
     n: u64,
     state: &[f64],
     time: f64,
-) -> Reply {
+) -> Outcome {
     // SAFETY: pointers and counts are those of live slices, the first one lent alone.
     unsafe {
         library::stabilized_start(
@@ -218,7 +218,7 @@ pub fn attempt(
     absolute_tolerance: f64,
     relative_tolerance: f64,
     adaptive: u64,
-) -> Reply {
+) -> Outcome {
     // SAFETY: as in `start`.
     unsafe {
         library::stabilized_attempt(
@@ -241,7 +241,7 @@ pub fn reply(
     counters: &mut Counters,
     area: &mut [f64],
     derivative: &[f64],
-) -> Reply {
+) -> Outcome {
     // SAFETY: as in `start`; the counters are lent alone.
     unsafe {
         library::stabilized_reply(
@@ -258,14 +258,14 @@ pub fn reply(
 
 /// After a finished attempt: the candidate becomes the kept state.
 #[inline]
-pub fn accept(record: Record, area: &mut [f64]) -> Reply {
+pub fn accept(record: Record, area: &mut [f64]) -> Outcome {
     // SAFETY: as in `start`.
     unsafe { library::stabilized_accept(record, area.as_mut_ptr(), area.len()) }
 }
 
 /// After a finished attempt: another state and time are kept, and its derivative is asked for.
 #[inline]
-pub fn accept_with_callback(record: Record, area: &mut [f64], state: &[f64], time: f64) -> Reply {
+pub fn accept_with_callback(record: Record, area: &mut [f64], state: &[f64], time: f64) -> Outcome {
     // SAFETY: as in `start`.
     unsafe {
         library::stabilized_accept_with_callback(
@@ -281,7 +281,7 @@ pub fn accept_with_callback(record: Record, area: &mut [f64], state: &[f64], tim
 
 /// While an evaluation is pending: ends it uncounted.
 #[inline]
-pub fn abandon(record: Record, area: &[f64]) -> Reply {
+pub fn abandon(record: Record, area: &[f64]) -> Outcome {
     // SAFETY: as in `start`.
     unsafe { library::stabilized_abandon(record, area.as_ptr(), area.len()) }
 }

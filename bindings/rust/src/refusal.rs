@@ -48,7 +48,11 @@ impl Display for Refusal {
             Self::Family => "the family is not one of 1 to 5",
             Self::Dimension => "the dimension is not one of 1 to 512",
             Self::Length => "the area is not 11 vectors long, or a vector has another dimension",
-            Self::Phase => "the phase forbids this call",
+            Self::Phase => {
+                "called out of turn: an attempt needs a start or a finished attempt before it, an accept a finished \
+                 attempt, a reply or abandon a pending evaluation, and after a refused reply or an abandon only a \
+                 start is allowed; or the record's pass, stage count or stage is out of range"
+            }
             Self::State => "the state is not finite",
             Self::TimeOrStep => "the time is not finite, or the step is zero or not finite",
             Self::Tolerance => "a tolerance is not finite or not above 0",

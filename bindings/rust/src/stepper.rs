@@ -1,5 +1,5 @@
 use crate::Refusal;
-use crate::calls::{self, Counters, LARGEST, Record, Reply, VECTORS, code, vector};
+use crate::calls::{self, Counters, LARGEST, Outcome, Record, VECTORS, code, vector};
 
 /// The methods that the engine carries.
 #[derive(Clone, Copy, Debug, Eq, PartialEq)]
@@ -68,15 +68,15 @@ impl<F: FnMut(&mut [f64], &[f64], f64)> Stepper<F> {
     /// Begins anew at another state of the same dimension, whatever went before. The counters go on.
     pub fn restart(&mut self, family: Family, state: &[f64], time: f64) -> Result<(), Refusal> {
         let n = state.len() as u64;
-        let reply = calls::start(self.record, &mut self.area, family as u64, n, state, time);
-        self.run(reply)?;
+        let outcome = calls::start(self.record, &mut self.area, family as u64, n, state, time);
+        self.run(outcome)?;
         Ok(())
     }
 
     /// Steps from the kept state; the error norm. The step is good when the norm is at most 1. A step that is not wanted
     /// needs no call: attempt again.
     pub fn attempt(&mut self, attempt: Attempt) -> Result<f64, Refusal> {
-        let reply = calls::attempt(
+        let outcome = calls::attempt(
             self.record,
             &mut self.area,
             attempt.time,
@@ -85,41 +85,41 @@ impl<F: FnMut(&mut [f64], &[f64], f64)> Stepper<F> {
             attempt.relative_tolerance,
             u64::from(attempt.adaptive),
         );
-        self.run(reply)
+        self.run(outcome)
     }
 
     /// Takes the candidate of a finished attempt as the kept state.
     pub fn accept(&mut self) -> Result<(), Refusal> {
-        let reply = calls::accept(self.record, &mut self.area);
-        self.run(reply)?;
+        let outcome = calls::accept(self.record, &mut self.area);
+        self.run(outcome)?;
         Ok(())
     }
 
     /// After a finished attempt, keeps another state at another time, and evaluates its derivative.
     pub fn accept_with_callback(&mut self, state: &[f64], time: f64) -> Result<(), Refusal> {
-        let reply = calls::accept_with_callback(self.record, &mut self.area, state, time);
-        self.run(reply)?;
+        let outcome = calls::accept_with_callback(self.record, &mut self.area, state, time);
+        self.run(outcome)?;
         Ok(())
     }
 
     /// Evaluates as long as the engine asks for it. The value of the last answer.
-    fn run(&mut self, first: Reply) -> Result<f64, Refusal> {
-        let mut reply = first;
-        while reply.answer.code == code::EVALUATE {
-            self.evaluate(reply.answer.number as usize, reply.answer.value);
-            reply = calls::reply(
-                reply.record,
+    fn run(&mut self, first: Outcome) -> Result<f64, Refusal> {
+        let mut outcome = first;
+        while outcome.answer.code == code::EVALUATE {
+            self.evaluate(outcome.answer.number as usize, outcome.answer.value);
+            outcome = calls::reply(
+                outcome.record,
                 &mut self.counters,
                 &mut self.area,
                 &self.derivative,
             );
         }
-        self.record = reply.record;
-        match reply.answer.code {
+        self.record = outcome.record;
+        match outcome.answer.code {
             code::REFUSED => {
-                Err(Refusal::of_number(reply.answer.number).expect("numbers are 1 to 10"))
+                Err(Refusal::of_number(outcome.answer.number).expect("numbers are 1 to 10"))
             }
-            _ => Ok(reply.answer.value),
+            _ => Ok(outcome.answer.value),
         }
     }
 

@@ -5,23 +5,23 @@ use libc::STDOUT_FILENO;
 use stored::Tally;
 
 pub struct Tallies {
-    pub told: Tally,
+    pub compared: Tally,
     pub overflowing: Tally,
 }
 
-// Where the Rust's sum overflows it tells no count, 0, and the count is to be 200.
+// Where the Rust's sum overflows it gives no count, 0, and the count is to be 200.
 fn with_count(tallies: Tallies, family: u64, radius: f64, theirs: u64) -> Tallies {
     let ours = family::stages(family, radius);
-    let told = tallies.told;
+    let compared = tallies.compared;
     let overflowing = tallies.overflowing;
     if theirs == 0 {
         Tallies {
-            told: told,
+            compared: compared,
             overflowing: stored::counted(overflowing, ours == 200),
         }
     } else {
         Tallies {
-            told: stored::counted(told, ours == theirs),
+            compared: stored::counted(compared, ours == theirs),
             overflowing: overflowing,
         }
     }
@@ -66,7 +66,7 @@ fn with_part(tallies: Tallies, fd: i32) -> Part {
 
 fn of_file(fd: i32) -> Tallies {
     let mut all = Tallies {
-        told: Tally { seen: 0, differ: 0 },
+        compared: Tally { seen: 0, differ: 0 },
         overflowing: Tally { seen: 0, differ: 0 },
     };
     let mut parts: u64 = 1000;
@@ -96,7 +96,7 @@ fn main() {
     }
     let all = of_file(fd);
     libc::close(fd);
-    print_tally(all.told, b" counts of the Rust, ");
+    print_tally(all.compared, b" counts of the Rust, ");
     print_tally(
         all.overflowing,
         b" counts of 200 where the Rust's sum overflows, ",

@@ -1,5 +1,5 @@
 // Prints what the text of a day comes to.
-use inverter::Outcome;
+use inverter::DayResult;
 use inverter::Total;
 use libc::STDOUT_FILENO;
 
@@ -96,11 +96,11 @@ pub fn day(text: &[u8]) {
     let mut refusals = [0u64; 1440];
     let mut junctions = [0.0f64; 1440];
     match inverter::day(text, &mut refusals, &mut junctions) {
-        Outcome::Day { total } => {
+        DayResult::Day { total } => {
             print_total(total);
             print_refusals(&refusals);
         }
-        Outcome::Malformed { line } => print_malformed(line),
+        DayResult::Malformed { line } => print_malformed(line),
     }
 }
 
@@ -109,7 +109,7 @@ pub fn junctions(text: &[u8]) {
     let mut refusals = [0u64; 1440];
     let mut junctions = [0.0f64; 1440];
     match inverter::day(text, &mut refusals, &mut junctions) {
-        Outcome::Day { total: _ } => print_junctions(&junctions),
-        Outcome::Malformed { line } => print_malformed(line),
+        DayResult::Day { total: _ } => print_junctions(&junctions),
+        DayResult::Malformed { line } => print_malformed(line),
     }
 }

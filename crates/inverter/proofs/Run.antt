@@ -19,8 +19,8 @@ use Rattle.driver.specs.Promises.{holding}
 use Rattle.heat_sink.specs.declared.Inverter.{Inverter}
 use Rattle.inverter.specs.declared.Count.{Count}
 use Rattle.inverter.specs.declared.Total.{Total}
-use Rattle.inverter.specs.declared.Outcome.the-variants.{Day, Malformed}
-use Rattle.inverter.specs.Day.{one-if, passed, upcoming, finished, junction, is-above, refusal, counted, end-of, tally, held, tallied, run, first-area, outset, Told, Reports, reported, day}
+use Rattle.inverter.specs.declared.DayResult.the-variants.{Day, Malformed}
+use Rattle.inverter.specs.Day.{one-if, passed, upcoming, finished, junction, is-above, refusal, counted, end-of, so-far, held, with-minute, run, first-area, outset, Gives-total, Reports, reported, day}
 use Rattle.sheet.specs.Text as Text
 
 pub one-most : (b : Bool) → one-if b ≤ 1
@@ -82,39 +82,39 @@ module _ (m : Inverter) (readings : List Float) (i : ℕ) (count : Count) (area 
       → end ≡ passed m i (getD readings i nan) after (holding (count .«record») (count .counters) area)
       → number ≡ refusal (end .answer) → temperature ≡ junction m (end .answer) (end .held .area)
       → count′ ≡ counted m (end-of end) temperature count
-      → run m i (drop i readings) (tally count area (take i refusals) (take i junctions))
-      ≡ run m (i + 1) (drop (i + 1) readings) (tally count′ (end .held .area) (take (i + 1) (set refusals i number)) (take (i + 1) (set junctions i temperature)))
-  unfolding run tallied
+      → run m i (drop i readings) (so-far count area (take i refusals) (take i junctions))
+      ≡ run m (i + 1) (drop (i + 1) readings) (so-far count′ (end .held .area) (take (i + 1) (set refusals i number)) (take (i + 1) (set junctions i temperature)))
+  unfolding run with-minute
   minute-turn end {count′} {number} {temperature} {after} h lr lj u e g j f =
-      let t = tally count area (take i refusals) (take i junctions) in
+      let t = so-far count area (take i refusals) (take i junctions) in
       let rest = drop (i + 1) readings in
       let here = getD readings i nan in
       ap (λ (xs : List Float). run m i xs t) (drop-cons readings i nan h)
-      ∙ ap (λ (k : ℕ). run m (i + 1) (drop k readings) (tallied m (passed m i here (upcoming here (drop k readings)) (held t)) t)) (sym (add-one i))
-      ∙ ap (λ (x : Float). run m (i + 1) rest (tallied m (passed m i here x (held t)) t)) (sym u)
-      ∙ ap (λ (c : Called). run m (i + 1) rest (tallied m c t)) (sym e)
-      ∙ ap (λ (x : Float). run m (i + 1) rest (tally (counted m (end-of end) x count) (end .held .area) (take i refusals ++ (refusal (end .answer) ∷ [])) (take i junctions ++ (x ∷ [])))) (sym j)
-      ∙ ap (λ (c : Count). run m (i + 1) rest (tally c (end .held .area) (take i refusals ++ (refusal (end .answer) ∷ [])) (take i junctions ++ (temperature ∷ [])))) (sym f)
-      ∙ ap (λ (k : ℕ). run m (i + 1) rest (tally count′ (end .held .area) (take i refusals ++ (k ∷ [])) (take i junctions ++ (temperature ∷ [])))) (sym g)
-      ∙ ap (λ (r : List ℕ). run m (i + 1) rest (tally count′ (end .held .area) r (take i junctions ++ (temperature ∷ [])))) (grown refusals i number (omega arith))
-      ∙ ap (λ (r : List Float). run m (i + 1) rest (tally count′ (end .held .area) (take (i + 1) (set refusals i number)) r)) (grown junctions i temperature (omega arith))
+      ∙ ap (λ (k : ℕ). run m (i + 1) (drop k readings) (with-minute m (passed m i here (upcoming here (drop k readings)) (held t)) t)) (sym (add-one i))
+      ∙ ap (λ (x : Float). run m (i + 1) rest (with-minute m (passed m i here x (held t)) t)) (sym u)
+      ∙ ap (λ (c : Called). run m (i + 1) rest (with-minute m c t)) (sym e)
+      ∙ ap (λ (x : Float). run m (i + 1) rest (so-far (counted m (end-of end) x count) (end .held .area) (take i refusals ++ (refusal (end .answer) ∷ [])) (take i junctions ++ (x ∷ [])))) (sym j)
+      ∙ ap (λ (c : Count). run m (i + 1) rest (so-far c (end .held .area) (take i refusals ++ (refusal (end .answer) ∷ [])) (take i junctions ++ (temperature ∷ [])))) (sym f)
+      ∙ ap (λ (k : ℕ). run m (i + 1) rest (so-far count′ (end .held .area) (take i refusals ++ (k ∷ [])) (take i junctions ++ (temperature ∷ [])))) (sym g)
+      ∙ ap (λ (r : List ℕ). run m (i + 1) rest (so-far count′ (end .held .area) r (take i junctions ++ (temperature ∷ [])))) (grown refusals i number (omega arith))
+      ∙ ap (λ (r : List Float). run m (i + 1) rest (so-far count′ (end .held .area) (take (i + 1) (set refusals i number)) r)) (grown junctions i temperature (omega arith))
 
   -- after the last minute
   pub minutes-end : length readings ≤ i → length refusals ≡ length readings → length junctions ≡ length readings
-      → run m i (drop i readings) (tally count area (take i refusals) (take i junctions)) ≡ tally count area refusals junctions
+      → run m i (drop i readings) (so-far count area (take i refusals) (take i junctions)) ≡ so-far count area refusals junctions
   unfolding run
   minutes-end h lr lj =
-      ap (λ (xs : List Float). run m i xs (tally count area (take i refusals) (take i junctions))) (drop-of-length-le readings h)
-      ∙ ap (λ (r : List ℕ). tally count area r (take i junctions)) (take-all i refusals (omega arith))
-      ∙ ap (tally count area refusals) (take-all i junctions (omega arith))
+      ap (λ (xs : List Float). run m i xs (so-far count area (take i refusals) (take i junctions))) (drop-of-length-le readings h)
+      ∙ ap (λ (r : List ℕ). so-far count area r (take i junctions)) (take-all i refusals (omega arith))
+      ∙ ap (so-far count area refusals) (take-all i junctions (omega arith))
 
 -- the report of a text that is a day, and of one that is none
 module _ (text before : List ℕ) (junctions : List Float) where
   pub reports-day : {m : Inverter} {readings : List Float} {r : Total} {left : List ℕ} {temperatures : List Float} → Text.parsed text ≡ Text.Day m readings
-      → Told (run m 0 readings (outset (first-area m))) r left temperatures → Reports (day text before junctions) (Day r) left temperatures
+      → Gives-total (run m 0 readings (outset (first-area m))) r left temperatures → Reports (day text before junctions) (Day r) left temperatures
   unfolding day reported
-  reports-day e t = rw e (record { outcomes = ap Day (t .totals); numbers = t .numbers; temperatures = t .temperatures })
+  reports-day e t = rw e (record { results = ap Day (t .totals); numbers = t .numbers; temperatures = t .temperatures })
 
   pub reports-bad : {line : ℕ} → Text.parsed text ≡ Text.Bad-at line → Reports (day text before junctions) (Malformed line) before junctions
   unfolding day reported
-  reports-bad e = rw e (record { outcomes = refl; numbers = refl; temperatures = refl })
+  reports-bad e = rw e (record { results = refl; numbers = refl; temperatures = refl })

@@ -20,8 +20,8 @@ use Rattle.driver.specs.Promises.{new-record, holding}
 use Rattle.heat_sink.specs.declared.Inverter.{Inverter}
 use Rattle.inverter.specs.declared.Count.{Count}
 use Rattle.inverter.specs.declared.Total.{Total}
-use Rattle.inverter.specs.declared.Outcome.{Outcome}
-use Rattle.inverter.specs.declared.Outcome.the-variants.{Day, Malformed}
+use Rattle.inverter.specs.declared.DayResult.{DayResult}
+use Rattle.inverter.specs.declared.DayResult.the-variants.{Day, Malformed}
 use Rattle.sheet.specs.Text as Text
 use Rattle.heat_sink.specs.Model.{rates}
 
@@ -112,36 +112,36 @@ counted m end temperature t = record {
 }
 
 -- what the minutes so far come to, the area as it stands, and the refusal and the junction of each
-pub record Tally : Type 0 where
+pub record So-far : Type 0 where
   pub count : Count
   pub area : List Float
   pub refusals : List ℕ
   pub junctions : List Float
 
-abbrev pub tally : Count → List Float → List ℕ → List Float → Tally
-tally count area refusals junctions = record { count = count; area = area; refusals = refusals; junctions = junctions }
+abbrev pub so-far : Count → List Float → List ℕ → List Float → So-far
+so-far count area refusals junctions = record { count = count; area = area; refusals = refusals; junctions = junctions }
 
-abbrev pub held : Tally → Held
+abbrev pub held : So-far → Held
 held t = holding (t .count .«record») (t .count .counters) (t .area)
 
 abbrev pub end-of : Called → Replied
 end-of c = record { answer = c .answer; «record» = c .held .kept; counters = c .held .counters }
 
-unfoldable pub tallied : Inverter → Called → Tally → Tally
-tallied m c t = let temperature = junction m (c .answer) (c .held .area) in
-    tally (counted m (end-of c) temperature (t .count)) (c .held .area) (t .refusals ++ (refusal (c .answer) ∷ [])) (t .junctions ++ (temperature ∷ []))
+unfoldable pub with-minute : Inverter → Called → So-far → So-far
+with-minute m c t = let temperature = junction m (c .answer) (c .held .area) in
+    so-far (counted m (end-of c) temperature (t .count)) (c .held .area) (t .refusals ++ (refusal (c .answer) ∷ [])) (t .junctions ++ (temperature ∷ []))
 
-unfoldable pub run : Inverter → ℕ → List Float → Tally → Tally
+unfoldable pub run : Inverter → ℕ → List Float → So-far → So-far
 run m minute [] t = t
 run m minute (reading ∷ readings) t =
-    run m (minute + 1) readings (tallied m (passed m minute reading (upcoming reading readings) (held t)) t)
+    run m (minute + 1) readings (with-minute m (passed m minute reading (upcoming reading readings) (held t)) t)
 
 unfoldable pub no-count : Count
 no-count = let none : Counters = record { evaluations = 0; «finished_attempts» = 0 } in
     record { «record» = new-record; counters = none; above = 0; refused = 0 }
 
-abbrev pub outset : List Float → Tally
-outset area = tally no-count area [] []
+abbrev pub outset : List Float → So-far
+outset area = so-far no-count area [] []
 
 -- at the outset the kept state is the starting temperature throughout, and all else is 0
 unfoldable pub first-area : Inverter → List Float
@@ -159,33 +159,33 @@ total-of t = record {
   refused = t .refused;
 }
 
-abbrev pub total : Tally → Total
+abbrev pub total : So-far → Total
 total t = total-of (t .count)
 
--- the outcome, and what the two lists, of refusals and of junction temperatures, are left as
+-- the result, and what the two lists, of refusals and of junction temperatures, are left as
 pub record Report : Type 0 where
-  pub outcome : Outcome
+  pub result : DayResult
   pub refusals : List ℕ
   pub junctions : List Float
 
 unfoldable pub reported : Text.Parsed → List ℕ → List Float → Report
 reported (Text.Day m readings) refusals junctions = let t = run m 0 readings (outset (first-area m)) in
-    record { outcome = Day (total t); refusals = t .refusals; junctions = t .junctions }
-reported (Text.Bad-at line) refusals junctions = record { outcome = Malformed line; refusals = refusals; junctions = junctions }
+    record { result = Day (total t); refusals = t .refusals; junctions = t .junctions }
+reported (Text.Bad-at line) refusals junctions = record { result = Malformed line; refusals = refusals; junctions = junctions }
 
 -- the report of a text
 unfoldable pub day : List ℕ → List ℕ → List Float → Report
 day text refusals junctions = reported (Text.parsed text) refusals junctions
 
-pub record Reports (promised : Report) (given : Outcome) (refusals : List ℕ) (junctions : List Float) : Type 0 where
-  pub outcomes : given ≡ promised .outcome
+pub record Reports (promised : Report) (given : DayResult) (refusals : List ℕ) (junctions : List Float) : Type 0 where
+  pub results : given ≡ promised .result
   pub numbers : refusals ≡ promised .refusals
   pub temperatures : junctions ≡ promised .junctions
 
 -- ---- the code's values
 
 -- the total and the lists that the code leaves
-pub record Told (t : Tally) (r : Total) (refusals : List ℕ) (junctions : List Float) : Type 0 where
+pub record Gives-total (t : So-far) (r : Total) (refusals : List ℕ) (junctions : List Float) : Type 0 where
   pub totals : r ≡ total t
   pub numbers : refusals ≡ t .refusals
   pub temperatures : junctions ≡ t .junctions

@@ -1,13 +1,13 @@
 // Sessions with the engine, made again call by call from traces of the Rust: every answer, count, point and vector is to be the
 // Rust's, bit for bit. data/traces was written by bindings/differential/src/bin/sample.rs.
 ghost use Prim.Native.Nat.{_≤_};
+use comparison::Comparison;
 use driver::Answer;
 use driver::Counters;
 use driver::Record;
-use tally::Tally;
 
 mod calls;
-mod tally;
+mod comparison;
 mod trace;
 mod vectors;
 
@@ -17,7 +17,7 @@ pub struct Session {
     pub n: usize,
     pub record: Record,
     pub counters: Counters,
-    pub tally: Tally,
+    pub comparison: Comparison,
 }
 
 fn right_answer(s: &[u8], at: usize, answer: Answer) -> bool {
@@ -81,7 +81,13 @@ fn right_finish(s: &[u8], at: usize, record: Record) -> bool {
     stored::same(radius, record.iteration.scaled_radius)
 }
 
-fn begun(s: &[u8], at: usize, tally: Tally, area: &mut [f64], expected: &mut [f64]) -> Session {
+fn begun(
+    s: &[u8],
+    at: usize,
+    comparison: Comparison,
+    area: &mut [f64],
+    expected: &mut [f64],
+) -> Session {
     let n = stored::word(s, at);
     let counters = Counters {
         evaluations: stored::word(s, trace::on(at, 1)),
@@ -99,7 +105,7 @@ fn begun(s: &[u8], at: usize, tally: Tally, area: &mut [f64], expected: &mut [f6
         n: size,
         record: driver::new_record(),
         counters,
-        tally: tally::with_session(tally),
+        comparison: comparison::with_session(comparison),
     }
 }
 
@@ -141,13 +147,13 @@ fn called(
     let counts = right_counters(s, trace::on(out.at, 3), counters);
     let next = vectors::follow(s, area_at(s, out.at), session.n, expected);
     let differ = vectors::differing(area, expected);
-    tally::count(seen, call, kind(answer));
+    comparison::count(seen, call, kind(answer));
     Session {
         at: next,
         n: session.n,
         record,
         counters,
-        tally: tally::with_call(session.tally, right, counts, differ, area.len()),
+        comparison: comparison::with_call(session.comparison, right, counts, differ, area.len()),
     }
 }
 
@@ -160,7 +166,8 @@ fn least(a: usize, b: usize) -> usize
     b
 }
 
-fn step(
+// The next record of the trace: a session begun, or a call.
+fn next_record(
     s: &[u8],
     session: Session,
     area: &mut [f64],
@@ -171,7 +178,7 @@ fn step(
     let call = stored::word(s, session.at);
     let at = trace::on(session.at, 1);
     if call == 0 {
-        return begun(s, at, session.tally, area, expected);
+        return begun(s, at, session.comparison, area, expected);
     }
     let end = least(
         11 * least(session.n, 512),
@@ -197,7 +204,7 @@ fn sessions(
     expected: &mut [f64],
     brought: &mut [f64],
     seen: &mut [u64; 112],
-) -> Tally {
+) -> Comparison {
     let mut session = Session {
         at: 0,
         n: 0,
@@ -206,20 +213,20 @@ fn sessions(
             evaluations: 0,
             finished_attempts: 0,
         },
-        tally: tally::none(),
+        comparison: comparison::none(),
     };
     let mut left = s.len() / 8;
     while left > 0 {
         if session.at >= s.len() / 8 {
-            return session.tally;
+            return session.comparison;
         }
-        session = step(s, session, area, expected, brought, seen);
+        session = next_record(s, session, area, expected, brought, seen);
         left -= 1;
     }
-    session.tally
+    session.comparison
 }
 
-fn all_sessions(s: &[u8], seen: &mut [u64; 112]) -> Tally {
+fn all_sessions(s: &[u8], seen: &mut [u64; 112]) -> Comparison {
     let mut area = [0.0; 5632];
     let mut expected = [0.0; 5632];
     let mut brought = [0.0; 513];
@@ -241,5 +248,5 @@ fn main() {
     libc::close(fd);
     let mut seen = [0; 112];
     let all = all_sessions(&bytes[..n], &mut seen);
-    tally::print(all, &seen);
+    comparison::print(all, &seen);
 }

@@ -1,4 +1,4 @@
--- Demand 2 with calls that are turned away before the attempt and between its replies: where the calls that are taken are an attempt and m replies, they show and leave what the attempt and m replies alone do (`among`), so `run` holds of them; and where the attempt finishes they show its evaluations in order and then its outcome. From `skipped`, `run` and `took`.
+-- Demand 2 with calls that are turned away before the attempt and between its replies: where the calls that are taken are an attempt and m replies, they show and leave what the attempt and m replies alone do (`among`), so `run` holds of them; and where the attempt finishes they show its evaluations in order and then finished. From `skipped`, `run` and `took`.
 use mathlib.Core.Path.{_≡_, refl, sym, ap, ap₂, _∙_, subst}
 use mathlib.Core.Bool.{Bool, true, false, cond}
 use mathlib.Core.List.{List, [], _∷_, _++_, map}
@@ -12,10 +12,10 @@ use Rattle.driver.specs.declared.Answer.{Answer}
 use Rattle.driver.specs.declared.Answer.the-variants.{Evaluate, Finished, Ready, Refused, Empty}
 use Rattle.driver.specs.Answers.{case-number}
 use Rattle.driver.specs.Calls.{Held, Called, attempt, reply, Call, Attempt, made, taken}
-use Rattle.session.specs.Attempt.{Outcome, Evaluated, evaluated, reached, end}
+use Rattle.session.specs.Attempt.{Finished-attempt, Evaluated, evaluated, reached, end}
 use Rattle.session.specs.Claim.{called-for, answers, after, replies-from, Allowed, Finishes, in-one-piece, Fits}
-use Rattle.session.specs.Session.{Shown, evaluation-shown, outcome-shown, Seen, answer-shown, call-seen, seen-of, taken-of, held-after, seen-along}
-use Rattle.session.proofs.Lives.{left}
+use Rattle.session.specs.Session.{Shown, evaluation-shown, finished-shown, Seen, answer-shown, call-seen, seen-of, taken-of, held-after, seen-along}
+use Rattle.session.proofs.Sequences.{left}
 use Rattle.session.proofs.Skipped.{skipped}
 use Rattle.session.proofs.Theorem.{run, finished, took}
 
@@ -58,7 +58,7 @@ among h a d m cs e = (
   sym (skipped h cs .1) ∙ ap (held-after h) e ∙ replies-leave m d 0 (attempt h a),
 )
 
--- ---- a finished attempt: its evaluations in order, and then its outcome
+-- ---- a finished attempt: its evaluations in order, and then finished
 
 one-shown : (y : Answer) (g : Held) → case-number y ≡ 1 → (shown : List Shown) (more : List Evaluated) (last : List Shown) → shown ≡ map evaluation-shown more ++ last
     → answer-shown y g ∷ shown ≡ map evaluation-shown (called-for y g ++ more) ++ last
@@ -75,17 +75,17 @@ unfolding seen-along answers after call-seen
 shown-along zero d i x each = refl
 shown-along (suc m) d i x each = one-shown (x .answer) (x .held) (each 0 (omega arith)) _ (answers m d (suc i) (reply (x .held) (d i))) _ (shown-along m d (suc i) (reply (x .held) (d i)) (λ j l. each (suc j) (omega arith)))
 
-finish-shown : (h : Held) (a : Arguments) (o : Outcome) (replies : ℕ) (x : Called) → Finishes h a o replies x → answer-shown (x .answer) (x .held) ≡ outcome-shown o
+finish-shown : (h : Held) (a : Arguments) (o : Finished-attempt) (replies : ℕ) (x : Called) → Finishes h a o replies x → answer-shown (x .answer) (x .held) ≡ finished-shown o
 unfolding answer-shown
 finish-shown h a o replies x f = rw (f .answer-is, f .stages-are, f .passes-are, f .radius-is, f .n-is, f .area-is, unpack-pack (h .kept .n) (o .vectors) (f .vectors-long)) refl
 
-module _ (h : Held) (a : Arguments) (d : ℕ → List Float) (o : Outcome) (p : Allowed h a) (long : (i : ℕ) → length (d i) ≡ h .kept .n) (fits : Fits h a d) (e : end (in-one-piece h a) d 0 ≡ reached o) (cs : List Call)
+module _ (h : Held) (a : Arguments) (d : ℕ → List Float) (o : Finished-attempt) (p : Allowed h a) (long : (i : ℕ) → length (d i) ≡ h .kept .n) (fits : Fits h a d) (e : end (in-one-piece h a) d 0 ≡ reached o) (cs : List Call)
     (only : taken-of h cs ≡ Attempt a ∷ replies-from (o .stages + o .passes) d 0) where
   -- what is then held is what the last reply of `took` leaves
   pub finished-among : Finishes h a o (o .stages + o .passes) (after (o .stages + o .passes) d 0 (attempt h a)) × (held-after h cs ≡ after (o .stages + o .passes) d 0 (attempt h a) .held)
   finished-among = (finished h a d o p long fits e, among h a d (o .stages + o .passes) cs only .1)
 
-  pub shown-among : map (λ (s : Seen). s .shown) (seen-of h cs) ≡ map evaluation-shown (evaluated (in-one-piece h a) d 0) ++ outcome-shown o ∷ []
+  pub shown-among : map (λ (s : Seen). s .shown) (seen-of h cs) ≡ map evaluation-shown (evaluated (in-one-piece h a) d 0) ++ finished-shown o ∷ []
   shown-among =
       let t = took h a d o p long fits e in
       let m = o .stages + o .passes in

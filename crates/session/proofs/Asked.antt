@@ -23,7 +23,7 @@ use Rattle.driver.specs.declared.Record.{Record}
 use Rattle.driver.specs.declared.Counters.{Counters}
 use Rattle.driver.specs.declared.Answer.the-variants.{Evaluate}
 use Rattle.driver.specs.Calls.{Held, Called, step-to, in-phase, replied, sized, as-long, awaiting, finishes, has-room, check, going-on, counted, spoiled, settled, reply}
-use Rattle.session.specs.Attempt.{Asking, done, stopped, ask, Outcome, evaluated, is-done}
+use Rattle.session.specs.Attempt.{Asking, done, stopped, ask, Finished-attempt, evaluated, is-done}
 use Rattle.session.specs.Claim.{called-for}
 use Rattle.session.proofs.Lengths.{whole-pack}
 use Rattle.session.proofs.Follows.{Follows}
@@ -101,7 +101,7 @@ module _ (h : Held) (a : Arguments) where
     pending-at v c = record { kept = at φ i g; counters = c; area = pack v }
 
     -- an evaluation at the vector b
-    pub asked : (v : Vectors) (c : Counters) (e : ℕ) (t : Float) (b : Vector) (x : Held) (K : Asking (List Float) → Asking Outcome)
+    pub asked : (v : Vectors) (c : Counters) (e : ℕ) (t : Float) (b : Vector) (x : Held) (K : Asking (List Float) → Asking Finished-attempt)
         → Intact h v → Counted h e c → awaiting (at φ i g) ≡ true → K (stopped 9 v) ≡ stopped 9 v
         → ((d : List Float) → all-finite d ≡ true → is-done (K (done d)) ≡ finishes φ)
         → ((d : List Float) → length d ≡ h .kept .n → all-finite d ≡ true → Follows h a (suc e) (pending-at v c) (K (done d)) (settled c (replied φ (at φ i g) v d)))
@@ -122,14 +122,14 @@ module _ (h : Held) (a : Arguments) where
           (sym (reply-is (at φ i g) c v hk hs (iv .long) ha hr d hd)) (go d hd (all-finite d) refl),
       record {
         finite-done = λ d fin. ap (λ (t : Bool). is-done (K (cond t (done d) (stopped 9 v)))) fin ∙ close d fin;
-        others-stop = λ d fin s i. ap (λ (t : Bool). length (evaluated (K (cond t (done d) (stopped 9 v))) s i)) fin ∙ ap (λ (m : Asking Outcome). length (evaluated m s i)) hK;
+        others-stop = λ d fin s i. ap (λ (t : Bool). length (evaluated (K (cond t (done d) (stopped 9 v))) s i)) fin ∙ ap (λ (m : Asking Finished-attempt). length (evaluated m s i)) hK;
       },
     )
       where
         go : (d : List Float) → length d ≡ h .kept .n → (t : Bool) → all-finite d ≡ t
             → Follows h a (suc e) (pending-at v c) (K (cond t (done d) (stopped 9 v))) (cond t (settled c (replied φ (at φ i g) v d)) (spoiled (pending-at v c)))
         go d hd true fin = on d hd fin
-        go d hd false fin = subst (λ (m : Asking Outcome). Follows h a (suc e) (pending-at v c) m (spoiled (pending-at v c))) (sym hK)
+        go d hd false fin = subst (λ (m : Asking Finished-attempt). Follows h a (suc e) (pending-at v c) m (spoiled (pending-at v c))) (sym hK)
             (record {
               answer-is = refl;
               from-nine = omega arith;

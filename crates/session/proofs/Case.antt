@@ -16,9 +16,9 @@ use Rattle.workspace.specs.Vectors.{vector-count, each, sum-of-squares, root-of
 use Rattle.workspace.specs.Kernel.{with-direction, perturbation-of, perturbed, turned, radius-of, ended, scaled, first-stage, orthogonal-entry, entry, with-row, exchanged, with-candidate, error, with-last, divisor, scaled-error, scaled-error-norm, error-norm}
 use Rattle.driver.specs.declared.Counters.{Counters}
 use Rattle.driver.specs.Calls.{Held, stage-need, Call, Start, Attempt, Reply, Accept, Abandon, sized, as-long, good-times, good-tolerance, good-tolerances, room}
-use Rattle.session.specs.Attempt.{_>>=_, evaluate, stages-for, iterate, spectral-radius, stage-loop, run-recurrence, outcome, close, attempt-step}
-use Rattle.session.specs.Session.{Shown, evaluates, finished-with, ready-at, stops, nothing, Seen, seen-of, vectors-of, initialize, tries, accept-step, at-rest, after-attempt, waiting, finished-by, counts-on, doing-now, replied-with, step, doing-shown, session-seen, rests, has-tried, waits, waits-with-room, takes, session, fresh}
-use Rattle.session.proofs.Lives.{lives}
+use Rattle.session.specs.Attempt.{_>>=_, evaluate, stages-for, iterate, spectral-radius, stage-loop, run-recurrence, finished-attempt, close, attempt-step}
+use Rattle.session.specs.Session.{Shown, evaluates, finished-with, ready-at, stops, nothing, Seen, seen-of, vectors-of, initialize, tries, accept-step, at-rest, after-attempt, waiting, finished-by, counts-on, doing-now, replied-with, session-after, doing-shown, session-seen, rests, has-tried, waits, waits-with-room, takes, session, fresh}
+use Rattle.session.proofs.Sequences.{every-sequence}
 
 -- opens, where it is named on an `unfolding` line, what a double's operation, an attempt of RKL1 and a session are made of
 unfoldable doubles : Unit {0}
@@ -26,11 +26,11 @@ unfolding toBits add sub mul div neg le lt eq ofInt round toUnsigned sum units o
 doubles = tt
 
 unfoldable attempts : Unit {0}
-unfolding smallest-count largest-count odd-only before-limits odd-step limited stage-count omega-zero omega-one-of b-first first-mu-tilde first-polynomials recurrence with-theta legendre-one coefficients next-polynomials next each sum-of-squares root-of-squares vector-norm all-finite with-direction perturbation-of perturbed turned radius-of ended scaled first-stage orthogonal-entry entry with-row exchanged with-candidate error with-last divisor scaled-error scaled-error-norm error-norm stage-need _>>=_ evaluate stages-for iterate spectral-radius stage-loop run-recurrence outcome close attempt-step
+unfolding smallest-count largest-count odd-only before-limits odd-step limited stage-count omega-zero omega-one-of b-first first-mu-tilde first-polynomials recurrence with-theta legendre-one coefficients next-polynomials next each sum-of-squares root-of-squares vector-norm all-finite with-direction perturbation-of perturbed turned radius-of ended scaled first-stage orthogonal-entry entry with-row exchanged with-candidate error with-last divisor scaled-error scaled-error-norm error-norm stage-need _>>=_ evaluate stages-for iterate spectral-radius stage-loop run-recurrence finished-attempt close attempt-step
 attempts = tt
 
 unfoldable sessions : Unit {0}
-unfolding known family-of permitted vector-count sized as-long good-times good-tolerance good-tolerances room vectors-of initialize tries accept-step at-rest after-attempt waiting finished-by counts-on doing-now replied-with step doing-shown session-seen rests has-tried waits waits-with-room takes session fresh
+unfolding known family-of permitted vector-count sized as-long good-times good-tolerance good-tolerances room vectors-of initialize tries accept-step at-rest after-attempt waiting finished-by counts-on doing-now replied-with session-after doing-shown session-seen rests has-tried waits waits-with-room takes session fresh
 sessions = tt
 
 pub arguments : Arguments
@@ -84,7 +84,7 @@ starts size counts l = rw l refl
 
 as-session : (h : Held) → length (h .area) ≡ 11 → seen-of h calls ≡ session (length (h .area)) (fresh (h .counters)) calls
 unfolding calls
-as-session h l = lives h 2 1 (one ∷ []) nought _ (starts (length (h .area)) (h .counters) l)
+as-session h l = every-sequence h 2 1 (one ∷ []) nought _ (starts (length (h .area)) (h .counters) l)
 
 pub case-of-calls : (h : Held) → length (h .area) ≡ 11 → h .counters ≡ zeroes → map told (seen-of h calls) ≡ told-in-case
 case-of-calls h l e = ap (map told) (as-session h l ∙ ap₂ (λ (size : ℕ) (counts : Counters). session size (fresh counts) calls) l e) ∙ case

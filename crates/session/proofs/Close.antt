@@ -18,7 +18,7 @@ use Rattle.driver.specs.declared.Phase.{Phase}
 use Rattle.driver.specs.declared.Phase.the-variants as P
 use Rattle.driver.specs.declared.Record.{Record}
 use Rattle.driver.specs.Calls.{Held, Called, pending, good-stage, in-range, awaiting}
-use Rattle.session.specs.Attempt.{Outcome}
+use Rattle.session.specs.Attempt.{Finished-attempt}
 use Rattle.session.specs.Claim.{Finishes}
 use Rattle.session.proofs.Truth.{holds, and-left, and-right}
 
@@ -42,7 +42,7 @@ stage-close r e p g is =
 
 -- ---- a finished attempt
 
-module _ (h : Held) (a : Arguments) (o : Outcome) (replies : ℕ) (x : Called) (f : Finishes h a o replies x) (g : Orthogonal) (is : family-of (h .kept .family) ≡ made-of g) where
+module _ (h : Held) (a : Arguments) (o : Finished-attempt) (replies : ℕ) (x : Called) (f : Finishes h a o replies x) (g : Orthogonal) (is : family-of (h .kept .family) ≡ made-of g) where
   may-run : T (permitted (made-of g) (o .stages))
   may-run = subst (λ (f : Family). T (permitted f (o .stages))) is (holds _ (f .stages-permitted))
 

@@ -16,7 +16,7 @@ use Rattle.workspace.specs.Kernel.{with-direction, perturbation-of, perturbed, 
 use Rattle.driver.specs.declared.Need.{Need}
 use Rattle.driver.specs.declared.Need.the-variants.{Met, Unmet}
 use Rattle.driver.specs.Calls.{stage-need}
-use Rattle.session.specs.Attempt.{Asking, done, stopped, _>>=_, evaluate, stages-for, Radius, Outcome, iterate, spectral-radius, stage-loop, run-recurrence, outcome, close, attempt-step, evaluated, end}
+use Rattle.session.specs.Attempt.{Asking, done, stopped, _>>=_, evaluate, stages-for, Radius, Finished-attempt, iterate, spectral-radius, stage-loop, run-recurrence, finished-attempt, close, attempt-step, evaluated, end}
 use Rattle.session.specs.Alike.{Alike, Same, Same-end, Same-start}
 use Rattle.session.proofs.Truth.{differ}
 use Rattle.session.proofs.Needs.{Needed, need-holds, two-from}
@@ -108,15 +108,15 @@ module _ (f : Family) (n : ℕ) (a : Arguments) where
       q : Agree ten (with-candidate v) (with-candidate w)
       q = candidate-agrees n v w p
 
-      closed : Bool → Vectors → Asking Outcome
-      closed t u = cond t (evaluate u (a .time ⊕ a .step) (u candidate) >>= λ d. done (outcome f n a s k r (with-last f n a u d))) (stopped 10 u)
+      closed : Bool → Vectors → Asking Finished-attempt
+      closed t u = cond t (evaluate u (a .time ⊕ a .step) (u candidate) >>= λ d. done (finished-attempt f n a s k r (with-last f n a u d))) (stopped 10 u)
 
       go : (t : Bool) → Alike Same (closed t (with-candidate v)) (closed t (with-candidate w))
       go true = evaluate-alike Same _ _ (with-candidate v) (with-candidate w) (a .time ⊕ a .step) (with-candidate v candidate) (with-candidate w candidate) (q candidate refl)
-          (λ d. ap (outcome f n a s k r) (last-same n f a d (with-candidate v) (with-candidate w) q))
+          (λ d. ap (finished-attempt f n a s k r) (last-same n f a d (with-candidate v) (with-candidate w) q))
       go false = refl
 
-  from-need : Need → ℕ → Float → Vectors → Asking Outcome
+  from-need : Need → ℕ → Float → Vectors → Asking Finished-attempt
   from-need need k r w = stages-for need w >>= λ s. run-recurrence f n a s w >>= close f n a s k r
 
   need-alike : (need : Need) (k : ℕ) (r : Float) (v w : Vectors) → Needed f need → Agree five v w → Alike Same (from-need need k r v) (from-need need k r w)
@@ -124,7 +124,7 @@ module _ (f : Family) (n : ℕ) (a : Arguments) where
   need-alike (Met s) k r v w ok p = bind-alike (Agree nine) Same (close f n a s k r) (close f n a s k r) (run-recurrence f n a s v) (run-recurrence f n a s w) (recurrence-alike s v w (two-from f s ok) p) (λ v w. close-alike s k r v w)
   need-alike (Unmet i) k r v w ok p = refl
 
-  from-radius : Radius → Asking Outcome
+  from-radius : Radius → Asking Finished-attempt
   from-radius x = let r = scaled (a .step) (x .radius) in from-need (stage-need f r) (x .passes) r (x .vectors)
 
   from-alike : (x y : Radius) → Radii x y → Alike Same (from-radius x) (from-radius y)
@@ -133,7 +133,7 @@ module _ (f : Family) (n : ℕ) (a : Arguments) where
       let go : Alike Same (from-need (stage-need f r) (y .passes) r (x .vectors)) (from-radius y) = need-alike (stage-need f r) (y .passes) r (x .vectors) (y .vectors) (need-holds f r) (h .2) in
       rw (h .0, h .1) go
 
-  -- alike, and where they are done with one and the same outcome, all eleven vectors of it
+  -- alike, and where they are done with one and the same finished attempt, all eleven vectors of it
   pub attempt-alike : (v w : Vectors) → Same-start v w → Alike Same (attempt-step f n a v) (attempt-step f n a w)
   unfolding attempt-step from-radius from-need
   attempt-alike v w p = bind-alike Radii Same from-radius from-radius (spectral-radius f n a v) (spectral-radius f n a w) (radius-alike v w (start-agrees v w p)) from-alike

@@ -29,11 +29,11 @@ use Rattle.session.specs.Refusals.{goes-on, verdict-of, Left}
 use Rattle.session.proofs.Truth.{and-left, and-right}
 use Rattle.session.proofs.Needs.{Needed, need-holds}
 use Rattle.session.proofs.Lengths.{long-area, replied-long}
-use Rattle.session.proofs.Refused.{is-away, same-number, says-refused}
+use Rattle.session.proofs.Refused.{is-refused, same-number, says-refused}
 
 -- not refused at all
 unrefused : (y : Answer) (i : ℕ) → verdict-of y ≡ goes-on → y ≡ Refused i → ⊥
-unrefused y i g e = subst is-away (ap verdict-of (sym e) ∙ g) tt
+unrefused y i g e = subst is-refused (ap verdict-of (sym e) ∙ g) tt
 
 -- ---- a reply that passed its tests
 

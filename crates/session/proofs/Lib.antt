@@ -24,7 +24,7 @@ pub mod OnAttempt
 pub mod OnReply
 pub mod OnAccept
 pub mod OnAbandon
-pub mod Lives
+pub mod Sequences
 pub mod Skipped
 pub mod Among
 pub mod Case

@@ -6,7 +6,7 @@ use Rattle.driver.specs.declared.Phase.the-variants as P
 use Rattle.driver.specs.declared.Answer.the-variants.{Empty}
 use Rattle.driver.specs.Calls.{Held, Called, in-phase, pending, awaiting, check, abandon, Abandon, taken}
 use Rattle.session.specs.Attempt.{done, stopped, ask}
-use Rattle.session.specs.Session.{ready-with, tried, answer-shown, Doing, none, within, Session, waiting, doing-now, step, doing-shown, waits}
+use Rattle.session.specs.Session.{ready-with, tried, answer-shown, Doing, none, within, Session, waiting, doing-now, session-after, doing-shown, waits}
 use Rattle.session.proofs.Truth.{differ}
 use Rattle.session.proofs.Shows.{Shows, Does, Good}
 use Rattle.session.proofs.Standing.{check-taken, check-tells, last-tells, all-pass, none-pass, idle, K, N, W, standing, Place, inside, outside, place}
@@ -36,15 +36,15 @@ abandoned h q =
     let p4 = check-taken h 4 (awaiting (h .kept)) _ refl (p3 .1) in
     (p4 .0, rw (p1 .0, p2 .0, p3 .0, p4 .0))
 
-pub abandon-good : (h : Held) (σ : Session) → h .counters ≡ σ .counts → Does (σ .family) (σ .n) (σ .doing) h → taken (abandon h .answer) ≡ true → Good (step σ Abandon) (abandon h)
-unfolding step Does Shows waiting doing-now pending answer-shown doing-shown in-phase
-abandon-good h σ cs does q = subst (λ (x : Called). Good (step σ Abandon) x) (sym (abandoned h q .1)) (go (σ .doing) does)
+pub abandon-good : (h : Held) (σ : Session) → h .counters ≡ σ .counts → Does (σ .family) (σ .n) (σ .doing) h → taken (abandon h .answer) ≡ true → Good (session-after σ Abandon) (abandon h)
+unfolding session-after Does Shows waiting doing-now pending answer-shown doing-shown in-phase
+abandon-good h σ cs does q = subst (λ (x : Called). Good (session-after σ Abandon) x) (sym (abandoned h q .1)) (go (σ .doing) does)
   where
     awaits : awaiting (h .kept) ≡ true
     awaits = abandoned h q .0
 
     go : (δ : Doing) → Does (σ .family) (σ .n) δ h
-        → Good (step (doing-now σ δ) Abandon) (record { answer = Empty; held = record { kept = in-phase P.Empty (h .kept); counters = h .counters; area = h .area } })
+        → Good (session-after (doing-now σ δ) Abandon) (record { answer = Empty; held = record { kept = in-phase P.Empty (h .kept); counters = h .counters; area = h .area } })
     go none e = absurd (differ (sym (idle (h .kept) P.Empty e refl) ∙ awaits))
     go (within (done (ready-with v))) e = absurd (differ (sym (idle (h .kept) P.Ready (e .0 .phase-is) refl) ∙ awaits))
     go (within (done (tried o))) e = absurd (differ (sym (idle (h .kept) P.Finished (e .0 .phase-is) refl) ∙ awaits))

@@ -13,7 +13,7 @@ use Rattle.workspace.proofs.Areas.{Long, unpack-pack, long-with}
 use Rattle.driver.specs.declared.Phase.the-variants as P
 use Rattle.driver.specs.Calls.{Held, Called, in-phase, at-time, first-at, take-callback, replied, as-long, pending, in-range, awaiting, may-accept, finishes, check, going-on, accepted, accept, called-back, accept-with-callback, Accept, Accept-with-callback, taken}
 use Rattle.session.specs.Attempt.{_>>=_, evaluate}
-use Rattle.session.specs.Session.{evaluates, ready-at, answer-shown, accept-step, callback-step, Doing, within, Session, at-rest, after-attempt, doing-now, step, doing-shown, has-tried}
+use Rattle.session.specs.Session.{evaluates, ready-at, answer-shown, accept-step, callback-step, Doing, within, Session, at-rest, after-attempt, doing-now, session-after, doing-shown, has-tried}
 use Rattle.session.proofs.Truth.{and-left, and-right, and-none, and-assoc}
 use Rattle.session.proofs.Lengths.{whole-pack, long-area, pack-length}
 use Rattle.session.proofs.Shows.{Shows, Does, Good, once}
@@ -83,15 +83,15 @@ module _ (h : Held) (q : taken (accept h .answer) ≡ true) where
   long-w = let v = unpack (h .kept .n) (h .area) in let lv = long-area (h .kept .family) (h .kept .n) (h .area) (passed .area-whole) in
       long-with (h .kept .n) (v with first-derivative ≔ v last-derivative) state (v candidate) (long-with (h .kept .n) v first-derivative (v last-derivative) lv (lv last-derivative)) (lv candidate)
 
-  pub accept-good : (σ : Session) → h .counters ≡ σ .counts → Does (σ .family) (σ .n) (σ .doing) h → Good (step σ Accept) (accept h)
-  unfolding step Does Shows at-rest after-attempt doing-now accept-step answer-shown doing-shown going-on accepted in-phase w
-  accept-good σ cs does = subst (λ (x : Called). Good (step σ Accept) x) (sym accept-is) (go (σ .doing) (rested h (σ .family) (σ .n) (σ .doing) does (passed .phase-allows)))
+  pub accept-good : (σ : Session) → h .counters ≡ σ .counts → Does (σ .family) (σ .n) (σ .doing) h → Good (session-after σ Accept) (accept h)
+  unfolding session-after Does Shows at-rest after-attempt doing-now accept-step answer-shown doing-shown going-on accepted in-phase w
+  accept-good σ cs does = subst (λ (x : Called). Good (session-after σ Accept) x) (sym accept-is) (go (σ .doing) (rested h (σ .family) (σ .n) (σ .doing) does (passed .phase-allows)))
     where
       back : unpack (h .kept .n) (pack w) ≡ w
       back = unpack-pack (h .kept .n) w long-w
 
       go : (δ : Doing) → Finished-at h (σ .family) (σ .n) δ
-          → Good (step (doing-now σ δ) Accept) (going-on (h .counters) (accepted (h .kept) (unpack (h .kept .n) (h .area))))
+          → Good (session-after (doing-now σ δ) Accept) (going-on (h .counters) (accepted (h .kept) (unpack (h .kept .n) (h .area))))
       go δ (finished-at o at same) = record {
         shown-is = ap₂ ready-at (ap (λ (u : Vectors). u state) back ∙ ap (λ (u : Vectors). u candidate) same) (ap (λ (u : Vectors). u first-derivative) back ∙ ap (λ (u : Vectors). u last-derivative) same);
         counts-are = cs;
@@ -145,9 +145,9 @@ module _ (h : Held) (y : List Float) (t : Float) (q : taken (accept-with-callbac
   unfolding u as-long
   long-u = long-with (h .kept .n) (unpack (h .kept .n) (h .area)) state y (long-area (h .kept .family) (h .kept .n) (h .area) whole) (eqb-true (length y) (h .kept .n) (and-right (W h) (as-long (h .kept .n) y) (passed-both .lengths-good)))
 
-  pub callback-good : (σ : Session) → h .counters ≡ σ .counts → Does (σ .family) (σ .n) (σ .doing) h → Good (step σ (Accept-with-callback y t)) (accept-with-callback h y t)
-  unfolding step Does at-rest after-attempt doing-now callback-step answer-shown doing-shown going-on called-back in-phase first-at at-time pending in-range awaiting finishes evaluate _>>=_ replied take-callback u
-  callback-good σ cs does = subst (λ (x : Called). Good (step σ (Accept-with-callback y t)) x) (sym callback-is) (go (σ .doing) (rested h (σ .family) (σ .n) (σ .doing) does (passed-both .phase-allows)))
+  pub callback-good : (σ : Session) → h .counters ≡ σ .counts → Does (σ .family) (σ .n) (σ .doing) h → Good (session-after σ (Accept-with-callback y t)) (accept-with-callback h y t)
+  unfolding session-after Does at-rest after-attempt doing-now callback-step answer-shown doing-shown going-on called-back in-phase first-at at-time pending in-range awaiting finishes evaluate _>>=_ replied take-callback u
+  callback-good σ cs does = subst (λ (x : Called). Good (session-after σ (Accept-with-callback y t)) x) (sym callback-is) (go (σ .doing) (rested h (σ .family) (σ .n) (σ .doing) does (passed-both .phase-allows)))
     where
       n : ℕ
       n = h .kept .n
@@ -155,7 +155,7 @@ module _ (h : Held) (y : List Float) (t : Float) (q : taken (accept-with-callbac
       x : Called
       x = going-on (h .counters) (called-back (h .kept) y t (unpack (h .kept .n) (h .area)))
 
-      go : (δ : Doing) → Finished-at h (σ .family) (σ .n) δ → Good (step (doing-now σ δ) (Accept-with-callback y t)) x
+      go : (δ : Doing) → Finished-at h (σ .family) (σ .n) δ → Good (session-after (doing-now σ δ) (Accept-with-callback y t)) x
       go δ (finished-at o at same) =
           subst (λ (f : ℕ). Good (record { family = f; n = σ .n; doing = within (callback-step (σ .n) y t (o .vectors)); counts = σ .counts }) x) (at .family-is)
           (subst (λ (n : ℕ). Good (record { family = h .kept .family; n = n; doing = within (callback-step n y t (o .vectors)); counts = σ .counts }) x) (at .n-is)

@@ -14,7 +14,7 @@ use Rattle.driver.specs.Calls.{Held, Called, at-pass, ask-pass, may-attempt, go
 use Rattle.session.specs.Attempt.{done, stopped, ask, attempt-step}
 use Rattle.session.specs.Claim.{Allowed, in-one-piece}
 use Rattle.session.specs.Alike.{Same-start}
-use Rattle.session.specs.Session.{ready-with, tried, vectors-of, tries, Doing, none, within, Session, at-rest, doing-now, step, rests}
+use Rattle.session.specs.Session.{ready-with, tried, vectors-of, tries, Doing, none, within, Session, at-rest, doing-now, session-after, rests}
 use Rattle.session.proofs.Truth.{differ}
 use Rattle.session.proofs.Lengths.{long-area, pack-length}
 use Rattle.session.proofs.Passes.{attempt-is, attempt-follows}
@@ -62,11 +62,11 @@ module _ (h : Held) (σ : Session) (cs : h .counters ≡ σ .counts) (a : Argume
       (subst (λ (n : ℕ). Good (record { family = h .kept .family; n = n; doing = within (tries (h .kept .family) n a v); counts = σ .counts }) (attempt h a)) (at .n-is)
       (record { shown-is = g .shown-is; counts-are = ap (λ (x : Called). x .held .counters) (attempt-is h a p) ∙ cs; does = g .shows }))
 
-  pub attempt-good : Does (σ .family) (σ .n) (σ .doing) h → taken (attempt h a .answer) ≡ true → Good (step σ (Attempt a)) (attempt h a)
-  unfolding step doing-now Does Shows at-rest vectors-of may-attempt
+  pub attempt-good : Does (σ .family) (σ .n) (σ .doing) h → taken (attempt h a .answer) ≡ true → Good (session-after σ (Attempt a)) (attempt h a)
+  unfolding session-after doing-now Does Shows at-rest vectors-of may-attempt
   attempt-good does q = go (allowed h a q) (σ .doing) does
     where
-      go : Allowed h a → (δ : Doing) → Does (σ .family) (σ .n) δ h → Good (step (doing-now σ δ) (Attempt a)) (attempt h a)
+      go : Allowed h a → (δ : Doing) → Does (σ .family) (σ .n) δ h → Good (session-after (doing-now σ δ) (Attempt a)) (attempt h a)
       go p none e = absurd (differ (sym (ap may-attempt e) ∙ p .phase-allows))
       go p (within (done (ready-with v))) e = tries-good v P.Ready p (e .0) (e .1)
       go p (within (done (tried o))) e =

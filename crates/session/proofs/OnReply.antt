@@ -15,12 +15,12 @@ use Rattle.driver.specs.declared.Answer.the-variants.{Evaluate, Finished, Ready
 use Rattle.driver.specs.Calls.{Held, replied, as-long, pending, awaiting, has-room, check, going-on, spoiled, settled, reply, Reply, taken}
 use Rattle.session.specs.Attempt.{done, stopped, ask}
 use Rattle.session.specs.Claim.{room-in}
-use Rattle.session.specs.Session.{ready-with, tried, Doing, none, within, Session, waiting, counts-on, doing-now, replied-with, step, waits, waits-with-room}
+use Rattle.session.specs.Session.{ready-with, tried, Doing, none, within, Session, waiting, counts-on, doing-now, replied-with, session-after, waits, waits-with-room}
 use Rattle.session.proofs.Truth.{differ, and-left, and-right, and-none, and-assoc}
 use Rattle.session.proofs.Lengths.{long-area, pack-length, replied-long}
 use Rattle.session.proofs.Leaves.{replied-high}
 use Rattle.session.proofs.Shows.{Shows, Does, Good}
-use Rattle.session.proofs.Standing.{check-taken, check-tells, last-tells, all-pass, none-pass, idle, K, N, W, standing, Place, inside, outside, place, roomy-alike}
+use Rattle.session.proofs.Standing.{check-taken, check-tells, last-tells, all-pass, none-pass, idle, K, N, W, standing, Place, inside, outside, place, room-alike}
 
 -- refused from 9 on is taken
 high-taken : (y : Answer) → ((i : ℕ) → y ≡ Refused i → 10 ≤ i) → taken y ≡ true
@@ -60,10 +60,10 @@ reply-agrees h σ cs does d =
     go (inside k n w l) =
         all-pass (K h) (N h) (W h) _ k n w
         ∙ ap (λ (b : Bool). b && (awaiting (h .kept) && has-room (h .kept .phase) (h .counters))) (l d)
-        ∙ ap (λ (b : Bool). as-long (σ .n) d && b) (roomy-alike h σ cs (σ .doing) does)
+        ∙ ap (λ (b : Bool). as-long (σ .n) d && b) (room-alike h σ cs (σ .doing) does)
     go (outside r u w) =
         none-pass (K h) (N h) (W h) _ (and-none (as-long (h .kept .n) d) _ (rw (waits-is, w)))
-        ∙ sym (and-none (as-long (σ .n) d) _ (sym (roomy-alike h σ cs (σ .doing) does) ∙ rw (waits-is, w)))
+        ∙ sym (and-none (as-long (σ .n) d) _ (sym (room-alike h σ cs (σ .doing) does) ∙ rw (waits-is, w)))
 
 module _ (h : Held) (d : List Float) (q : taken (reply h d .answer) ≡ true) where
   -- it passed its tests
@@ -91,11 +91,11 @@ module _ (h : Held) (d : List Float) (q : taken (reply h d .answer) ≡ true) wh
   whole : W h ≡ true
   whole = and-left (W h) (as-long (h .kept .n) d) (passed .lengths-good)
 
-  pub reply-good : (σ : Session) → h .counters ≡ σ .counts → Does (σ .family) (σ .n) (σ .doing) h → Good (step σ (Reply d)) (reply h d)
-  unfolding step doing-now Does Shows replied-with waiting pending
+  pub reply-good : (σ : Session) → h .counters ≡ σ .counts → Does (σ .family) (σ .n) (σ .doing) h → Good (session-after σ (Reply d)) (reply h d)
+  unfolding session-after doing-now Does Shows replied-with waiting pending
   reply-good σ cs does = go (σ .doing) does
     where
-      go : (δ : Doing) → Does (σ .family) (σ .n) δ h → Good (step (doing-now σ δ) (Reply d)) (reply h d)
+      go : (δ : Doing) → Does (σ .family) (σ .n) δ h → Good (session-after (doing-now σ δ) (Reply d)) (reply h d)
       go none e = absurd (differ (sym (idle (h .kept) P.Empty e refl) ∙ passed .awaits))
       go (within (done (ready-with v))) e = absurd (differ (sym (idle (h .kept) P.Ready (e .0 .phase-is) refl) ∙ passed .awaits))
       go (within (done (tried o))) e = absurd (differ (sym (idle (h .kept) P.Finished (e .0 .phase-is) refl) ∙ passed .awaits))

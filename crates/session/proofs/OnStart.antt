@@ -14,7 +14,7 @@ use Rattle.workspace.proofs.Areas.{Long, unpack-pack, long-with}
 use Rattle.driver.specs.declared.Phase.the-variants as P
 use Rattle.driver.specs.Calls.{Held, in-phase, at-time, first-at, take-first, replied, sized, whole-area, as-long, pending, in-range, awaiting, finishes, check, start, Start, taken}
 use Rattle.session.specs.Attempt.{_>>=_, evaluate}
-use Rattle.session.specs.Session.{evaluates, answer-shown, initialize, Session, step, doing-shown}
+use Rattle.session.specs.Session.{evaluates, answer-shown, initialize, Session, session-after, doing-shown}
 use Rattle.session.proofs.Truth.{and-left, and-right}
 use Rattle.session.proofs.Lengths.{long-area, pack-length}
 use Rattle.session.proofs.Shows.{Does, Good, once}
@@ -58,8 +58,8 @@ module _ (h : Held) (f n : ℕ) (y : List Float) (t : Float) (q : taken (start h
       long-with n (unpack n (h .area) with state ≔ y) eigenvector (replicate n nought)
       (long-with n (unpack n (h .area)) state y (long-area f n (h .area) whole) long) (length-replicate n nought)
 
-  pub start-good : (σ : Session) → h .counters ≡ σ .counts → Good (step σ (Start f n y t)) (start h f n y t)
-  unfolding start check step initialize Does first-at at-time pending in-range awaiting finishes answer-shown doing-shown evaluate _>>=_ replied take-first in-phase v
+  pub start-good : (σ : Session) → h .counters ≡ σ .counts → Good (session-after σ (Start f n y t)) (start h f n y t)
+  unfolding start check session-after initialize Does first-at at-time pending in-range awaiting finishes answer-shown doing-shown evaluate _>>=_ replied take-first in-phase v
   start-good σ cs = rw (passed .family-known, passed .n-sized, passed .lengths-good, passed .state-finite, passed .time-finite) (record {
     shown-is = ap (λ (w : Vectors). evaluates t (w state)) (unpack-pack n v long-v);
     counts-are = cs;

@@ -21,7 +21,7 @@ use Rattle.driver.specs.declared.Need.{Need}
 use Rattle.driver.specs.declared.Need.the-variants.{Met, Unmet}
 use Rattle.driver.specs.declared.Counters.{Counters}
 use Rattle.driver.specs.Calls.{Held, Called, in-phase, at-pass, with-radius, at-stage, ask-pass, ask-stage, stage-need, by-need, begin-stages, take-pass, replied, sized, pending, in-range, awaiting, finishes, check, attempted, going-on, attempt, counted, settled}
-use Rattle.session.specs.Attempt.{Asking, done, _>>=_, evaluate, stages-for, Radius, Outcome, iterate, spectral-radius, stage-loop, run-recurrence, close, attempt-step, is-done}
+use Rattle.session.specs.Attempt.{Asking, done, _>>=_, evaluate, stages-for, Radius, Finished-attempt, iterate, spectral-radius, stage-loop, run-recurrence, close, attempt-step, is-done}
 use Rattle.session.specs.Claim.{Allowed, in-one-piece}
 use Rattle.session.proofs.Truth.{both}
 use Rattle.session.proofs.Signs.{Plus, not-below, perturbation-plus, radius-plus, scaled-plus}
@@ -38,10 +38,10 @@ module _ (h : Held) (a : Arguments) (hk : known (h .kept .family) ≡ true) (hs 
   -- ---- from the last pass into the stages
 
   -- what `attempt-step` does with the need, and with the radius
-  abbrev from-need : Need → ℕ → Float → Vectors → Asking Outcome
+  abbrev from-need : Need → ℕ → Float → Vectors → Asking Finished-attempt
   from-need need k r w = stages-for need w >>= λ s. run-recurrence F (h .kept .n) a s w >>= close F (h .kept .n) a s k r
 
-  abbrev from-radius : Radius → Asking Outcome
+  abbrev from-radius : Radius → Asking Finished-attempt
   from-radius found = let r = scaled (a .step) (found .radius) in from-need (stage-need F r) (found .passes) r (found .vectors)
 
   -- the stages begin with an evaluation
@@ -51,7 +51,7 @@ module _ (h : Held) (a : Arguments) (hk : known (h .kept .family) ≡ true) (hs 
   unfolding run-recurrence
   recurrence-is s k r w 2≤s = let e : s - 1 ≡ suc (s - 2) = omega arith in rw e
 
-  stage-undone : (s m j : ℕ) (c : Recurrence) (v : Vectors) (K : Vectors → Asking Outcome) → is-done (stage-loop F (h .kept .n) a s (suc m) j c v >>= K) ≡ false
+  stage-undone : (s m j : ℕ) (c : Recurrence) (v : Vectors) (K : Vectors → Asking Finished-attempt) → is-done (stage-loop F (h .kept .n) a s (suc m) j c v >>= K) ≡ false
   unfolding stage-loop evaluate _>>=_ is-done
   stage-undone s m j c v K = refl
 

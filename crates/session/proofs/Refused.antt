@@ -23,7 +23,7 @@ use Rattle.driver.specs.declared.Answer.{Answer}
 use Rattle.driver.specs.declared.Answer.the-variants.{Evaluate, Finished, Ready, Refused, Empty}
 use Rattle.driver.specs.Answers.{case-number, case-values, Values, Says}
 use Rattle.driver.specs.Calls.{Held, Called, at-pass, at-stage, take-first, take-callback, ask-pass, ask-stage, stage-need, by-need, begin-stages, take-pass, ask-candidate, take-stage, take-candidate, replied, finishes, room, has-room, check, start, attempted, going-on, attempt, spoiled, settled, reply, accepted, accept, called-back, accept-with-callback, abandon, Call, Start, Attempt, Reply, Accept, Accept-with-callback, Abandon, made}
-use Rattle.session.specs.Refusals.{Verdict, goes-on, turned-away, verdict-of, Test, _∶_, first-failing, start-tests, attempt-tests, need-tests, pass-tests, stage-tests, replied-tests, reply-tests, accept-tests, callback-tests, abandon-tests, tests-of, numbers-of, _∈_, here, later, largest-number}
+use Rattle.session.specs.Refusals.{Verdict, goes-on, refused-with, verdict-of, Test, _∶_, first-failing, start-tests, attempt-tests, need-tests, pass-tests, stage-tests, replied-tests, reply-tests, accept-tests, callback-tests, abandon-tests, tests-of, numbers-of, _∈_, here, later, largest-number}
 use Rattle.session.proofs.Truth.{and-left, and-right}
 use Rattle.session.proofs.Needs.{need-is}
 
@@ -61,7 +61,7 @@ abandon-told h = tested h 1 _ _ _ (tested h 2 _ _ _ (tested h 3 _ _ _ (tested h 
 
 -- ---- a reply: what its phase tests too
 
-candidate-verdict : (t : Bool) (r : Record) (v : Vectors) → all-finite (v candidate) ≡ t → verdict-of (ask-candidate r v .answer) ≡ cond t goes-on (turned-away 10)
+candidate-verdict : (t : Bool) (r : Record) (v : Vectors) → all-finite (v candidate) ≡ t → verdict-of (ask-candidate r v .answer) ≡ cond t goes-on (refused-with 10)
 unfolding ask-candidate
 candidate-verdict true r v e = rw e
 candidate-verdict false r v e = rw e
@@ -131,33 +131,33 @@ says-refused (Refused i) k s = ap (λ (v : Values). Refused (first (v .numbers))
     first (i ∷ is) = i
 says-refused Empty k s = absurd (omega (arith, s .same-case))
 
-abbrev pub is-away : Verdict → Type 0
-is-away goes-on = ⊥
-is-away (turned-away i) = Unit {0}
+abbrev pub is-refused : Verdict → Type 0
+is-refused goes-on = ⊥
+is-refused (refused-with i) = Unit {0}
 
-abbrev pub away-number : Verdict → ℕ
-away-number goes-on = 0
-away-number (turned-away i) = i
+abbrev pub refused-number : Verdict → ℕ
+refused-number goes-on = 0
+refused-number (refused-with i) = i
 
 pub same-number : (i j : ℕ) → Refused i ≡ Refused j → i ≡ j
-same-number i j e = ap (λ (y : Answer). away-number (verdict-of y)) e
+same-number i j e = ap (λ (y : Answer). refused-number (verdict-of y)) e
 
 -- each number on its own cause and on no other
-pub refused : (h : Held) (c : Call) (k : ℕ) → Says (made h c .answer) (Refused k) ↔ first-failing (tests-of h c) ≡ turned-away k
+pub refused : (h : Held) (c : Call) (k : ℕ) → Says (made h c .answer) (Refused k) ↔ first-failing (tests-of h c) ≡ refused-with k
 refused h c k = (λ s. sym (told h c .verdict-is) ∙ ap verdict-of (says-refused (made h c .answer) k s), λ e. go (made h c .answer) (told h c .verdict-is ∙ e))
   where
-    go : (y : Answer) → verdict-of y ≡ turned-away k → Says y (Refused k)
-    go (Evaluate s b) e = absurd (subst is-away (sym e) tt)
-    go (Finished s) e = absurd (subst is-away (sym e) tt)
-    go Ready e = absurd (subst is-away (sym e) tt)
-    go (Refused i) e = let same : Refused i ≡ Refused k = ap (λ (x : Verdict). Refused (away-number x)) e in record { same-case = ap case-number same; same-values = ap case-values same }
-    go Empty e = absurd (subst is-away (sym e) tt)
+    go : (y : Answer) → verdict-of y ≡ refused-with k → Says y (Refused k)
+    go (Evaluate s b) e = absurd (subst is-refused (sym e) tt)
+    go (Finished s) e = absurd (subst is-refused (sym e) tt)
+    go Ready e = absurd (subst is-refused (sym e) tt)
+    go (Refused i) e = let same : Refused i ≡ Refused k = ap (λ (x : Verdict). Refused (refused-number x)) e in record { same-case = ap case-number same; same-values = ap case-values same }
+    go Empty e = absurd (subst is-refused (sym e) tt)
 
 -- ---- no number outside the call's list
 
 abbrev Among : Verdict → List ℕ → Type 0
 Among goes-on ks = Unit {0}
-Among (turned-away i) ks = i ∈ ks
+Among (refused-with i) ks = i ∈ ks
 
 -- the tests fail with a number of the list, or not at all
 record Within (tests : List Test) (ks : List ℕ) : Type 0 where
@@ -169,9 +169,9 @@ last ks = record { among = tt }
 more : (t : Test) (ts : List Test) (ks : List ℕ) → Within ts ks → Within (t ∷ ts) (t .number ∷ ks)
 more t ts ks w = record { among = go (t .passes) (first-failing ts) (w .among) }
   where
-    go : (b : Bool) (x : Verdict) → Among x ks → Among (cond b x (turned-away (t .number))) (t .number ∷ ks)
+    go : (b : Bool) (x : Verdict) → Among x ks → Among (cond b x (refused-with (t .number))) (t .number ∷ ks)
     go true goes-on w = tt
-    go true (turned-away i) w = later w
+    go true (refused-with i) w = later w
     go false x w = here
 
 stage-within : (t u : Bool) → Within (cond t [] (10 ∶ u ∷ [])) (10 ∷ [])

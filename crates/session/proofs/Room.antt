@@ -13,43 +13,43 @@ use Rattle.workspace.specs.declared.Arguments.{Arguments}
 use Rattle.driver.specs.declared.Phase.{Phase}
 use Rattle.driver.specs.declared.Answer.the-variants.{Refused}
 use Rattle.driver.specs.Calls.{Held, Called, as-long, finishes, room, has-room, check, attempt, reply}
-use Rattle.session.specs.Attempt.{Asking, done, stopped, ask, Outcome, Evaluated, evaluated, is-done, reaches-candidate}
-use Rattle.session.specs.Claim.{answers, after, Allowed, Pending, Waits, in-one-piece, room-in, replies-to, Roomy, Sticks}
+use Rattle.session.specs.Attempt.{Asking, done, stopped, ask, Finished-attempt, Evaluated, evaluated, is-done, reaches-candidate}
+use Rattle.session.specs.Claim.{answers, after, Allowed, Pending, Waits, in-one-piece, room-in, replies-to, Room-for-first, Counters-full-at}
 use Rattle.session.proofs.Truth.{differ, and-none}
 use Rattle.session.proofs.Follows.{Closes, Follows, room-for}
 use Rattle.session.proofs.Passes.{attempt-follows}
 
-abbrev pub turned-away : Held → Called
-turned-away g = record { answer = Refused 8; held = g }
+abbrev pub refused-with-eight : Held → Called
+refused-with-eight g = record { answer = Refused 8; held = g }
 
 pub pends : (h : Held) (a : Arguments) (e : ℕ) (x : Called) → Allowed h a → Waits h e x → Pending (x .held)
 pends h a e x p w = record { family-known = rw (w .family-is) (p .family-known); n-sized = rw (w .n-is) (p .n-sized); area-whole = rw (w .family-is, w .n-is) (w .area-whole); awaits = w .pending }
 
 -- no room: turned away
-pub roomless : (g : Held) → Pending g → room-in g ≡ false → (d : List Float) → length d ≡ g .kept .n → reply g d ≡ turned-away g
+pub refused-without-room : (g : Held) → Pending g → room-in g ≡ false → (d : List Float) → length d ≡ g .kept .n → reply g d ≡ refused-with-eight g
 unfolding reply check as-long
-roomless g p full d hd = rw (p .family-known, p .n-sized, p .area-whole, eq-eqb (length d) (g .kept .n) hd, p .awaits, full)
+refused-without-room g p full d hd = rw (p .family-known, p .n-sized, p .area-whole, eq-eqb (length d) (g .kept .n) hd, p .awaits, full)
 
-stays : (d : ℕ → List Float) (g : Held) → ((i : ℕ) → reply g (d i) ≡ turned-away g) → (i m : ℕ) (x : Called) → x .held ≡ g → after (suc i) d m x ≡ turned-away g
+stays : (d : ℕ → List Float) (g : Held) → ((i : ℕ) → reply g (d i) ≡ refused-with-eight g) → (i m : ℕ) (x : Called) → x .held ≡ g → after (suc i) d m x ≡ refused-with-eight g
 unfolding after
 stays d g away zero m x e = ap (λ (k : Held). reply k (d m)) e ∙ away m
 stays d g away (suc i) m x e = stays d g away i (suc m) (reply (x .held) (d m)) (ap (λ (k : Held). reply k (d m) .held) e ∙ ap (λ (y : Called). y .held) (away m))
 
 -- after the candidate's evaluation there is none
-done-none : (m : Asking Outcome) (s : ℕ → List Float) (i : ℕ) → is-done m ≡ true → length (evaluated m s i) ≡ 0
+done-none : (m : Asking Finished-attempt) (s : ℕ → List Float) (i : ℕ) → is-done m ≡ true → length (evaluated m s i) ≡ 0
 unfolding is-done evaluated
 done-none (done o) s i e = refl
 done-none (stopped n v) s i e = absurd (differ e)
 done-none (ask t p k) s i e = absurd (differ e)
 
-none-after : (φ : Phase) (k : List Float → Asking Outcome) → Closes φ k → finishes φ ≡ true → (d : List Float) (s : ℕ → List Float) (i : ℕ) → length (evaluated (k d) s i) ≡ 0
+none-after : (φ : Phase) (k : List Float → Asking Finished-attempt) → Closes φ k → finishes φ ≡ true → (d : List Float) (s : ℕ → List Float) (i : ℕ) → length (evaluated (k d) s i) ≡ 0
 none-after φ k c e d s i = go (all-finite d) refl
   where
     go : (t : Bool) → all-finite d ≡ t → length (evaluated (k d) s i) ≡ 0
     go true fin = done-none (k d) s i (c .finite-done d fin ∙ e)
     go false fin = c .others-stop d fin s i
 
-pub none-reaches : (m : Asking Outcome) (s : ℕ → List Float) (i : ℕ) → length (evaluated m s i) ≡ 0 → reaches-candidate m s i ≡ false
+pub none-reaches : (m : Asking Finished-attempt) (s : ℕ → List Float) (i : ℕ) → length (evaluated m s i) ≡ 0 → reaches-candidate m s i ≡ false
 unfolding evaluated reaches-candidate
 none-reaches (done o) s i e = refl
 none-reaches (stopped n v) s i e = refl
@@ -57,30 +57,30 @@ none-reaches (ask t p k) s i e = absurd (omega arith)
 
 module _ (h : Held) (a : Arguments) (d : ℕ → List Float) (long : (i : ℕ) → length (d i) ≡ h .kept .n) where
   -- j replies that find room
-  along : (m : Asking Outcome) (replies i j : ℕ) (b : Held) (x : Called) → Follows h a replies b m x → ((l : ℕ) → l < j → room-in (after l d i x .held) ≡ true) → j < length (evaluated m d i)
+  along : (m : Asking Finished-attempt) (replies i j : ℕ) (b : Held) (x : Called) → Follows h a replies b m x → ((l : ℕ) → l < j → room-in (after l d i x .held) ≡ true) → j < length (evaluated m d i)
       → (answers (suc j) d i x ≡ take (suc j) (evaluated m d i)) × Waits h (replies + j) (after j d i x)
   unfolding Follows evaluated answers after
-  along (done o) replies i j b x f roomy lt = absurd (not-suc-le-zero lt)
-  along (stopped n v) replies i j b x f roomy lt = absurd (not-suc-le-zero lt)
-  along (ask t p k) replies i zero b x f roomy lt = (ap (λ (l : List Evaluated). l ++ []) (f .1), subst (λ (r : ℕ). Waits h r x) (omega arith) (f .0))
-  along (ask t p k) replies i (suc j) b x f roomy lt =
-      let on = along (k (d i)) (suc replies) (suc i) j (x .held) (reply (x .held) (d i)) (f .2 (d i) (long i) (roomy zero (omega arith))) (λ l l<. roomy (suc l) (omega arith)) (omega arith) in
+  along (done o) replies i j b x f enough lt = absurd (not-suc-le-zero lt)
+  along (stopped n v) replies i j b x f enough lt = absurd (not-suc-le-zero lt)
+  along (ask t p k) replies i zero b x f enough lt = (ap (λ (l : List Evaluated). l ++ []) (f .1), subst (λ (r : ℕ). Waits h r x) (omega arith) (f .0))
+  along (ask t p k) replies i (suc j) b x f enough lt =
+      let on = along (k (d i)) (suc replies) (suc i) j (x .held) (reply (x .held) (d i)) (f .2 (d i) (long i) (enough zero (omega arith))) (λ l l<. enough (suc l) (omega arith)) (omega arith) in
       (ap₂ _++_ (f .1) (on .0), subst (λ (r : ℕ). Waits h r (after j d (suc i) (reply (x .held) (d i)))) (omega arith) (on .1))
 
-  pub sticks : Allowed h a → (m : ℕ) → m < replies-to h a d → Roomy h a d m → room-in (after m d 0 (attempt h a) .held) ≡ false → Sticks h a d m
-  unfolding Roomy
-  sticks p m lt roomy full =
+  pub counters-full-at : Allowed h a → (m : ℕ) → m < replies-to h a d → Room-for-first h a d m → room-in (after m d 0 (attempt h a) .held) ≡ false → Counters-full-at h a d m
+  unfolding Room-for-first
+  counters-full-at p m lt enough full =
       let x = after m d 0 (attempt h a) in
-      let on = along (in-one-piece h a) 0 0 m h (attempt h a) (attempt-follows h a p) roomy lt in
+      let on = along (in-one-piece h a) 0 0 m h (attempt h a) (attempt-follows h a p) enough lt in
       let w = subst (λ (r : ℕ). Waits h r x) (zero-add m) (on .1) in
       record {
         same-evaluations = on .0;
         waits = w;
-        left = λ i. stays d (x .held) (λ j. roomless (x .held) (pends h a m x p w) full (d j) (rw (w .n-is) (long j))) i m x refl;
+        left = λ i. stays d (x .held) (λ j. refused-without-room (x .held) (pends h a m x p w) full (d j) (rw (w .n-is) (long j))) i m x refl;
       }
 
   -- j replies find room: there are more to come, so the candidate's is not among them
-  finds : (m : Asking Outcome) (replies i j : ℕ) (b : Held) (x : Called) → Follows h a replies b m x → j < length (evaluated m d i) → h .counters .evaluations + (replies + j) < 2 ^ 64
+  finds : (m : Asking Finished-attempt) (replies i j : ℕ) (b : Held) (x : Called) → Follows h a replies b m x → j < length (evaluated m d i) → h .counters .evaluations + (replies + j) < 2 ^ 64
       → (l : ℕ) → l < j → room-in (after l d i x .held) ≡ true
   unfolding Follows evaluated after
   finds (done o) replies i j b x f lt fit l l< = absurd (not-suc-le-zero lt)
@@ -96,18 +96,18 @@ module _ (h : Held) (a : Arguments) (d : ℕ → List Float) (long : (i : ℕ) �
       go on (suc l) l< = on l (omega arith)
 
   -- the last evaluation is the candidate's, where that is reached
-  last-is : (m : Asking Outcome) (replies i j : ℕ) (b : Held) (x : Called) → Follows h a replies b m x → suc j ≡ length (evaluated m d i) → reaches-candidate m d i ≡ true
+  last-is : (m : Asking Finished-attempt) (replies i j : ℕ) (b : Held) (x : Called) → Follows h a replies b m x → suc j ≡ length (evaluated m d i) → reaches-candidate m d i ≡ true
       → ((l : ℕ) → l < j → room-in (after l d i x .held) ≡ true) → finishes (after j d i x .held .kept .phase) ≡ true
   unfolding Follows evaluated after reaches-candidate all-finite
-  last-is (done o) replies i j b x f e r roomy = absurd (omega arith)
-  last-is (stopped n v) replies i j b x f e r roomy = absurd (omega arith)
-  last-is (ask t p k) replies i zero b x f e r roomy = sym (f .3 .finite-done [] refl) ∙ go (is-done (k [])) (reaches-candidate (k (d i)) d (suc i)) r (none-reaches (k (d i)) d (suc i) (omega arith))
+  last-is (done o) replies i j b x f e r enough = absurd (omega arith)
+  last-is (stopped n v) replies i j b x f e r enough = absurd (omega arith)
+  last-is (ask t p k) replies i zero b x f e r enough = sym (f .3 .finite-done [] refl) ∙ go (is-done (k [])) (reaches-candidate (k (d i)) d (suc i)) r (none-reaches (k (d i)) d (suc i) (omega arith))
     where
       go : (p q : Bool) → p || q ≡ true → q ≡ false → p ≡ true
       go true q r e = refl
       go false q r e = absurd (differ (sym e ∙ r))
-  last-is (ask t p k) replies i (suc j) b x f e r roomy =
-      last-is (k (d i)) (suc replies) (suc i) j (x .held) (reply (x .held) (d i)) (f .2 (d i) (long i) (roomy zero (omega arith))) (omega arith) (go (is-done (k [])) (reaches-candidate (k (d i)) d (suc i)) r refl) (λ l l<. roomy (suc l) (omega arith))
+  last-is (ask t p k) replies i (suc j) b x f e r enough =
+      last-is (k (d i)) (suc replies) (suc i) j (x .held) (reply (x .held) (d i)) (f .2 (d i) (long i) (enough zero (omega arith))) (omega arith) (go (is-done (k [])) (reaches-candidate (k (d i)) d (suc i)) r refl) (λ l l<. enough (suc l) (omega arith))
     where
       go : (p q : Bool) → p || q ≡ true → is-done (k []) ≡ p → q ≡ true
       go true q r y = absurd (let z = none-after (x .held .kept .phase) k (f .3) (sym (f .3 .finite-done [] refl) ∙ y) (d i) d (suc i) in omega arith)
@@ -116,34 +116,34 @@ module _ (h : Held) (a : Arguments) (d : ℕ → List Float) (long : (i : ℕ) �
   abbrev found : ℕ → Held
   found m = after m d 0 (attempt h a) .held
 
-  roomy-to : Allowed h a → (m : ℕ) → m < replies-to h a d → h .counters .evaluations + m < 2 ^ 64 → Roomy h a d m
-  unfolding Roomy
-  roomy-to p m lt fit = finds (in-one-piece h a) 0 0 m h (attempt h a) (attempt-follows h a p) lt (omega arith)
+  room-for-first : Allowed h a → (m : ℕ) → m < replies-to h a d → h .counters .evaluations + m < 2 ^ 64 → Room-for-first h a d m
+  unfolding Room-for-first
+  room-for-first p m lt fit = finds (in-one-piece h a) 0 0 m h (attempt h a) (attempt-follows h a p) lt (omega arith)
 
   -- room for m evaluations of those that it asks for, and no more
-  pub evaluations-lack : Allowed h a → (m : ℕ) → m < replies-to h a d → h .counters .evaluations + m ≡ 2 ^ 64 - 1 → Sticks h a d m
-  unfolding Roomy has-room room
-  evaluations-lack p m lt e = sticks p m lt roomy (full (along (in-one-piece h a) 0 0 m h (attempt h a) (attempt-follows h a p) roomy lt .1))
+  pub evaluations-lack : Allowed h a → (m : ℕ) → m < replies-to h a d → h .counters .evaluations + m ≡ 2 ^ 64 - 1 → Counters-full-at h a d m
+  unfolding Room-for-first has-room room
+  evaluations-lack p m lt e = counters-full-at p m lt enough (full (along (in-one-piece h a) 0 0 m h (attempt h a) (attempt-follows h a p) enough lt .1))
     where
-      roomy : Roomy h a d m
-      roomy = roomy-to p m lt (omega arith)
+      enough : Room-for-first h a d m
+      enough = room-for-first p m lt (omega arith)
 
       full : Waits h (0 + m) (after m d 0 (attempt h a)) → room-in (found m) ≡ false
       full w = rw (le-ltb (found m .counters .evaluations) (2 ^ 64 - 1) (let q = w .evaluations-are in omega arith))
 
   -- room for all evaluations, and none for the finished attempt: the reply to the candidate's evaluation is turned away
-  pub attempts-lack : Allowed h a → (m : ℕ) → suc m ≡ replies-to h a d → reaches-candidate (in-one-piece h a) d 0 ≡ true → h .counters .evaluations + m < 2 ^ 64 → 2 ^ 64 - 1 ≤ h .counters .«finished_attempts» → Sticks h a d m
-  unfolding Roomy has-room room
-  attempts-lack p m e r fit t = sticks p m lt roomy (full (along (in-one-piece h a) 0 0 m h (attempt h a) (attempt-follows h a p) roomy lt .1))
+  pub attempts-lack : Allowed h a → (m : ℕ) → suc m ≡ replies-to h a d → reaches-candidate (in-one-piece h a) d 0 ≡ true → h .counters .evaluations + m < 2 ^ 64 → 2 ^ 64 - 1 ≤ h .counters .«finished_attempts» → Counters-full-at h a d m
+  unfolding Room-for-first has-room room
+  attempts-lack p m e r fit t = counters-full-at p m lt enough (full (along (in-one-piece h a) 0 0 m h (attempt h a) (attempt-follows h a p) enough lt .1))
     where
       lt : m < replies-to h a d
       lt = omega arith
 
-      roomy : Roomy h a d m
-      roomy = roomy-to p m lt fit
+      enough : Room-for-first h a d m
+      enough = room-for-first p m lt fit
 
       closing : finishes (found m .kept .phase) ≡ true
-      closing = last-is (in-one-piece h a) 0 0 m h (attempt h a) (attempt-follows h a p) e r roomy
+      closing = last-is (in-one-piece h a) 0 0 m h (attempt h a) (attempt-follows h a p) e r enough
 
       full : Waits h (0 + m) (after m d 0 (attempt h a)) → room-in (found m) ≡ false
       full w = and-none (room (found m .counters .evaluations)) _ (rw (closing, le-ltb (found m .counters .«finished_attempts») (2 ^ 64 - 1) (let q = w .attempts-are in omega arith)))

@@ -6,12 +6,12 @@ use Rattle.family.specs.Family.{known}
 use Rattle.workspace.specs.Vectors.{unpack}
 use Rattle.workspace.specs.declared.Arguments.{Arguments}
 use Rattle.driver.specs.Calls.{Held, Called, accepted, sized, whole-area, may-attempt, may-accept, good-times, good-tolerances, check, going-on, accept}
-use Rattle.session.specs.Attempt.{Outcome}
+use Rattle.session.specs.Attempt.{Finished-attempt}
 use Rattle.session.specs.Claim.{Allowed, Finishes}
 use Rattle.workspace.proofs.Areas.{unpack-pack}
 use Rattle.session.proofs.Lengths.{whole-pack}
 
-module _ (h : Held) (a : Arguments) (p : Allowed h a) (o : Outcome) (replies : ℕ) (x : Called) (f : Finishes h a o replies x) where
+module _ (h : Held) (a : Arguments) (p : Allowed h a) (o : Finished-attempt) (replies : ℕ) (x : Called) (f : Finishes h a o replies x) where
   family-known : known (x .held .kept .family) ≡ true
   family-known = rw (f .family-is) (p .family-known)
 
@@ -21,7 +21,7 @@ module _ (h : Held) (a : Arguments) (p : Allowed h a) (o : Outcome) (replies : �
   area-whole : whole-area (x .held .kept .family) (x .held .kept .n) (x .held .area) ≡ true
   area-whole = rw (f .family-is, f .n-is, f .area-is) (whole-pack (h .kept .family) (h .kept .n) (o .vectors) (f .vectors-long))
 
-  -- the area holds the outcome's vectors
+  -- the area holds the vectors of the finished attempt
   pub vectors-are : unpack (x .held .kept .n) (x .held .area) ≡ o .vectors
   vectors-are = rw (f .n-is, f .area-is) (unpack-pack (h .kept .n) (o .vectors) (f .vectors-long))
 

@@ -17,7 +17,7 @@ use Rattle.driver.specs.declared.Counters.{Counters}
 use Rattle.driver.specs.declared.Answer.{Answer}
 use Rattle.driver.specs.declared.Answer.the-variants.{Evaluate, Finished, Ready, Refused, Empty}
 use Rattle.driver.specs.Calls.{Held, Called, step-to, in-phase, replied, sized, whole-area, awaiting, finishes, going-on, counted, spoiled, settled, reply}
-use Rattle.session.specs.Attempt.{Asking, done, stopped, ask, _>>=_, evaluate, Outcome, Evaluated, is-done}
+use Rattle.session.specs.Attempt.{Asking, done, stopped, ask, _>>=_, evaluate, Finished-attempt, Evaluated, is-done}
 use Rattle.session.specs.Claim.{called-for, Allowed, room-in}
 use Rattle.session.specs.Alike.{Alike, Same, Same-start}
 use Rattle.session.specs.Session.{Shown, evaluates, ready-at, stops, nothing, Seen, answer-shown, call-seen, Resting, ready-with, tried, Doing, none, within, Session, finished-by, counts-on, doing-shown, session-seen, has-tried}
@@ -114,10 +114,10 @@ tell t p Ready h e = absurd (subst some-empty e tt)
 tell t p (Refused i) h e = absurd (subst some-empty e tt)
 tell t p Empty h e = absurd (subst some-empty e tt)
 
-abbrev on : Asking Outcome → Asking Resting
+abbrev on : Asking Finished-attempt → Asking Resting
 on m = m >>= λ o. done (tried o)
 
-alike-done : (m m′ : Asking Outcome) → Alike Same m m′ → has-tried (within (on m′)) ≡ is-done m
+alike-done : (m m′ : Asking Finished-attempt) → Alike Same m m′ → has-tried (within (on m′)) ≡ is-done m
 unfolding _>>=_ has-tried is-done
 alike-done (done o) (done o′) s = refl
 alike-done (done o) (stopped j w) s = absurd s
@@ -141,9 +141,9 @@ module _ (h : Held) (a : Arguments) (ok : Allowed h a) where
     pub shows : Shows (h .kept .family) (h .kept .n) m (x .held)
 
   -- calls that follow one attempt show a session's that is alike
-  pub goes : (m m′ : Asking Outcome) (e : ℕ) (b : Held) (x : Called) → Follows h a e b m x → Alike Same m m′ → Goes e (on m′) x
+  pub goes : (m m′ : Asking Finished-attempt) (e : ℕ) (b : Held) (x : Called) → Follows h a e b m x → Alike Same m m′ → Goes e (on m′) x
   unfolding Follows Shows _>>=_ answer-shown doing-shown finished-by counts-on in-phase all-finite
-  goes (done o) (done o′) e b x f s = subst (λ (z : Outcome). Goes e (done (tried z)) x) s (record {
+  goes (done o) (done o′) e b x f s = subst (λ (z : Finished-attempt). Goes e (done (tried z)) x) s (record {
     shown-is = rw (f .answer-is, f .stages-are, f .passes-are, f .radius-is, f .n-is, f .area-is, unpack-pack (h .kept .n) (o .vectors) (f .vectors-long));
     counts-are = λ c w. same-counters (x .held .counters) _ (let q = f .evaluations-are in let q′ = w .evaluations-were in omega arith) (let q = f .attempts-are in let q′ = w .attempts-were in omega arith);
     shows = (

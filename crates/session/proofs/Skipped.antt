@@ -4,7 +4,7 @@ use mathlib.Core.Bool.{Bool, true, false, cond}
 use mathlib.Core.List.{List, [], _∷_}
 use Rattle.driver.specs.Calls.{Held, Call, made, taken}
 use Rattle.session.specs.Session.{Seen, call-seen, seen-of, taken-of, held-after}
-use Rattle.session.proofs.Lives.{left}
+use Rattle.session.proofs.Sequences.{left}
 
 pub skipped : (h : Held) (cs : List Call) → (seen-of h (taken-of h cs) ≡ seen-of h cs) × (held-after h (taken-of h cs) ≡ held-after h cs)
 unfolding seen-of taken-of held-after

@@ -22,7 +22,7 @@ use Rattle.driver.specs.declared.Need.the-variants.{Met}
 use Rattle.driver.specs.declared.Counters.{Counters}
 use Rattle.driver.specs.declared.Answer.the-variants.{Evaluate, Refused}
 use Rattle.driver.specs.Calls.{Held, step-to, in-phase, at-stage, ask-stage, stage-need, ask-candidate, take-stage, take-candidate, replied, sized, pending, in-range, awaiting, finishes, going-on, counted, settled}
-use Rattle.session.specs.Attempt.{Asking, done, stopped, _>>=_, evaluate, stage-loop, outcome, close, is-done}
+use Rattle.session.specs.Attempt.{Asking, done, stopped, _>>=_, evaluate, stage-loop, finished-attempt, close, is-done}
 use Rattle.session.proofs.Truth.{both}
 use Rattle.session.proofs.Follows.{Follows}
 use Rattle.session.proofs.Asked.{Counted, one-more, counted-on, Intact, intact-row, intact-exchanged, intact-candidate, at, pending-at, asked}
@@ -42,7 +42,7 @@ module _ (h : Held) (a : Arguments) (hk : known (h .kept .family) ≡ true) (hs 
   close-undone s k r v = go (all-finite (with-candidate v candidate))
     where
       go : (t : Bool) → is-done (cond t
-          (evaluate (with-candidate v) (a .time ⊕ a .step) (with-candidate v candidate) >>= λ d. done (outcome F (h .kept .n) a s k r (with-last F (h .kept .n) a (with-candidate v) d)))
+          (evaluate (with-candidate v) (a .time ⊕ a .step) (with-candidate v candidate) >>= λ d. done (finished-attempt F (h .kept .n) a s k r (with-last F (h .kept .n) a (with-candidate v) d)))
           (stopped 10 (with-candidate v))) ≡ false
       go true = refl
       go false = refl
@@ -56,7 +56,7 @@ module _ (h : Held) (a : Arguments) (hk : known (h .kept .family) ≡ true) (hs 
 
     candidate-follows : (j : ℕ) (rc : Recurrence) (v w : Vectors) (c : Counters) (e : ℕ) → Intact h w → Counted h e c → e + 2 ≡ k + s
         → Follows h a (suc e) (pending-at h a hk hs P.Stage I (staging-at s j rc) v c) (close F (h .kept .n) a s k r w) (settled c (ask-candidate (at h a P.Stage I (staging-at s j rc)) (with-candidate w)))
-    unfolding Follows close outcome evaluate _>>=_ ask-candidate settled going-on counted in-phase pending in-range awaiting finishes replied take-candidate with-last is-done
+    unfolding Follows close finished-attempt evaluate _>>=_ ask-candidate settled going-on counted in-phase pending in-range awaiting finishes replied take-candidate with-last is-done
     candidate-follows j rc v w c e hw hc e≡ = go (all-finite (with-candidate w candidate)) refl
       where
         last-stands : (d : List Float) (b : Vector) → eqb 1 (number b) ≡ false → eqb 2 (number b) ≡ false → with-last F (h .kept .n) a (with-candidate w) d b ≡ with-candidate w b
@@ -75,14 +75,14 @@ module _ (h : Held) (a : Arguments) (hk : known (h .kept .family) ≡ true) (hs 
 
         go : (t : Bool) → all-finite (with-candidate w candidate) ≡ t → Follows h a (suc e) (pending-at h a hk hs P.Stage I (staging-at s j rc) v c)
             (cond t
-            (evaluate (with-candidate w) (a .time ⊕ a .step) (with-candidate w candidate) >>= λ d. done (outcome F (h .kept .n) a s k r (with-last F (h .kept .n) a (with-candidate w) d)))
+            (evaluate (with-candidate w) (a .time ⊕ a .step) (with-candidate w candidate) >>= λ d. done (finished-attempt F (h .kept .n) a s k r (with-last F (h .kept .n) a (with-candidate w) d)))
             (stopped 10 (with-candidate w)))
             (settled c (cond t
             (step-to (Evaluate (a .time ⊕ a .step) (number candidate)) (at h a P.Candidate I (staging-at s j rc)) (with-candidate w))
             (step-to (Refused 10) (at h a P.Empty I (staging-at s j rc)) (with-candidate w))))
         go true finite =
             asked h a hk hs P.Candidate I (staging-at s j rc) (with-candidate w) (one-more h c) (suc e) (a .time ⊕ a .step) candidate (pending-at h a hk hs P.Stage I (staging-at s j rc) v c)
-            (λ m. m >>= λ d. done (outcome F (h .kept .n) a s k r (with-last F (h .kept .n) a (with-candidate w) d)))
+            (λ m. m >>= λ d. done (finished-attempt F (h .kept .n) a s k r (with-last F (h .kept .n) a (with-candidate w) d)))
             (intact-candidate h w hw) (counted-on h hc) hs′ refl (λ d fin. refl)
             (λ d hd fin. record {
               answer-is = refl;

@@ -12,7 +12,7 @@ use Rattle.driver.specs.declared.Record.{Record}
 use Rattle.driver.specs.declared.Counters.{Counters}
 use Rattle.driver.specs.declared.Answer.the-variants.{Refused}
 use Rattle.driver.specs.Calls.{Held, Called, sized, whole-area, as-long, pending, in-range, awaiting, may-attempt, may-accept, room, has-room, check, taken}
-use Rattle.session.specs.Attempt.{done, stopped, ask, Outcome}
+use Rattle.session.specs.Attempt.{done, stopped, ask, Finished-attempt}
 use Rattle.session.specs.Session.{ready-with, tried, Doing, none, within, Session, rests, has-tried, waits, waits-with-room}
 use Rattle.session.proofs.Truth.{differ, and-left}
 use Rattle.session.proofs.Shows.{At, Shows, Does}
@@ -106,18 +106,18 @@ module _ (h : Held) where
   place f n (within (stopped i v)) e = outside refl refl refl
   place f n (within (ask t p k)) e = from-at f n (h .kept .phase) (within (ask t p k)) (e .0)
 
-pub roomy-alike : (h : Held) (σ : Session) → h .counters ≡ σ .counts → (δ : Doing) → Does (σ .family) (σ .n) δ h → awaiting (h .kept) && has-room (h .kept .phase) (h .counters) ≡ waits-with-room δ (σ .counts)
+pub room-alike : (h : Held) (σ : Session) → h .counters ≡ σ .counts → (δ : Doing) → Does (σ .family) (σ .n) δ h → awaiting (h .kept) && has-room (h .kept .phase) (h .counters) ≡ waits-with-room δ (σ .counts)
 unfolding Does Shows waits-with-room has-room waits
-roomy-alike h σ cs none e = ap (λ (b : Bool). b && has-room (h .kept .phase) (h .counters)) (standing h (σ .family) (σ .n) none e .awaiting-is·waits)
-roomy-alike h σ cs (within (done r)) e = ap (λ (b : Bool). b && has-room (h .kept .phase) (h .counters)) (standing h (σ .family) (σ .n) (within (done r)) e .awaiting-is·waits)
-roomy-alike h σ cs (within (stopped i v)) e = ap (λ (b : Bool). b && has-room (h .kept .phase) (h .counters)) (standing h (σ .family) (σ .n) (within (stopped i v)) e .awaiting-is·waits)
-roomy-alike h σ cs (within (ask t p k)) e =
+room-alike h σ cs none e = ap (λ (b : Bool). b && has-room (h .kept .phase) (h .counters)) (standing h (σ .family) (σ .n) none e .awaiting-is·waits)
+room-alike h σ cs (within (done r)) e = ap (λ (b : Bool). b && has-room (h .kept .phase) (h .counters)) (standing h (σ .family) (σ .n) (within (done r)) e .awaiting-is·waits)
+room-alike h σ cs (within (stopped i v)) e = ap (λ (b : Bool). b && has-room (h .kept .phase) (h .counters)) (standing h (σ .family) (σ .n) (within (stopped i v)) e .awaiting-is·waits)
+room-alike h σ cs (within (ask t p k)) e =
     ap (λ (b : Bool). b && has-room (h .kept .phase) (h .counters)) (e .1)
     ∙ ap₂ (λ (b : Bool) (c : Counters). room (c .evaluations) && (not b || room (c .«finished_attempts»))) (e .2) cs
 
 -- an attempt is finished
 pub data Finished-at (h : Held) (f n : ℕ) : Doing → Type 0 where
-  finished-at : (o : Outcome) → At f n P.Finished h → unpack (h .kept .n) (h .area) ≡ o .vectors → Finished-at h f n (within (done (tried o)))
+  finished-at : (o : Finished-attempt) → At f n P.Finished h → unpack (h .kept .n) (h .area) ≡ o .vectors → Finished-at h f n (within (done (tried o)))
 
 pub rested : (h : Held) (f n : ℕ) (δ : Doing) → Does f n δ h → may-accept (h .kept .phase) ≡ true → Finished-at h f n δ
 unfolding Does Shows may-accept

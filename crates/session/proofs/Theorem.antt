@@ -11,7 +11,7 @@ use Rattle.driver.specs.declared.Answer.{Answer}
 use Rattle.driver.specs.declared.Answer.the-variants.{Evaluate, Finished, Ready, Refused, Empty}
 use Rattle.driver.specs.Answers.{case-number, case-values, Says}
 use Rattle.driver.specs.Calls.{Held, Called, attempt, reply}
-use Rattle.session.specs.Attempt.{Asking, done, stopped, ask, Outcome, Evaluated, evaluated, End, reached, end}
+use Rattle.session.specs.Attempt.{Asking, done, stopped, ask, Finished-attempt, Evaluated, evaluated, End, reached, end}
 use Rattle.session.specs.Claim.{called-for, Allowed, Fits, Finishes, Ends, after, last-found, in-one-piece, replies-to, Runs, Took}
 use Rattle.session.proofs.Served.{stages-from}
 use Rattle.session.proofs.Follows.{some-empty, Ahead, ahead-room, ahead-on, Follows, same-points, same-ends}
@@ -37,7 +37,7 @@ calls Ready g e q = absurd (subst some-empty q tt)
 calls (Refused i) g e q = absurd (subst some-empty q tt)
 calls Empty g e q = absurd (subst some-empty q tt)
 
-each-calls : (h : Held) (a : Arguments) (d : ℕ → List Float) (long : (i : ℕ) → length (d i) ≡ h .kept .n) (total : ℕ) (fits : _) (m : Asking Outcome) (replies i : ℕ) (b : Held) (x : Called)
+each-calls : (h : Held) (a : Arguments) (d : ℕ → List Float) (long : (i : ℕ) → length (d i) ≡ h .kept .n) (total : ℕ) (fits : _) (m : Asking Finished-attempt) (replies i : ℕ) (b : Held) (x : Called)
     → Ahead h a d long total fits m replies i → Follows h a replies b m x → (j : ℕ) → j < length (evaluated m d i) → case-number (after j d i x .answer) ≡ 1
 unfolding Follows evaluated after
 each-calls h a d long total fits (done o) replies i b x l f j lt = absurd (not-suc-le-zero lt)
@@ -50,9 +50,9 @@ each-calls h a d long total fits (ask t p k) replies i b x l f (suc j) lt =
 same-says : (x y : Answer) → x ≡ y → Says x y
 same-says x y e = record { same-case = ap case-number e; same-values = ap case-values e }
 
-module _ (h : Held) (a : Arguments) (d : ℕ → List Float) (o : Outcome) (p : Allowed h a) (long : (i : ℕ) → length (d i) ≡ h .kept .n) (fits : Fits h a d) (e : end (in-one-piece h a) d 0 ≡ reached o) where
+module _ (h : Held) (a : Arguments) (d : ℕ → List Float) (o : Finished-attempt) (p : Allowed h a) (long : (i : ℕ) → length (d i) ≡ h .kept .n) (fits : Fits h a d) (e : end (in-one-piece h a) d 0 ≡ reached o) where
   finishes-then : Finishes h a o (replies-to h a d) (after (replies-to h a d) d 0 (attempt h a))
-  finishes-then = subst (λ (z : End Outcome). Ends h a z (replies-to h a d) (last-found (replies-to h a d) d 0 h (attempt h a)) (after (replies-to h a d) d 0 (attempt h a))) e (run h a d p long fits .same-end)
+  finishes-then = subst (λ (z : End Finished-attempt). Ends h a z (replies-to h a d) (last-found (replies-to h a d) d 0 h (attempt h a)) (after (replies-to h a d) d 0 (attempt h a))) e (run h a d p long fits .same-end)
 
   pub finished : Finishes h a o (o .stages + o .passes) (after (o .stages + o .passes) d 0 (attempt h a))
   finished = subst (λ (i : ℕ). Finishes h a o i (after i d 0 (attempt h a))) (finishes-then .replies-are) finishes-then

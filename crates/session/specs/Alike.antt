@@ -21,7 +21,7 @@ Alike R (ask t p k) (ask u q l) = (t ≡ u) × (p ≡ q) × ((d : List Float) �
 abbrev pub Same : {A : Type 0} → A → A → Type 0
 Same x y = x ≡ y
 
--- the same outcome, or refused with the same number
+-- the same finished attempt, or refused with the same number
 abbrev pub Same-end : {A : Type 0} → End A → End A → Type 0
 Same-end (reached x) (reached y) = x ≡ y
 Same-end (reached x) (refused j w) = ⊥

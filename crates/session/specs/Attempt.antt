@@ -47,7 +47,7 @@ pub record Radius : Type 0 where
   pub vectors : Vectors
 
 -- a finished attempt: its error norm, s, k, r, and the vectors, the candidate among them
-pub record Outcome : Type 0 where
+pub record Finished-attempt : Type 0 where
   pub norm : Float
   pub stages : ℕ
   pub passes : ℕ
@@ -85,19 +85,19 @@ module _ (f : Family) (n : ℕ) (a : Arguments) where
   run-recurrence s v = let c = recurrence f s in
       stage-loop s (s - 1) 2 c (first-stage n (a .step) (c .«theta_previous») v)
 
-  unfoldable pub outcome : ℕ → ℕ → Float → Vectors → Outcome
-  outcome s k r v = record { norm = error-norm f n s a v; stages = s; passes = k; scaled-radius = r; vectors = v }
+  unfoldable pub finished-attempt : ℕ → ℕ → Float → Vectors → Finished-attempt
+  finished-attempt s k r v = record { norm = error-norm f n s a v; stages = s; passes = k; scaled-radius = r; vectors = v }
 
   -- `finite(candidate)?`, then the evaluation at the candidate and the error
-  unfoldable pub close : ℕ → ℕ → Float → Vectors → Asking Outcome
+  unfoldable pub close : ℕ → ℕ → Float → Vectors → Asking Finished-attempt
   close s k r v = let v = with-candidate v in
       cond (all-finite (v candidate))
       (do
         d ← evaluate v (a .time ⊕ a .step) (v candidate)
-        done (outcome s k r (with-last f n a v d)))
+        done (finished-attempt s k r (with-last f n a v d)))
       (stopped 10 v)
 
-  unfoldable pub attempt-step : Vectors → Asking Outcome
+  unfoldable pub attempt-step : Vectors → Asking Finished-attempt
   attempt-step v = do
     found ← spectral-radius v
     let r = scaled (a .step) (found .radius)

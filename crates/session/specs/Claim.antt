@@ -15,7 +15,7 @@ use Rattle.driver.specs.declared.Answer.{Answer}
 use Rattle.driver.specs.declared.Answer.the-variants.{Evaluate, Finished, Ready, Refused, Empty}
 use Rattle.driver.specs.Answers.{case-number, Says}
 use Rattle.driver.specs.Calls.{Held, Called, in-phase, stage-need, sized, whole-area, awaiting, has-room, may-attempt, good-times, good-tolerances, attempt, reply, Call, Reply}
-use Rattle.session.specs.Attempt.{Asking, Outcome, Evaluated, evaluated, reaches-candidate, End, reached, refused, end, attempt-step}
+use Rattle.session.specs.Attempt.{Asking, Finished-attempt, Evaluated, evaluated, reaches-candidate, End, reached, refused, end, attempt-step}
 use Rattle.session.specs.Refusals.{largest-number}
 
 -- ---- a call, and then replies d i, d (i + 1), ..
@@ -76,7 +76,7 @@ pub record Waits (h : Held) (replies : ℕ) (x : Called) : Type 0 where
   pub attempts-are : x .held .counters .«finished_attempts» ≡ h .counters .«finished_attempts»
 
 -- finished after this many replies, from h with the arguments a
-pub record Finishes (h : Held) (a : Arguments) (o : Outcome) (replies : ℕ) (x : Called) : Type 0 where
+pub record Finishes (h : Held) (a : Arguments) (o : Finished-attempt) (replies : ℕ) (x : Called) : Type 0 where
   pub answer-is : x .answer ≡ Finished (o .norm)
   pub area-is : x .held .area ≡ pack (o .vectors)
   pub vectors-long : (b : Vector) → length (o .vectors b) ≡ h .kept .n
@@ -114,12 +114,12 @@ pub record Stops (h : Held) (b : Held) (i : ℕ) (v : Vectors) (replies : ℕ) (
   pub evaluations-are : x .held .counters .evaluations ≡ h .counters .evaluations + replies
   pub attempts-are : x .held .counters .«finished_attempts» ≡ h .counters .«finished_attempts»
 
-abbrev pub Ends : Held → Arguments → End Outcome → ℕ → Held → Called → Type 0
+abbrev pub Ends : Held → Arguments → End Finished-attempt → ℕ → Held → Called → Type 0
 Ends h a (reached o) replies b x = Finishes h a o replies x
 Ends h a (refused i v) replies b x = Stops h b i v replies x
 
 -- the attempt in one piece from the vectors of the area
-abbrev pub in-one-piece : Held → Arguments → Asking Outcome
+abbrev pub in-one-piece : Held → Arguments → Asking Finished-attempt
 in-one-piece h a = attempt-step (family-of (h .kept .family)) (h .kept .n) a (unpack (h .kept .n) (h .area))
 
 -- room for the next reply
@@ -141,7 +141,7 @@ pub record Runs (h : Held) (a : Arguments) (d : ℕ → List Float) : Type 0 whe
       (last-found (replies-to h a d) d 0 h (attempt h a)) (after (replies-to h a d) d 0 (attempt h a))
 
 -- What a finished attempt took, in the order's words: s + k replies with k from 1 to 12, each but the last answered by a further evaluation and the last by finished with its norm; the counters rose by s + k and by 1.
-pub record Took (h : Held) (a : Arguments) (d : ℕ → List Float) (o : Outcome) (x : Called) : Type 0 where
+pub record Took (h : Held) (a : Arguments) (d : ℕ → List Float) (o : Finished-attempt) (x : Called) : Type 0 where
   pub replies-are : replies-to h a d ≡ o .stages + o .passes
   pub one-pass : 1 ≤ o .passes
   pub twelve-passes : o .passes ≤ 12
@@ -151,14 +151,14 @@ pub record Took (h : Held) (a : Arguments) (d : ℕ → List Float) (o : Outcome
   pub evaluations-are : x .held .counters .evaluations ≡ h .counters .evaluations + (o .stages + o .passes)
   pub attempts-are : x .held .counters .«finished_attempts» ≡ h .counters .«finished_attempts» + 1
 
--- ---- and where the counters lack room
+-- ---- and where the counters are full
 
--- the first m replies find room
-unfoldable pub Roomy : Held → Arguments → (ℕ → List Float) → ℕ → Type 0
-Roomy h a d m = (j : ℕ) → j < m → room-in (after j d 0 (attempt h a) .held) ≡ true
+-- the first m replies find room in the counters
+unfoldable pub Room-for-first : Held → Arguments → (ℕ → List Float) → ℕ → Type 0
+Room-for-first h a d m = (j : ℕ) → j < m → room-in (after j d 0 (attempt h a) .held) ≡ true
 
 -- m replies go as in the attempt in one piece, up to its evaluation m, and every later reply is turned away with 8 and leaves everything
-pub record Sticks (h : Held) (a : Arguments) (d : ℕ → List Float) (m : ℕ) : Type 0 where
+pub record Counters-full-at (h : Held) (a : Arguments) (d : ℕ → List Float) (m : ℕ) : Type 0 where
   pub same-evaluations : answers (suc m) d 0 (attempt h a) ≡ take (suc m) (evaluated (in-one-piece h a) d 0)
   pub waits : Waits h m (after m d 0 (attempt h a))
   pub left : (i : ℕ) → after (suc i) d m (after m d 0 (attempt h a)) ≡ record { answer = Refused 8; held = after m d 0 (attempt h a) .held }

@@ -27,13 +27,13 @@ largest-number = 10
 -- turned away with a number, or not
 pub data Verdict : Type 0 where
   goes-on : Verdict
-  turned-away : ℕ → Verdict
+  refused-with : ℕ → Verdict
 
 abbrev pub verdict-of : Answer → Verdict
 verdict-of (Evaluate t b) = goes-on
 verdict-of (Finished e) = goes-on
 verdict-of Ready = goes-on
-verdict-of (Refused i) = turned-away i
+verdict-of (Refused i) = refused-with i
 verdict-of Empty = goes-on
 
 -- a test's number, and whether it passes
@@ -48,7 +48,7 @@ number ∶ passes = record { number = number; passes = passes }
 -- by the first test that fails
 abbrev pub first-failing : List Test → Verdict
 first-failing [] = goes-on
-first-failing (t ∷ ts) = cond (t .passes) (first-failing ts) (turned-away (t .number))
+first-failing (t ∷ ts) = cond (t .passes) (first-failing ts) (refused-with (t .number))
 
 unfoldable pub start-tests : Held → ℕ → ℕ → List Float → Float → List Test
 start-tests h f n y t =

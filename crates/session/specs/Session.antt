@@ -14,7 +14,7 @@ use Rattle.driver.specs.declared.Counters.{Counters}
 use Rattle.driver.specs.declared.Answer.{Answer}
 use Rattle.driver.specs.declared.Answer.the-variants.{Evaluate, Finished, Ready, Refused, Empty}
 use Rattle.driver.specs.Calls.{Held, Called, reply, Call, Start, Attempt, Reply, Accept, Accept-with-callback, Abandon, made, taken, sized, as-long, good-times, good-tolerances, room}
-use Rattle.session.specs.Attempt.{Asking, done, stopped, ask, _>>=_, evaluate, Outcome, Evaluated, attempt-step}
+use Rattle.session.specs.Attempt.{Asking, done, stopped, ask, _>>=_, evaluate, Finished-attempt, Evaluated, attempt-step}
 
 -- ---- the calls over a list of them
 
@@ -30,12 +30,12 @@ pub record Seen : Type 0 where
   pub shown : Shown
   pub counts : Counters
 
--- an evaluation and an outcome of the attempt in one piece, so seen
+-- an evaluation and the finished end of the attempt in one piece, so seen
 abbrev pub evaluation-shown : Evaluated → Shown
 evaluation-shown x = evaluates (x .time) (x .point)
 
-abbrev pub outcome-shown : Outcome → Shown
-outcome-shown o = finished-with (o .norm) (o .stages) (o .passes) (o .scaled-radius) (o .vectors candidate)
+abbrev pub finished-shown : Finished-attempt → Shown
+finished-shown o = finished-with (o .norm) (o .stages) (o .passes) (o .scaled-radius) (o .vectors candidate)
 
 unfoldable pub answer-shown : Answer → Held → Shown
 answer-shown (Evaluate t b) h = evaluates t (unpack (h .kept .n) (h .area) (named b))
@@ -72,7 +72,7 @@ seen-along (suc m) d i x = call-seen x ∷ seen-along m d (suc i) (reply (x .hel
 -- between two of them: ready, or an attempt is finished
 pub data Resting : Type 0 where
   ready-with : Vectors → Resting
-  tried : Outcome → Resting
+  tried : Finished-attempt → Resting
 
 unfoldable pub vectors-of : Resting → Vectors
 vectors-of (ready-with v) = v
@@ -147,19 +147,19 @@ doing-now σ δ = record { family = σ .family; n = σ .n; doing = δ; counts = 
 unfoldable pub replied-with : List Float → Doing → Doing
 replied-with d δ = waiting (λ k. within (k d)) δ
 
-unfoldable pub step : Session → Call → Session
-step σ (Start f n y t) = record { family = f; n = n; doing = within (initialize n y t); counts = σ .counts }
-step σ (Attempt a) = doing-now σ (at-rest (λ r. within (tries (σ .family) (σ .n) a (vectors-of r))) (σ .doing))
-step σ (Reply d) = let δ = replied-with d (σ .doing) in
+unfoldable pub session-after : Session → Call → Session
+session-after σ (Start f n y t) = record { family = f; n = n; doing = within (initialize n y t); counts = σ .counts }
+session-after σ (Attempt a) = doing-now σ (at-rest (λ r. within (tries (σ .family) (σ .n) a (vectors-of r))) (σ .doing))
+session-after σ (Reply d) = let δ = replied-with d (σ .doing) in
     record { family = σ .family; n = σ .n; doing = δ; counts = counts-on δ (σ .counts) }
-step σ Accept = doing-now σ (at-rest (after-attempt (λ v. within (accept-step v))) (σ .doing))
-step σ (Accept-with-callback y t) = doing-now σ (at-rest (after-attempt (λ v. within (callback-step (σ .n) y t v))) (σ .doing))
-step σ Abandon = doing-now σ (waiting (λ k. none) (σ .doing))
+session-after σ Accept = doing-now σ (at-rest (after-attempt (λ v. within (accept-step v))) (σ .doing))
+session-after σ (Accept-with-callback y t) = doing-now σ (at-rest (after-attempt (λ v. within (callback-step (σ .n) y t v))) (σ .doing))
+session-after σ Abandon = doing-now σ (waiting (λ k. none) (σ .doing))
 
 unfoldable pub doing-shown : Doing → Shown
 doing-shown none = nothing
 doing-shown (within (done (ready-with v))) = ready-at (v state) (v first-derivative)
-doing-shown (within (done (tried o))) = outcome-shown o
+doing-shown (within (done (tried o))) = finished-shown o
 doing-shown (within (stopped i v)) = stops i
 doing-shown (within (ask t p k)) = evaluates t p
 
@@ -206,7 +206,7 @@ takes size σ Abandon = waits (σ .doing)
 -- what is seen of a session; a call that it does not take is skipped
 unfoldable pub session : ℕ → Session → List Call → List Seen
 session size σ [] = []
-session size σ (c ∷ cs) = cond (takes size σ c) (session-seen (step σ c) ∷ session size (step σ c) cs) (session size σ cs)
+session size σ (c ∷ cs) = cond (takes size σ c) (session-seen (session-after σ c) ∷ session size (session-after σ c) cs) (session size σ cs)
 
 -- nothing begun yet
 unfoldable pub fresh : Counters → Session

@@ -18,12 +18,12 @@ fn main() {
         }
     }
     for family in oracle::FAMILIES {
-        let told = oracle::rows(family, SAMPLE);
-        for row in &told.rows {
+        let recorded = oracle::rows(family, SAMPLE);
+        for row in &recorded.rows {
             print!("{family} {SAMPLE} {}", row.stage);
             for value in doubles(row)
                 .into_iter()
-                .chain([told.omega_one, told.first_mu_tilde])
+                .chain([recorded.omega_one, recorded.first_mu_tilde])
             {
                 print!(" {:016x}", value.to_bits());
             }
@@ -32,10 +32,10 @@ fn main() {
     }
 }
 
-fn digest(told: &Rows) -> u64 {
-    [told.omega_one, told.first_mu_tilde]
+fn digest(recorded: &Rows) -> u64 {
+    [recorded.omega_one, recorded.first_mu_tilde]
         .into_iter()
-        .chain(told.rows.iter().flat_map(doubles))
+        .chain(recorded.rows.iter().flat_map(doubles))
         .flat_map(|value| value.to_bits().to_le_bytes())
         .fold(0xcbf2_9ce4_8422_2325, |hash: u64, byte| {
             (hash ^ u64::from(byte)).wrapping_mul(0x100_0000_01b3)

@@ -6,8 +6,8 @@ fn main() -> std::io::Result<()> {
     let mut out = BufWriter::new(std::io::stdout().lock());
     for family in oracle::FAMILIES {
         for stages in oracle::permitted(family) {
-            let told = oracle::rows(family, stages);
-            for row in told.rows {
+            let recorded = oracle::rows(family, stages);
+            for row in recorded.rows {
                 write!(out, "{family} {stages} {}", row.stage)?;
                 for value in [
                     row.mu,
@@ -15,8 +15,8 @@ fn main() -> std::io::Result<()> {
                     row.mu_tilde,
                     row.gamma_tilde,
                     row.theta,
-                    told.omega_one,
-                    told.first_mu_tilde,
+                    recorded.omega_one,
+                    recorded.first_mu_tilde,
                 ] {
                     write!(out, " {:016X}", value.to_bits())?;
                 }

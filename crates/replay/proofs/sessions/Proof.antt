@@ -32,8 +32,8 @@ same-length-3 c = search needs
 returns : tie.Need-returns Inv-loop μ-loop
 returns c = search needs
 
-step-requires : tie.Need-step-requires Inv-loop μ-loop
-step-requires c κs = search needs
+next-record-requires : tie.Need-next-record-requires Inv-loop μ-loop
+next-record-requires c κs = search needs
 
 sub-left : tie.Need-sub-left Inv-loop μ-loop
 sub-left c = search needs
@@ -69,7 +69,7 @@ sessions-spec =
     same-length-2
     same-length-3
     returns
-    step-requires
+    next-record-requires
     sub-left
     loop-less
     loop-again

@@ -8,7 +8,7 @@ use lib.ListN.{length, length-replicate, replicate}
 use lib.Ieee.{Float}
 use Rattle.ieee.specs.Double.{nought}
 use Rattle.workspace.specs.Vectors.{_with_≔_, unpack, state}
-use Rattle.inverter.specs.Day.{Told, run, outset}
+use Rattle.inverter.specs.Day.{Gives-total, run, outset}
 use Rattle.inverter.proofs.Outset.{outset-area}
 use Rattle.inverter.proofs.minutes.from_rest.Statement.{statement}
 use Rattle.inverter.proofs.minutes.from_rest.Tie as tie
@@ -43,7 +43,7 @@ returns c = let s = c .before .before .before .before .before .before .before .b
     let l : length (s .args .area .now) ≡ 11 * m .n = ap length (s .pre .1 .0) ∙ length-replicate (11 * m .n) nought in
     let e = f .ensures ∙ ap (λ (a : List Float). unpack (m .n) a with state ≔ replicate (m .n) (m .initial)) (s .pre .1 .0) in
     let q = outset-area m (f .last .0) (f .kept .0 ∙ l) e in
-    subst (λ (a : List Float). Told (run m 0 (s .args .readings .now) (outset a)) (r .result) (r .last .1 .1 .1 .1 .0) (r .last .1 .1 .1 .1 .1 .0)) q (r .ensures)
+    subst (λ (a : List Float). Gives-total (run m 0 (s .args .readings .now) (outset a)) (r .result) (r .last .1 .1 .1 .1 .0) (r .last .1 .1 .1 .1 .1 .0)) q (r .ensures)
 
 pub from-rest-spec : {M : Type 1} → statement M
 from-rest-spec =

@@ -5,7 +5,7 @@ use Prim.Native.Nat.{_+_, _-_, _*_, _≤_, _<_}
 use native.Mathlib.Omega.{arith}
 use lib.ListN.{length, take, drop, length-set}
 use Rattle.inverter.specs.declared.Count.{Count}
-use Rattle.inverter.specs.Day.{given, no-count, Tally, tally, outset, run, total}
+use Rattle.inverter.specs.Day.{given, no-count, So-far, so-far, outset, run, total}
 use Rattle.inverter.proofs.Run.{above-most, refused-most, minute-turn, minutes-end}
 use Rattle.inverter.proofs.minutes.run.Statement.{statement}
 use Rattle.inverter.proofs.minutes.run.Tie as tie
@@ -14,7 +14,7 @@ abbrev Inv-loop : tie.InvT-loop
 Inv-loop m readings area₀ scratch₀ refusals₀ junctions₀ count₀ i₀ area scratch refusals junctions count i =
     (i ≤ length readings) × (11 * m .n ≤ length area) × (length area ≡ length area₀) × (length scratch ≡ m .n) × (length refusals ≡ length readings)
     × (length junctions ≡ length readings) × (count .above ≤ i) × (count .refused ≤ i)
-    × (run m 0 readings (outset area₀) ≡ run m i (drop i readings) (tally count area (take i refusals) (take i junctions)))
+    × (run m 0 readings (outset area₀) ≡ run m i (drop i readings) (so-far count area (take i refusals) (take i junctions)))
 
 abbrev μ-loop : tie.MeasureT-loop
 μ-loop m readings area₀ scratch₀ refusals₀ junctions₀ count₀ i₀ area scratch refusals junctions count i = length readings - i
@@ -34,7 +34,7 @@ loop-holds c = let s = c .before .before .before .before .before .before in
       s .pre .1 .1 .1 .1 .1,
       subst (λ (t : Count). t .above ≤ 0) (sym e) (omega arith),
       subst (λ (t : Count). t .refused ≤ 0) (sym e) (omega arith),
-      ap (λ (t : Count). run (s .args .m) 0 (s .args .readings .now) (tally t (s .args .area .now) [] [])) (sym e),
+      ap (λ (t : Count). run (s .args .m) 0 (s .args .readings .now) (so-far t (s .args .area .now) [] [])) (sym e),
     )
 
 upcoming-requires : tie.Need-upcoming-requires Inv-loop μ-loop
@@ -117,7 +117,7 @@ returns : tie.Need-returns Inv-loop μ-loop
 returns c = let a = c .before .before .before .before .before .before .before .before .before .args in
     let l = c .before .before .loop in
     let e = l .inv .8 ∙ minutes-end (a .m) (a .readings .now) (l .i) (l .count) (l .area) (l .refusals) (l .junctions) (c .before .loop-test .left) (l .inv .4) (l .inv .5) in
-    record { totals = c .total .ensures ∙ sym (ap total e); numbers = sym (ap (λ (t : Tally). t .refusals) e); temperatures = sym (ap (λ (t : Tally). t .junctions) e) }
+    record { totals = c .total .ensures ∙ sym (ap total e); numbers = sym (ap (λ (t : So-far). t .refusals) e); temperatures = sym (ap (λ (t : So-far). t .junctions) e) }
 
 pub run-spec : {M : Type 1} → statement M
 run-spec =

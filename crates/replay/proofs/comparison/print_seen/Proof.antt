@@ -1,8 +1,8 @@
 -- The places are counted up.
 use Prim.Native.Nat.{_-_}
 use borrow.Author.Needs.{needs}
-use Rattle.replay.proofs.tally.print_seen.Statement.{statement}
-use Rattle.replay.proofs.tally.print_seen.Tie as tie
+use Rattle.replay.proofs.comparison.print_seen.Statement.{statement}
+use Rattle.replay.proofs.comparison.print_seen.Tie as tie
 
 abbrev Inv-loop : tie.InvT-loop
 Inv-loop seen at₀ t3 at = Unit {0}

@@ -1,4 +1,4 @@
-//! Locals of the Rust, read from a copy of the five files to which build.rs adds lines that tell them.
+//! Locals of the Rust, read from a copy of the five files to which build.rs adds lines that record them.
 #![allow(dead_code)]
 
 use crate::{OdeFunction, OdeProblem, SolveError, SolverStats};
@@ -6,7 +6,7 @@ use family::StabilizedFamily;
 use std::cell::RefCell;
 use workspace::StabilizedKernel;
 
-include!(concat!(env!("OUT_DIR"), "/told.rs"));
+include!(concat!(env!("OUT_DIR"), "/recorded.rs"));
 
 crate::shim::other_families!(run_rock2, run_rock4, run_serk2, run_eserk);
 
@@ -32,11 +32,11 @@ pub struct Rows {
 }
 
 thread_local! {
-    static TOLD: RefCell<Rows> = RefCell::default();
+    static RECORDED: RefCell<Rows> = RefCell::default();
 }
 
-pub(crate) fn tell_first(stages: usize, omega_one: f64, first_mu_tilde: f64) {
-    TOLD.set(Rows {
+pub(crate) fn record_first(stages: usize, omega_one: f64, first_mu_tilde: f64) {
+    RECORDED.set(Rows {
         stages,
         omega_one,
         first_mu_tilde,
@@ -44,9 +44,9 @@ pub(crate) fn tell_first(stages: usize, omega_one: f64, first_mu_tilde: f64) {
     });
 }
 
-pub(crate) fn tell_row(stage: usize, [mu, nu, mu_tilde, gamma_tilde, theta]: [f64; 5]) {
-    TOLD.with_borrow_mut(|told| {
-        told.rows.push(Row {
+pub(crate) fn record_row(stage: usize, [mu, nu, mu_tilde, gamma_tilde, theta]: [f64; 5]) {
+    RECORDED.with_borrow_mut(|recorded| {
+        recorded.rows.push(Row {
             stage,
             mu,
             nu,
@@ -97,5 +97,5 @@ pub fn rows(family: u64, stages: usize) -> Rows {
             &mut SolverStats::default(),
         )
         .expect("a run with zero derivatives");
-    TOLD.take()
+    RECORDED.take()
 }

@@ -18,9 +18,9 @@ const NAMES: [&str; 6] = [
 
 /// How often each call gave each answer: 0 for a call that was not turned away, else the number.
 #[derive(Default)]
-pub struct Tally {
+pub struct Answers {
     pub calls: u64,
-    pub answers: BTreeMap<(&'static str, u64), u64>,
+    pub given: BTreeMap<(&'static str, u64), u64>,
 }
 
 /// `usual`, and now and then anything.
@@ -129,7 +129,7 @@ fn counter(random: &mut Random) -> u64 {
 }
 
 /// One random call.
-pub fn call(seed: u64, tally: &mut Tally) -> Result<(), String> {
+pub fn call(seed: u64, answers: &mut Answers) -> Result<(), String> {
     let random = &mut Random::new(seed);
     let n = match random.below(200) {
         0 => random.pick(&[511, 512, 513, 514]),
@@ -172,14 +172,14 @@ pub fn call(seed: u64, tally: &mut Tally) -> Result<(), String> {
         _ => Call::Abandon,
     };
     let (mut area, mut left) = (before.clone(), counters);
-    let reply = make(record, &mut left, &mut area, &call);
-    tally.calls += 1;
-    let answer = if reply.answer.code == code::REFUSED {
-        reply.answer.number
+    let outcome = make(record, &mut left, &mut area, &call);
+    answers.calls += 1;
+    let answer = if outcome.answer.code == code::REFUSED {
+        outcome.answer.number
     } else {
         0
     };
-    *tally.answers.entry((NAMES[kind], answer)).or_default() += 1;
+    *answers.given.entry((NAMES[kind], answer)).or_default() += 1;
     let held = Held {
         record,
         counters,
@@ -189,7 +189,7 @@ pub fn call(seed: u64, tally: &mut Tally) -> Result<(), String> {
         &held,
         &call,
         &Given {
-            reply,
+            outcome,
             counters: left,
             area: &area,
         },

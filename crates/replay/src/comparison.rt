@@ -1,7 +1,7 @@
-// What was seen, and what differs.
+// What the comparison has come to: what was seen, and how much of it differs.
 use libc::STDOUT_FILENO;
 
-pub struct Tally {
+pub struct Comparison {
     pub sessions: u64,
     pub calls: u64,
     pub doubles: u64,
@@ -10,8 +10,8 @@ pub struct Tally {
     pub entries: u64,
 }
 
-pub fn none() -> Tally {
-    Tally {
+pub fn none() -> Comparison {
+    Comparison {
         sessions: 0,
         calls: 0,
         doubles: 0,
@@ -29,21 +29,27 @@ fn one_more(count: u64, more: bool) -> u64 {
     }
 }
 
-pub fn with_session(tally: Tally) -> Tally {
-    let mut more = tally;
-    more.sessions = one_more(tally.sessions, true);
+pub fn with_session(comparison: Comparison) -> Comparison {
+    let mut more = comparison;
+    more.sessions = one_more(comparison.sessions, true);
     more
 }
 
 // With a call whose answer and counts are right or not, and whose area has so many doubles, of which so many differ.
-pub fn with_call(tally: Tally, answer: bool, counts: bool, differ: u64, doubles: usize) -> Tally {
-    Tally {
-        sessions: tally.sessions,
-        calls: one_more(tally.calls, true),
-        doubles: std::num::wrapping_add_u64(tally.doubles, doubles as u64),
-        answers: one_more(tally.answers, !answer),
-        counts: one_more(tally.counts, !counts),
-        entries: std::num::wrapping_add_u64(tally.entries, differ),
+pub fn with_call(
+    comparison: Comparison,
+    answer: bool,
+    counts: bool,
+    differ: u64,
+    doubles: usize,
+) -> Comparison {
+    Comparison {
+        sessions: comparison.sessions,
+        calls: one_more(comparison.calls, true),
+        doubles: std::num::wrapping_add_u64(comparison.doubles, doubles as u64),
+        answers: one_more(comparison.answers, !answer),
+        counts: one_more(comparison.counts, !counts),
+        entries: std::num::wrapping_add_u64(comparison.entries, differ),
     }
 }
 
@@ -103,18 +109,18 @@ fn print_seen(seen: &[u64; 112]) {
     }
 }
 
-pub fn print(tally: Tally, seen: &[u64; 112]) {
+pub fn print(comparison: Comparison, seen: &[u64; 112]) {
     print_seen(seen);
-    number(tally.sessions);
+    number(comparison.sessions);
     say(b" sessions, ");
-    number(tally.calls);
+    number(comparison.calls);
     say(b" calls, ");
-    number(tally.doubles);
+    number(comparison.doubles);
     say(b" doubles of areas\n");
-    number(tally.answers);
+    number(comparison.answers);
     say(b" answers, ");
-    number(tally.counts);
+    number(comparison.counts);
     say(b" counts, ");
-    number(tally.entries);
+    number(comparison.entries);
     say(b" doubles differ\n");
 }

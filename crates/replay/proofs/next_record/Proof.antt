@@ -3,8 +3,8 @@ use mathlib.Core.Path.{sym}
 use native.Mathlib.Omega.{arith}
 use borrow.Author.Needs.{needs}
 use lib.Seq.{length-take-le}
-use Rattle.replay.proofs.step.Statement.{statement}
-use Rattle.replay.proofs.step.Tie as tie
+use Rattle.replay.proofs.next_record.Statement.{statement}
+use Rattle.replay.proofs.next_record.Tie as tie
 
 word-requires : tie.Need-word-requires
 word-requires c κs = search needs
@@ -63,8 +63,8 @@ same-length-5 c = search needs
 returns-2 : tie.Need-returns-2
 returns-2 c = search needs
 
-pub step-spec : {M : Type 1} → statement M
-step-spec =
+pub next-record-spec : {M : Type 1} → statement M
+next-record-spec =
     tie.close
     (tie.spec
     word-requires

@@ -11,7 +11,7 @@ use Rattle.driver.specs.declared.Answer.{Answer}
 use Rattle.driver.specs.declared.Answer.the-variants.{Evaluate, Finished, Ready, Refused, Empty}
 use Rattle.driver.specs.Answers.{case-number, case-values}
 use Rattle.driver.specs.Calls.{Held, whole-area, start, Call, Start, Attempt, Reply, Accept, Accept-with-callback, Abandon, made, taken}
-use Rattle.session.specs.Session.{Seen, call-seen, seen-of, Session, step, session-seen, takes, session, fresh}
+use Rattle.session.specs.Session.{Seen, call-seen, seen-of, Session, session-after, session-seen, takes, session, fresh}
 use Rattle.session.proofs.Truth.{differ, and-right}
 use Rattle.session.proofs.Leaves.{leaves}
 use Rattle.session.proofs.Shows.{Does, Good, seen-alike}
@@ -23,7 +23,7 @@ use Rattle.session.proofs.OnAbandon.{abandon-agrees, abandon-good, aban
 
 -- ---- any call
 
-good : (h : Held) (σ : Session) (c : Call) → h .counters ≡ σ .counts → Does (σ .family) (σ .n) (σ .doing) h → taken (made h c .answer) ≡ true → Good (step σ c) (made h c)
+good : (h : Held) (σ : Session) (c : Call) → h .counters ≡ σ .counts → Does (σ .family) (σ .n) (σ .doing) h → taken (made h c .answer) ≡ true → Good (session-after σ c) (made h c)
 unfolding made
 good h σ (Start f n y t) cs does q = start-good h f n y t q σ cs
 good h σ (Attempt a) cs does q = attempt-good h σ cs a does q
@@ -74,23 +74,23 @@ follow : (cs : List Call) (size : ℕ) (h : Held) (σ : Session) → length (h .
 unfolding seen-of session
 follow [] size h σ l e does = refl
 follow (c ∷ cs) size h σ l e does =
-    subst (λ (b : Bool). cond (taken (made h c .answer)) (call-seen (made h c) ∷ seen-of (made h c .held) cs) (seen-of (made h c .held) cs) ≡ cond b (session-seen (step σ c) ∷ session size (step σ c) cs) (session size σ cs))
+    subst (λ (b : Bool). cond (taken (made h c .answer)) (call-seen (made h c) ∷ seen-of (made h c .held) cs) (seen-of (made h c .held) cs) ≡ cond b (session-seen (session-after σ c) ∷ session size (session-after σ c) cs) (session size σ cs))
     (agrees h σ e does c ∙ ap (λ (k : ℕ). takes k σ c) l) (go (follow cs size) (taken (made h c .answer)) refl)
   where
     go : ((h : Held) (σ : Session) → length (h .area) ≡ size → h .counters ≡ σ .counts → Does (σ .family) (σ .n) (σ .doing) h → seen-of h cs ≡ session size σ cs)
         → (t : Bool) → taken (made h c .answer) ≡ t
-        → cond t (call-seen (made h c) ∷ seen-of (made h c .held) cs) (seen-of (made h c .held) cs) ≡ cond t (session-seen (step σ c) ∷ session size (step σ c) cs) (session size σ cs)
+        → cond t (call-seen (made h c) ∷ seen-of (made h c .held) cs) (seen-of (made h c .held) cs) ≡ cond t (session-seen (session-after σ c) ∷ session size (session-after σ c) cs) (session size σ cs)
     go on true q = let g = good h σ c e does q in
-        ap₂ (λ (s : Seen) (ss : List Seen). s ∷ ss) (seen-alike (step σ c) (made h c) g) (on (made h c .held) (step σ c) (area-stays h c q ∙ l) (g .counts-are) (g .does))
+        ap₂ (λ (s : Seen) (ss : List Seen). s ∷ ss) (seen-alike (session-after σ c) (made h c) g) (on (made h c .held) (session-after σ c) (area-stays h c q ∙ l) (g .counts-are) (g .does))
     go on false q = subst (λ (k : Held). seen-of k cs ≡ session size σ cs) (sym (left h c q)) (on h σ l e does)
 
 -- From any record, area and counters: a start that the session takes, and then any calls at all, show what the session shows.
-pub lives : (h : Held) (f n : ℕ) (y : List Float) (t : Float) (cs : List Call) → takes (length (h .area)) (fresh (h .counters)) (Start f n y t) ≡ true
+pub every-sequence : (h : Held) (f n : ℕ) (y : List Float) (t : Float) (cs : List Call) → takes (length (h .area)) (fresh (h .counters)) (Start f n y t) ≡ true
     → seen-of h (Start f n y t ∷ cs) ≡ session (length (h .area)) (fresh (h .counters)) (Start f n y t ∷ cs)
 unfolding seen-of session made takes whole-area fresh
-lives h f n y t cs q =
+every-sequence h f n y t cs q =
     let σ = fresh (h .counters) in
     let q′ = start-tells h f n y t ∙ q in
     let g = start-good h f n y t q′ σ refl in
-    rw (q′, q) (ap₂ (λ (s : Seen) (ss : List Seen). s ∷ ss) (seen-alike (step σ (Start f n y t)) (start h f n y t) g)
-    (follow cs (length (h .area)) (start h f n y t .held) (step σ (Start f n y t)) (start-area h f n y t q′) (g .counts-are) (g .does)))
+    rw (q′, q) (ap₂ (λ (s : Seen) (ss : List Seen). s ∷ ss) (seen-alike (session-after σ (Start f n y t)) (start h f n y t) g)
+    (follow cs (length (h .area)) (start h f n y t .held) (session-after σ (Start f n y t)) (start-area h f n y t q′) (g .counts-are) (g .does)))
