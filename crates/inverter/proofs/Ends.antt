@@ -28,24 +28,24 @@ use Rattle.driver.specs.Calls.{Held, Called, Step, check}
 use Rattle.driver.proofs.Sizes.{both}
 use Rattle.driver.proofs.Ranges.{pass-in, need-most}
 use Rattle.heat_sink.specs.declared.Inverter.{Inverter}
-use Rattle.inverter.specs.Day.{begun, go-on, next, driven, settled, asked, passed, time-of}
+use Rattle.inverter.specs.Day.{begun, go-on, next, driven, settled, asked, passed, time-of, most-calls}
 
 -- the most calls that follow an evaluation in this phase, its reply included
 unfoldable pub calls-left : Phase → Record → ℕ
 calls-left P.Empty r = 1
-calls-left P.First r = 214
+calls-left P.First r = most-calls
 calls-left P.Ready r = 1
-calls-left P.Pass r = 212 - r .iteration .pass + 1
+calls-left P.Pass r = most-calls - 2 - r .iteration .pass + 1
 calls-left P.Stage r = r .staging .stages - r .staging .stage + 2
 calls-left P.Candidate r = 1
 calls-left P.Finished r = 1
-calls-left P.Callback r = 214
+calls-left P.Callback r = most-calls
 
 -- at most k calls follow
 unfoldable pub Follow : ℕ → Answer → Record → Type 0
 Follow k (Evaluate time vector) r = (vector < 11) × (calls-left (r .phase) r ≤ k)
 Follow k (Finished norm) r = Unit
-Follow k Ready r = 213 ≤ k
+Follow k Ready r = most-calls - 1 ≤ k
 Follow k (Refused number) r = Unit
 Follow k Empty r = Unit
 
@@ -71,7 +71,7 @@ either k true x y f g = f refl
 either k false x y f g = g refl
 
 module _ (k : ℕ) (r : Record) where
-  asks-pass : (a : Arguments) (pass : ℕ) (perturbation previous : Float) (v : Vectors) → 212 - pass + 1 ≤ k
+  asks-pass : (a : Arguments) (pass : ℕ) (perturbation previous : Float) (v : Vectors) → most-calls - 2 - pass + 1 ≤ k
       → Goes k (calls.ask-pass (calls.at-pass a pass perturbation previous r) v)
   unfolding Goes Follow calls-left calls.ask-pass calls.at-pass
   asks-pass a pass perturbation previous v h = (omega arith, h)
@@ -103,7 +103,7 @@ staged k r (Met s) radius v e h =
 staged k r (Unmet i) radius v e h = refuses k i (calls.in-phase P.Empty r) v
 
 module _ (k : ℕ) (r : Record) (v : Vectors) (d : List Float) where
-  after-pass : r .iteration .pass ≤ 12 → 212 - r .iteration .pass + 1 ≤ suc k → Goes k (calls.take-pass r v d)
+  after-pass : r .iteration .pass ≤ 12 → most-calls - 2 - r .iteration .pass + 1 ≤ suc k → Goes k (calls.take-pass r v d)
   unfolding calls.take-pass calls.begin-stages
   after-pass p h =
       let i = r .iteration in
@@ -111,7 +111,7 @@ module _ (k : ℕ) (r : Record) (v : Vectors) (d : List Float) where
       let radius = radius-of (i .perturbation) w in
       let big = scaled (r .arguments .step) radius in
       let enough : 200 ≤ k = omega arith in
-      let less : 212 - (i .pass + 1) + 1 ≤ k = omega arith in
+      let less : most-calls - 2 - (i .pass + 1) + 1 ≤ k = omega arith in
       either k (ended (i .pass) (i .«previous_radius») radius || eqb (i .pass) 12)
       (calls.begin-stages r w big)
       (calls.ask-pass (calls.at-pass (r .arguments) (i .pass + 1) (i .perturbation) radius r) w)
@@ -166,34 +166,34 @@ module _ (k : ℕ) (h : Held) where
   reply-follows d l =
       checked k h 1 _ _ (λ e. checked k h 2 _ _ (λ e. checked k h 3 _ _ (λ e. checked k h 4 _ _ (λ w. checked k h 8 _ _ (λ e. taken d w l (all-finite d))))))
 
-  attempted : (a : Arguments) → 212 ≤ k → Follows k (calls.going-on (h .counters) (calls.attempted h a))
+  attempted : (a : Arguments) → most-calls - 2 ≤ k → Follows k (calls.going-on (h .counters) (calls.attempted h a))
   unfolding calls.going-on calls.attempted Goes
   attempted a l = asks-pass k (h .kept) a 1 _ _ _ (omega arith)
 
-  attempt-follows : (a : Arguments) → 212 ≤ k → Follows k (calls.attempt h a)
+  attempt-follows : (a : Arguments) → most-calls - 2 ≤ k → Follows k (calls.attempt h a)
   unfolding calls.attempt
   attempt-follows a l =
       checked k h 1 _ _ (λ e. checked k h 2 _ _ (λ e. checked k h 3 _ _ (λ e. checked k h 4 _ _ (λ e. checked k h 6 _ _ (λ e. checked k h 7 _ _ (λ e. attempted a l))))))
 
-  start-follows : (f n : ℕ) (y : List Float) (t : Float) → 214 ≤ k → Follows k (calls.start h f n y t)
+  start-follows : (f n : ℕ) (y : List Float) (t : Float) → most-calls ≤ k → Follows k (calls.start h f n y t)
   unfolding calls.start calls.first-at Follow calls-left
   start-follows f n y t l =
       checked k h 1 _ _ (λ e. checked k h 2 _ _ (λ e. checked k h 3 _ _ (λ e. checked k h 5 _ _ (λ e. checked k h 6 _ _ (λ e. (omega arith, l))))))
 
-  accept-follows : 213 ≤ k → Follows k (calls.accept h)
+  accept-follows : most-calls - 1 ≤ k → Follows k (calls.accept h)
   unfolding calls.accept calls.going-on calls.accepted Follow
   accept-follows l = checked k h 1 _ _ (λ e. checked k h 2 _ _ (λ e. checked k h 3 _ _ (λ e. checked k h 4 _ _ (λ e. l))))
 
 -- ---- a minute
 
 module _ (m : Inverter) (minute : ℕ) where
-  pub begun-follows : (h : Held) → Follows 214 (begun m minute h)
+  pub begun-follows : (h : Held) → Follows most-calls (begun m minute h)
   unfolding begun
   begun-follows h = go (calls.may-accept (h .kept .phase))
     where
-      go : (b : Bool) → Follows 214 (cond b (calls.accept h) (calls.start h (m .family) (m .n) (unpack (m .n) (h .area) state) (time-of minute)))
-      go true = accept-follows 214 h (omega arith)
-      go false = start-follows 214 h _ _ _ _ (omega arith)
+      go : (b : Bool) → Follows most-calls (cond b (calls.accept h) (calls.start h (m .family) (m .n) (unpack (m .n) (h .area) state) (time-of minute)))
+      go true = accept-follows most-calls h (omega arith)
+      go false = start-follows most-calls h _ _ _ _ (omega arith)
 
   module _ (reading upcoming : Float) where
     on : (k : ℕ) (a : Answer) (h : Held) → Follow (suc k) a (h .kept) → Follows k (go-on m minute reading upcoming a h)
@@ -240,4 +240,4 @@ module _ (m : Inverter) (minute : ℕ) where
     -- the calls that a minute may take are enough
     pub ends : (h : Held) → settled (passed m minute reading upcoming h .answer) ≡ true
     unfolding passed
-    ends h = driven-ends 214 (begun m minute h) (begun-follows h)
+    ends h = driven-ends most-calls (begun m minute h) (begun-follows h)

@@ -46,6 +46,10 @@ begun m minute h =
 unfoldable pub reading-at : Float → Float → ℕ → Float
 reading-at reading upcoming vector = cond (eqb vector (number candidate)) upcoming reading
 
+-- the most calls that follow the first: the state's evaluation, the attempt, 12 passes, 199 stages and the candidate's evaluation
+abbrev pub most-calls : ℕ
+most-calls = 214
+
 module _ (m : Inverter) (minute : ℕ) (reading upcoming : Float) where
   -- the call that an answer asks for; none after finished, refused and empty
   unfoldable pub go-on : Answer → Held → Called
@@ -61,10 +65,6 @@ module _ (m : Inverter) (minute : ℕ) (reading upcoming : Float) where
   unfoldable pub driven : ℕ → Called → Called
   driven zero c = c
   driven (suc k) c = driven k (next c)
-
-  -- the most calls that follow: the state's evaluation, the attempt, 12 passes, 199 stages and the candidate's evaluation
-  abbrev pub most-calls : ℕ
-  most-calls = 214
 
   unfoldable pub passed : Held → Called
   passed h = driven most-calls (begun m minute h)

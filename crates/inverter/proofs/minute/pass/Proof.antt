@@ -4,7 +4,7 @@ use Prim.Native.Nat.{ℕ, _-_, _*_, _≤_, _<_}
 use native.Mathlib.Omega.{arith}
 use lib.ListN.{length}
 use Rattle.driver.specs.Promises.{holding}
-use Rattle.inverter.specs.Day.{given, driven, passed}
+use Rattle.inverter.specs.Day.{given, driven, passed, most-calls}
 use Rattle.inverter.proofs.Calls.{driven-settled, driven-none, driven-turn}
 use Rattle.inverter.proofs.Ends.{Follows, asked-below, begun-follows, turn-follows}
 use Rattle.inverter.proofs.minute.pass.Statement.{statement}
@@ -13,7 +13,7 @@ use Rattle.inverter.proofs.minute.pass.Tie as tie
 abbrev Inv-loop : tie.InvT-loop
 Inv-loop m area₀ scratch₀ reading upcoming minute reply₀ left₀ area scratch reply left =
     (11 * m .n ≤ length area) × (length scratch ≡ m .n) × (minute < 1440) × (length area ≡ length area₀) × Follows left (given reply area)
-    × (driven m minute reading upcoming 214 (given reply₀ area₀) ≡ driven m minute reading upcoming left (given reply area))
+    × (driven m minute reading upcoming most-calls (given reply₀ area₀) ≡ driven m minute reading upcoming left (given reply area))
 
 abbrev μ-loop : tie.MeasureT-loop
 μ-loop m area₀ scratch₀ reading upcoming minute reply₀ left₀ area scratch reply left = left
@@ -25,7 +25,7 @@ loop-holds : tie.Need-loop-holds Inv-loop μ-loop
 loop-holds c = let s = c .before .before .before .before .before .before .before .before .before in
     let b = c .before .before .before .before .begin in
     let f = begun-follows (s .args .m) (s .args .minute) (holding (s .args .«record») (s .args .counters) (s .args .area .now)) in
-    (omega (arith, b .kept .1 .1 .1 .0, s .pre .0), b .kept .1 .1 .1 .1 .0 ∙ s .pre .1 .0, s .pre .1 .1, refl, subst (Follows 214) (sym (b .ensures)) f, refl)
+    (omega (arith, b .kept .1 .1 .1 .0, s .pre .0), b .kept .1 .1 .1 .1 .0 ∙ s .pre .1 .0, s .pre .1 .1, refl, subst (Follows most-calls) (sym (b .ensures)) f, refl)
 
 settled-requires : tie.Need-settled-requires Inv-loop μ-loop
 settled-requires c κs = tt
@@ -41,7 +41,7 @@ unfolding passed
 returns c = let a = c .before .before .before .before .before .before .before .before .before .before .before .before .before .args in
     let l = c .before .before .before .loop in
     sym
-    (ap (driven (a .m) (a .minute) (a .reading) (a .upcoming) 214) (sym (c .before .before .before .before .before .before .before .before .begin .ensures))
+    (ap (driven (a .m) (a .minute) (a .reading) (a .upcoming) most-calls) (sym (c .before .before .before .before .before .before .before .before .begin .ensures))
     ∙ l .inv .5
     ∙ driven-settled (a .m) (a .minute) (a .reading) (a .upcoming) (l .left) (given (l .reply) (l .area)) (sym (c .before .settled .ensures) ∙ c .if1 .taken))
 
@@ -82,7 +82,7 @@ returns-2 c = let a = c .before .before .before .before .before .before .before 
     let l = c .before .loop in
     let z : l .left ≡ 0 = omega arith in
     sym
-    (ap (driven (a .m) (a .minute) (a .reading) (a .upcoming) 214) (sym (c .before .before .before .before .before .before .begin .ensures))
+    (ap (driven (a .m) (a .minute) (a .reading) (a .upcoming) most-calls) (sym (c .before .before .before .before .before .before .begin .ensures))
     ∙ l .inv .5
     ∙ ap (λ (k : ℕ). driven (a .m) (a .minute) (a .reading) (a .upcoming) k (given (l .reply) (l .area))) z
     ∙ driven-none (a .m) (a .minute) (a .reading) (a .upcoming) (given (l .reply) (l .area)))
