@@ -5,7 +5,7 @@
 //! the right-hand side stops it before a derivative is written.
 use crate::model::Replies;
 use crate::random::{Random, all_same, same};
-use crate::refusals::{Call, Given, Held, check, number};
+use crate::refusals::{Call, Given, Held, Start, check, number};
 use crate::trace::Trace;
 use oracle::{Oracle, SolveError};
 use stabilized::calls::{
@@ -130,12 +130,12 @@ impl Pair {
         } else {
             Oracle::new(family, n)
         };
-        let call = Call::Start {
+        let call = Call::Start(Start {
             family,
             n: n as u64,
             state,
             time,
-        };
+        });
         let outcome = self.engine(&call)?;
         self.follow(outcome, replies, stop, |oracle, rhs| {
             oracle.initialize(state, time, rhs).map(|()| 0.0)
@@ -389,7 +389,7 @@ impl Pair {
             return Ok(());
         }
         let n = self.n();
-        let short = vec![0.0; n + 1];
+        let one_too_long = vec![0.0; n + 1];
         let spoiled = vec![f64::INFINITY; n];
         let bad = Arguments {
             step: 0.0,
@@ -399,42 +399,34 @@ impl Pair {
             step: 1.0,
             ..Arguments::default()
         };
+        let start = Start {
+            family: 1,
+            n: n as u64,
+            state: &one_too_long[..n],
+            time: 0.0,
+        };
         let calls = [
-            Call::Start {
-                family: 6,
-                n: n as u64,
-                state: &short[..n],
-                time: 0.0,
-            },
-            Call::Start {
-                family: 1,
-                n: 513,
-                state: &short[..n],
-                time: 0.0,
-            },
-            Call::Start {
-                family: 1,
-                n: n as u64,
-                state: &short,
-                time: 0.0,
-            },
-            Call::Start {
-                family: 1,
-                n: n as u64,
-                state: &short[..n],
+            Call::Start(Start { family: 6, ..start }),
+            Call::Start(Start { n: 513, ..start }),
+            Call::Start(Start {
+                state: &one_too_long,
+                ..start
+            }),
+            Call::Start(Start {
                 time: f64::NAN,
-            },
-            Call::Start {
-                family: 1,
-                n: n as u64,
+                ..start
+            }),
+            Call::Start(Start {
                 state: &spoiled,
-                time: 0.0,
-            },
+                ..start
+            }),
             Call::Attempt(bad),
             Call::Attempt(intolerant),
-            Call::Reply { derivative: &short },
+            Call::Reply {
+                derivative: &one_too_long,
+            },
             Call::AcceptWithCallback {
-                state: &short,
+                state: &one_too_long,
                 time: 0.0,
             },
             Call::Accept,
@@ -529,12 +521,7 @@ fn expect(answer: &Answer, code: u64, number: u64, value: f64) -> Result<(), Str
 /// One call of the engine.
 pub fn make(record: Record, counters: &mut Counters, area: &mut [f64], call: &Call) -> Outcome {
     match *call {
-        Call::Start {
-            family,
-            n,
-            state,
-            time,
-        } => calls::start(record, area, family, n, state, time),
+        Call::Start(s) => calls::start(record, area, s.family, s.n, s.state, s.time),
         Call::Attempt(a) => calls::attempt(
             record,
             area,

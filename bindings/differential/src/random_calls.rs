@@ -1,7 +1,7 @@
 //! Calls with any record, lengths, counters and doubles, each held against document 01's table.
 use crate::pair::make;
 use crate::random::Random;
-use crate::refusals::{Call, Given, Held, check};
+use crate::refusals::{Call, Given, Held, Start, check};
 use stabilized::calls::{
     Arguments, Counters, Iteration, Polynomials, Record, Recurrence, Staging, VECTORS, code,
 };
@@ -148,12 +148,12 @@ pub fn call(seed: u64, answers: &mut Answers) -> Result<(), String> {
     let brought = doubles(random, size);
     let kind = random.pick(&[0, 1, 2, 2, 2, 3, 4, 5]);
     let call = match kind {
-        0 => Call::Start {
+        0 => Call::Start(Start {
             family: number(random, family, 8),
             n: number(random, n as u64, 16),
             state: &brought,
             time: double(random),
-        },
+        }),
         1 => Call::Attempt(Arguments {
             time: double(random),
             step: double(random) * random.sign(),

@@ -5,24 +5,23 @@
 use crate::random::{all_same, same};
 use stabilized::calls::{Answer, Arguments, Counters, Outcome, Record, code, phase, vector};
 
+/// What start brings.
+#[derive(Clone, Copy, Debug)]
+pub struct Start<'a> {
+    pub family: u64,
+    pub n: u64,
+    pub state: &'a [f64],
+    pub time: f64,
+}
+
 /// A call with what it brings.
 #[derive(Clone, Copy, Debug)]
 pub enum Call<'a> {
-    Start {
-        family: u64,
-        n: u64,
-        state: &'a [f64],
-        time: f64,
-    },
+    Start(Start<'a>),
     Attempt(Arguments),
-    Reply {
-        derivative: &'a [f64],
-    },
+    Reply { derivative: &'a [f64] },
     Accept,
-    AcceptWithCallback {
-        state: &'a [f64],
-        time: f64,
-    },
+    AcceptWithCallback { state: &'a [f64], time: f64 },
     Abandon,
 }
 
@@ -67,7 +66,7 @@ fn pending(record: &Record) -> bool {
 
 fn allowed(record: &Record, call: &Call) -> bool {
     match call {
-        Call::Start { .. } => true,
+        Call::Start(_) => true,
         Call::Attempt(_) => [phase::READY, phase::FINISHED].contains(&record.phase),
         Call::Reply { .. } | Call::Abandon => pending(record),
         Call::Accept | Call::AcceptWithCallback { .. } => record.phase == phase::FINISHED,
@@ -77,9 +76,7 @@ fn allowed(record: &Record, call: &Call) -> bool {
 /// Tests 1 to 3, on what start brings and on what the record of any other call holds.
 fn shape(held: &Held, call: &Call) -> Option<u64> {
     let (family, n, brought) = match *call {
-        Call::Start {
-            family, n, state, ..
-        } => (family, n, Some(state)),
+        Call::Start(start) => (start.family, start.n, Some(start.state)),
         Call::Reply { derivative } => (held.record.family, held.record.n, Some(derivative)),
         Call::AcceptWithCallback { state, .. } => (held.record.family, held.record.n, Some(state)),
         _ => (held.record.family, held.record.n, None),
@@ -98,10 +95,14 @@ fn shape(held: &Held, call: &Call) -> Option<u64> {
 fn contents(held: &Held, call: &Call) -> Option<u64> {
     let counters = held.counters;
     match *call {
-        Call::Start { state, .. } | Call::AcceptWithCallback { state, .. } if !finite(state) => {
+        Call::Start(Start { state, .. }) | Call::AcceptWithCallback { state, .. }
+            if !finite(state) =>
+        {
             Some(5)
         }
-        Call::Start { time, .. } | Call::AcceptWithCallback { time, .. } if !time.is_finite() => {
+        Call::Start(Start { time, .. }) | Call::AcceptWithCallback { time, .. }
+            if !time.is_finite() =>
+        {
             Some(6)
         }
         Call::Attempt(a) if !a.time.is_finite() || a.step == 0.0 || !a.step.is_finite() => Some(6),
@@ -213,6 +214,15 @@ fn evaluate(vector: usize, time: f64) -> Answer {
     }
 }
 
+/// An answer that carries nothing: ready or empty.
+fn without_values(code: u64) -> Answer {
+    Answer {
+        code,
+        number: 0,
+        value: 0.0,
+    }
+}
+
 /// What the document settles of a call: the answer and the record where they are settled, the counters, and the area with
 /// the vectors that are settled apart.
 struct Settled {
@@ -226,6 +236,12 @@ struct Settled {
 
 fn with_phase(record: Record, phase: u64) -> Record {
     Record { phase, ..record }
+}
+
+fn at_time(record: Record, phase: u64, time: f64) -> Record {
+    let mut after = with_phase(record, phase);
+    after.arguments.time = time;
+    after
 }
 
 impl Settled {
@@ -256,26 +272,15 @@ fn settled(held: &Held, call: &Call, given: &Given) -> Settled {
     let record = held.record;
     let n = record.n as usize;
     match *call {
-        Call::Start {
-            family,
-            n,
-            state,
-            time,
-        } => {
-            let arguments = Arguments {
-                time,
-                ..record.arguments
-            };
-            s.answer = Some(evaluate(vector::STATE, time));
+        Call::Start(start) => {
+            s.answer = Some(evaluate(vector::STATE, start.time));
             s.record = Some(Record {
-                family,
-                n,
-                phase: phase::FIRST,
-                arguments,
-                ..record
+                family: start.family,
+                n: start.n,
+                ..at_time(record, phase::FIRST, start.time)
             });
-            s.put(vector::STATE, state);
-            s.put(vector::EIGENVECTOR, &vec![0.0; n as usize]);
+            s.put(vector::STATE, start.state);
+            s.put(vector::EIGENVECTOR, &vec![0.0; start.n as usize]);
         }
         Call::Attempt(arguments) => {
             s.answer = Some(evaluate(vector::PERTURBED_STATE, arguments.time));
@@ -290,34 +295,18 @@ fn settled(held: &Held, call: &Call, given: &Given) -> Settled {
             s.open = &[vector::EIGENVECTOR, vector::PERTURBED_STATE];
         }
         Call::Accept => {
-            s.answer = Some(Answer {
-                code: code::READY,
-                number: 0,
-                value: 0.0,
-            });
+            s.answer = Some(without_values(code::READY));
             s.record = Some(with_phase(record, phase::READY));
             s.copy(vector::LAST_DERIVATIVE, vector::FIRST_DERIVATIVE, n);
             s.copy(vector::CANDIDATE, vector::STATE, n);
         }
         Call::AcceptWithCallback { state, time } => {
-            let arguments = Arguments {
-                time,
-                ..record.arguments
-            };
             s.answer = Some(evaluate(vector::STATE, time));
-            s.record = Some(Record {
-                phase: phase::CALLBACK,
-                arguments,
-                ..record
-            });
+            s.record = Some(at_time(record, phase::CALLBACK, time));
             s.put(vector::STATE, state);
         }
         Call::Abandon => {
-            s.answer = Some(Answer {
-                code: code::EMPTY,
-                number: 0,
-                value: 0.0,
-            });
+            s.answer = Some(without_values(code::EMPTY));
             s.record = Some(with_phase(record, phase::EMPTY));
         }
         Call::Reply { derivative } => settle_reply(&mut s, record, derivative, given),
@@ -331,11 +320,7 @@ fn settle_reply(s: &mut Settled, record: Record, derivative: &[f64], given: &Giv
     s.counters.evaluations += 1;
     match record.phase {
         phase::FIRST | phase::CALLBACK => {
-            s.answer = Some(Answer {
-                code: code::READY,
-                number: 0,
-                value: 0.0,
-            });
+            s.answer = Some(without_values(code::READY));
             s.record = Some(with_phase(record, phase::READY));
             s.put(vector::FIRST_DERIVATIVE, derivative);
             if record.phase == phase::CALLBACK {

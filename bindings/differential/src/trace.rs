@@ -82,14 +82,10 @@ impl Trace {
 
     fn brought(&mut self, call: &Call) {
         match *call {
-            Call::Start {
-                family,
-                n,
-                state,
-                time,
-            } => {
-                self.words.extend([1, family, n, bits(time)]);
-                self.counted(state);
+            Call::Start(start) => {
+                self.words
+                    .extend([1, start.family, start.n, bits(start.time)]);
+                self.counted(start.state);
             }
             Call::Attempt(a) => {
                 self.words.push(2);
