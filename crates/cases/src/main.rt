@@ -25,13 +25,10 @@ fn print_figure(name: &[u8], x: f64, figure: f64) {
     io::write_all(STDOUT_FILENO, b" in the last place\n");
 }
 
-fn print_tally(name: &[u8], t: Tally) {
+fn print_named(name: &[u8], t: Tally) {
     io::write_all(STDOUT_FILENO, name);
     io::write_all(STDOUT_FILENO, b": ");
-    io::print_decimal(STDOUT_FILENO, t.seen);
-    io::write_all(STDOUT_FILENO, b" compared, ");
-    io::print_decimal(STDOUT_FILENO, t.differ);
-    io::write_all(STDOUT_FILENO, b" differ\n");
+    stored::print_tally(t, b" compared, ");
 }
 
 // Document 01, "orthogonal.rs": the example, RKL2 with s = 3.
@@ -156,7 +153,7 @@ fn reaches() -> Tally {
 fn main() {
     worked::print_case();
     legendre_two_figures();
-    print_tally(b"RKC's stability interval, s = 2 to 200", intervals());
-    print_tally(b"RKC's times, s = 2 to 200, stages 2 to s", times());
-    print_tally(b"the reach of RKL1 and RKL2, s = 3 to 199", reaches());
+    print_named(b"RKC's stability interval, s = 2 to 200", intervals());
+    print_named(b"RKC's times, s = 2 to 200, stages 2 to s", times());
+    print_named(b"the reach of RKL1 and RKL2, s = 3 to 199", reaches());
 }

@@ -1,7 +1,6 @@
 // The stage counts of all families, held against the Rust's over stored radii: each threshold and its neighbors within 8 units in the last place, random,
 // subnormal, huge and infinite radii, NaNs and negatives. data/counts was written by the Rust (bindings/oracle/src/bin/counts.rs): for each radius its bits, and
 // a word with a byte a family, the lowest RKC's.
-use libc::STDOUT_FILENO;
 use stored::Tally;
 
 pub struct Tallies {
@@ -81,13 +80,6 @@ fn of_file(fd: i32) -> Tallies {
     all
 }
 
-fn print_tally(tally: Tally, of: &[u8]) {
-    io::print_decimal(STDOUT_FILENO, tally.seen);
-    io::write_all(STDOUT_FILENO, of);
-    io::print_decimal(STDOUT_FILENO, tally.differ);
-    io::write_all(STDOUT_FILENO, b" differ\n");
-}
-
 fn main() {
     let fd = os::open_read(b"counts");
     if fd < 0 {
@@ -96,8 +88,8 @@ fn main() {
     }
     let all = of_file(fd);
     libc::close(fd);
-    print_tally(all.compared, b" counts of the Rust, ");
-    print_tally(
+    stored::print_tally(all.compared, b" counts of the Rust, ");
+    stored::print_tally(
         all.overflowing,
         b" counts of 200 where the Rust's sum overflows, ",
     );

@@ -6,7 +6,6 @@ ghost use lib.Dec.{eqb};
 ghost use lib.Ieee.{binary64, ofBits, toBits, toUnsigned};
 ghost use Rattle.ieee.specs.Sqrt as root;
 ghost use Rattle.ieee.specs.Whole as whole;
-use libc::STDOUT_FILENO;
 use stored::Tally;
 
 pub struct Roots {
@@ -159,13 +158,6 @@ fn open(argument: usize) -> i32 {
     fd
 }
 
-fn print(t: Tally, what: &[u8]) {
-    io::print_decimal(STDOUT_FILENO, t.seen);
-    io::write_all(STDOUT_FILENO, what);
-    io::print_decimal(STDOUT_FILENO, t.differ);
-    io::write_all(STDOUT_FILENO, b" differ\n");
-}
-
 fn main() {
     let roots = open(1);
     let parts = open(2);
@@ -176,11 +168,11 @@ fn main() {
         return;
     }
     let r = read_roots(roots);
-    print(r.fast, b" roots, ");
-    print(r.by_digits, b" roots by digits, ");
+    stored::print_tally(r.fast, b" roots, ");
+    stored::print_tally(r.by_digits, b" roots by digits, ");
     let p = read_parts(parts);
-    print(p.floor, b" floors, ");
-    print(p.ceil, b" ceilings, ");
-    print(p.max, b" maxima, ");
-    print(p.cast, b" casts to u64, ");
+    stored::print_tally(p.floor, b" floors, ");
+    stored::print_tally(p.ceil, b" ceilings, ");
+    stored::print_tally(p.max, b" maxima, ");
+    stored::print_tally(p.cast, b" casts to u64, ");
 }

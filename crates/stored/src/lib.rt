@@ -5,6 +5,7 @@ ghost use mathlib.Core.Bool.{true, cond};
 ghost use Prim.Native.Nat.{_+_, _%_, _^_, _<_, _≤_};
 ghost use lib.ListN.{length};
 ghost use Rattle.stored.specs.Stored as spec;
+use libc::STDOUT_FILENO;
 
 // how many records were compared, and how many differ
 pub struct Tally {
@@ -58,4 +59,12 @@ pub fn counted(tally: Tally, right: bool) -> Tally
         seen: seen,
         differ: std::num::wrapping_add_u64(tally.differ, more),
     }
+}
+
+// How many were compared, what they are, and how many differ.
+pub fn print_tally(tally: Tally, what: &[u8]) {
+    io::print_decimal(STDOUT_FILENO, tally.seen);
+    io::write_all(STDOUT_FILENO, what);
+    io::print_decimal(STDOUT_FILENO, tally.differ);
+    io::write_all(STDOUT_FILENO, b" differ\n");
 }
