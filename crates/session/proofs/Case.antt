@@ -54,11 +54,11 @@ kind (stops i) = 4 ∷ i ∷ []
 kind nothing = 5 ∷ []
 
 -- and both counts before
-pub told : Seen → List ℕ
-told x = x .counts .evaluations ∷ x .counts .«finished_attempts» ∷ kind (x .shown)
+pub numbers : Seen → List ℕ
+numbers x = x .counts .evaluations ∷ x .counts .«finished_attempts» ∷ kind (x .shown)
 
-pub told-in-case : List (List ℕ)
-told-in-case =
+pub numbers-in-case : List (List ℕ)
+numbers-in-case =
     (0 ∷ 0 ∷ 1 ∷ 0 ∷ 0x3ff0000000000000 ∷ [])
     ∷ (1 ∷ 0 ∷ 3 ∷ 0x3ff0000000000000 ∷ 0 ∷ [])
     ∷ (1 ∷ 0 ∷ 1 ∷ 0 ∷ 0x3ff0000004000000 ∷ [])
@@ -72,8 +72,8 @@ told-in-case =
 pub zeroes : Counters
 zeroes = record { evaluations = 0; «finished_attempts» = 0 }
 
-pub case : map told (session 11 (fresh zeroes) calls) ≡ told-in-case
-unfolding told kind bits calls arguments told-in-case zeroes doubles attempts sessions
+pub case : map numbers (session 11 (fresh zeroes) calls) ≡ numbers-in-case
+unfolding numbers kind bits calls arguments numbers-in-case zeroes doubles attempts sessions
 case = refl
 
 -- ---- and so of the calls
@@ -86,5 +86,5 @@ as-session : (h : Held) → length (h .area) ≡ 11 → seen-of h calls ≡ sess
 unfolding calls
 as-session h l = every-sequence h 2 1 (one ∷ []) nought _ (starts (length (h .area)) (h .counters) l)
 
-pub case-of-calls : (h : Held) → length (h .area) ≡ 11 → h .counters ≡ zeroes → map told (seen-of h calls) ≡ told-in-case
-case-of-calls h l e = ap (map told) (as-session h l ∙ ap₂ (λ (size : ℕ) (counts : Counters). session size (fresh counts) calls) l e) ∙ case
+pub case-of-calls : (h : Held) → length (h .area) ≡ 11 → h .counters ≡ zeroes → map numbers (seen-of h calls) ≡ numbers-in-case
+case-of-calls h l e = ap (map numbers) (as-session h l ∙ ap₂ (λ (size : ℕ) (counts : Counters). session size (fresh counts) calls) l e) ∙ case

@@ -112,7 +112,11 @@ module _ (h : Held) (a : Arguments) (hk : known (h .kept .family) ≡ true) (hs 
     abbrev on-after : ℕ → ℕ → Vectors → List Float → Bool → Asking Radius
     on-after m k v d stop = cond stop (done (record { radius = radius-at v d; passes = k + 1; vectors = turn v d })) (iterate F (h .kept .n) a π m (k + 1) (radius-at v d) (turn v d))
 
-    -- after the reply d to pass k + 1, the test of the radius being `stop`
+    -- the test of the radius after the reply d to pass k + 1
+    abbrev ends-at : ℕ → Float → Vectors → List Float → Bool
+    ends-at k ρ v d = ended (k + 1) ρ (radius-at v d)
+
+    -- after that reply, the test being `stop`
     abbrev Onward : ℕ → ℕ → Float → Vectors → Counters → List Float → Bool → Type 0
     Onward m k ρ v c d stop = Follows h a (suc k) (found-at k ρ v c) (on-after m k v d stop >>= from-radius)
         (settled c (cond (stop || eqb (k + 1) 12)
@@ -131,10 +135,10 @@ module _ (h : Held) (a : Arguments) (hk : known (h .kept .family) ≡ true) (hs 
     unfolding iterate evaluate _>>=_ ask-pass pending in-range awaiting finishes replied take-pass at-pass
     pass-follows m k ρ v c x k≡ hv hc on =
         asked h a hk hs P.Pass (iteration-at (k + 1) π ρ nought) g (perturbed (h .kept .n) π v) c k (a .time) perturbed-state x
-        (λ m′. (m′ >>= λ d. on-after m k v d (ended (k + 1) ρ (radius-at v d))) >>= from-radius)
+        (λ m′. (m′ >>= λ d. on-after m k v d (ends-at k ρ v d)) >>= from-radius)
         (intact-perturbed h π v hv) hc (both (le-leb 1 (k + 1) (omega arith)) (le-leb (k + 1) 12 (omega arith))) refl
-        (λ d fin. pass-undone m k v d (ended (k + 1) ρ (radius-at v d)))
-        (λ d hd fin. on d hd (ended (k + 1) ρ (radius-at v d)))
+        (λ d fin. pass-undone m k v d (ends-at k ρ v d))
+        (λ d hd fin. on d hd (ends-at k ρ v d))
 
     intact-turn : (v : Vectors) (d : List Float) → Intact h v → length d ≡ h .kept .n → Intact h (turn v d)
     intact-turn v d hv hd = intact-turned h (perturbed (h .kept .n) π v) d (intact-perturbed h π v hv) hd
@@ -175,6 +179,6 @@ unfolding attempted at-pass attempt-step spectral-radius
 attempt-follows h a p =
     let v = unpack (h .kept .n) (h .area) in
     subst (λ (x : Called). Follows h a 0 h (in-one-piece h a) x) (sym (attempt-is h a p))
-    (passes-follow h a (p .family-known) (p .n-sized) (perturbation-of v) (perturbation-plus v) (h .kept .staging) 11 0 nought (with-direction (h .kept .n) v) (h .counters) h refl
+    (passes-follow h a (p .family-known) (p .n-sized) (perturbation-of v) (perturbation-plus v) (h .kept .staging) _ 0 nought (with-direction (h .kept .n) v) (h .counters) h refl
     (intact-direction h v (record { long = long-area (h .kept .family) (h .kept .n) (h .area) (p .area-whole); state-is = refl; first-is = refl }))
     (record { evaluations-are = omega arith; attempts-are = refl }))

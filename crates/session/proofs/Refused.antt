@@ -27,37 +27,37 @@ use Rattle.session.specs.Refusals.{Verdict, goes-on, refused-with, verdi
 use Rattle.session.proofs.Truth.{and-left, and-right}
 use Rattle.session.proofs.Needs.{need-is}
 
--- the call's answer is told by its tests
-pub record Told (tests : List Test) (x : Called) : Type 0 where
+-- the call's answer is decided by its tests
+pub record Decided-by (tests : List Test) (x : Called) : Type 0 where
   pub verdict-is : verdict-of (x .answer) ≡ first-failing tests
 
-tested : (h : Held) (k : ℕ) (test : Bool) (go : Called) (tests : List Test) → Told tests go → Told (k ∶ test ∷ tests) (check h k test go)
+tested : (h : Held) (k : ℕ) (test : Bool) (go : Called) (tests : List Test) → Decided-by tests go → Decided-by (k ∶ test ∷ tests) (check h k test go)
 unfolding check
 tested h k true go tests t = record { verdict-is = t .verdict-is }
 tested h k false go tests t = record { verdict-is = refl }
 
-passed : (x : Called) → verdict-of (x .answer) ≡ goes-on → Told [] x
+passed : (x : Called) → verdict-of (x .answer) ≡ goes-on → Decided-by [] x
 passed x e = record { verdict-is = e }
 
-start-told : (h : Held) (f n : ℕ) (y : List Float) (t : Float) → Told (start-tests h f n y t) (start h f n y t)
+start-decided : (h : Held) (f n : ℕ) (y : List Float) (t : Float) → Decided-by (start-tests h f n y t) (start h f n y t)
 unfolding start start-tests
-start-told h f n y t = tested h 1 _ _ _ (tested h 2 _ _ _ (tested h 3 _ _ _ (tested h 5 _ _ _ (tested h 6 _ _ _ (passed _ refl)))))
+start-decided h f n y t = tested h 1 _ _ _ (tested h 2 _ _ _ (tested h 3 _ _ _ (tested h 5 _ _ _ (tested h 6 _ _ _ (passed _ refl)))))
 
-attempt-told : (h : Held) (a : Arguments) → Told (attempt-tests h a) (attempt h a)
+attempt-decided : (h : Held) (a : Arguments) → Decided-by (attempt-tests h a) (attempt h a)
 unfolding attempt going-on attempted ask-pass attempt-tests
-attempt-told h a = tested h 1 _ _ _ (tested h 2 _ _ _ (tested h 3 _ _ _ (tested h 4 _ _ _ (tested h 6 _ _ _ (tested h 7 _ _ _ (passed _ refl))))))
+attempt-decided h a = tested h 1 _ _ _ (tested h 2 _ _ _ (tested h 3 _ _ _ (tested h 4 _ _ _ (tested h 6 _ _ _ (tested h 7 _ _ _ (passed _ refl))))))
 
-accept-told : (h : Held) → Told (accept-tests h) (accept h)
+accept-decided : (h : Held) → Decided-by (accept-tests h) (accept h)
 unfolding accept going-on accepted accept-tests
-accept-told h = tested h 1 _ _ _ (tested h 2 _ _ _ (tested h 3 _ _ _ (tested h 4 _ _ _ (passed _ refl))))
+accept-decided h = tested h 1 _ _ _ (tested h 2 _ _ _ (tested h 3 _ _ _ (tested h 4 _ _ _ (passed _ refl))))
 
-callback-told : (h : Held) (y : List Float) (t : Float) → Told (callback-tests h y t) (accept-with-callback h y t)
+callback-decided : (h : Held) (y : List Float) (t : Float) → Decided-by (callback-tests h y t) (accept-with-callback h y t)
 unfolding accept-with-callback going-on called-back callback-tests
-callback-told h y t = tested h 1 _ _ _ (tested h 2 _ _ _ (tested h 3 _ _ _ (tested h 4 _ _ _ (tested h 5 _ _ _ (tested h 6 _ _ _ (passed _ refl))))))
+callback-decided h y t = tested h 1 _ _ _ (tested h 2 _ _ _ (tested h 3 _ _ _ (tested h 4 _ _ _ (tested h 5 _ _ _ (tested h 6 _ _ _ (passed _ refl))))))
 
-abandon-told : (h : Held) → Told (abandon-tests h) (abandon h)
+abandon-decided : (h : Held) → Decided-by (abandon-tests h) (abandon h)
 unfolding abandon abandon-tests
-abandon-told h = tested h 1 _ _ _ (tested h 2 _ _ _ (tested h 3 _ _ _ (tested h 4 _ _ _ (passed _ refl))))
+abandon-decided h = tested h 1 _ _ _ (tested h 2 _ _ _ (tested h 3 _ _ _ (tested h 4 _ _ _ (passed _ refl))))
 
 -- ---- a reply: what its phase tests too
 
@@ -96,27 +96,27 @@ replied-verdict P.Candidate r v d = refl
 replied-verdict P.Finished r v d = refl
 replied-verdict P.Callback r v d = refl
 
-reply-told : (h : Held) (d : List Float) → Told (reply-tests h d) (reply h d)
+reply-decided : (h : Held) (d : List Float) → Decided-by (reply-tests h d) (reply h d)
 unfolding reply settled going-on spoiled reply-tests
-reply-told h d = tested h 1 _ _ _ (tested h 2 _ _ _ (tested h 3 _ _ _ (tested h 4 _ _ _ (tested h 8 _ _ _ (go (all-finite d))))))
+reply-decided h d = tested h 1 _ _ _ (tested h 2 _ _ _ (tested h 3 _ _ _ (tested h 4 _ _ _ (tested h 8 _ _ _ (go (all-finite d))))))
   where
     v : Vectors
     v = unpack (h .kept .n) (h .area)
 
-    go : (t : Bool) → Told (9 ∶ t ∷ replied-tests (h .kept .phase) (h .kept) v d) (cond t (settled (h .counters) (replied (h .kept .phase) (h .kept) v d)) (spoiled h))
+    go : (t : Bool) → Decided-by (9 ∶ t ∷ replied-tests (h .kept .phase) (h .kept) v d) (cond t (settled (h .counters) (replied (h .kept .phase) (h .kept) v d)) (spoiled h))
     go true = record { verdict-is = replied-verdict (h .kept .phase) (h .kept) v d }
     go false = record { verdict-is = refl }
 
 -- ---- every call
 
-pub told : (h : Held) (c : Call) → Told (tests-of h c) (made h c)
+pub decided : (h : Held) (c : Call) → Decided-by (tests-of h c) (made h c)
 unfolding tests-of made
-told h (Start f n y t) = start-told h f n y t
-told h (Attempt a) = attempt-told h a
-told h (Reply d) = reply-told h d
-told h Accept = accept-told h
-told h (Accept-with-callback y t) = callback-told h y t
-told h Abandon = abandon-told h
+decided h (Start f n y t) = start-decided h f n y t
+decided h (Attempt a) = attempt-decided h a
+decided h (Reply d) = reply-decided h d
+decided h Accept = accept-decided h
+decided h (Accept-with-callback y t) = callback-decided h y t
+decided h Abandon = abandon-decided h
 
 -- an answer that says refused with k is that
 pub says-refused : (y : Answer) (k : ℕ) → Says y (Refused k) → y ≡ Refused k
@@ -144,7 +144,7 @@ same-number i j e = ap (λ (y : Answer). refused-number (verdict-of y)) e
 
 -- each number on its own cause and on no other
 pub refused : (h : Held) (c : Call) (k : ℕ) → Says (made h c .answer) (Refused k) ↔ first-failing (tests-of h c) ≡ refused-with k
-refused h c k = (λ s. sym (told h c .verdict-is) ∙ ap verdict-of (says-refused (made h c .answer) k s), λ e. go (made h c .answer) (told h c .verdict-is ∙ e))
+refused h c k = (λ s. sym (decided h c .verdict-is) ∙ ap verdict-of (says-refused (made h c .answer) k s), λ e. go (made h c .answer) (decided h c .verdict-is ∙ e))
   where
     go : (y : Answer) → verdict-of y ≡ refused-with k → Says y (Refused k)
     go (Evaluate s b) e = absurd (subst is-refused (sym e) tt)

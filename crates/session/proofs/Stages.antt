@@ -33,19 +33,17 @@ staging-at s j c = record { stages = s; stage = j; recurrence = c }
 abbrev pub iteration-at : ℕ → Float → Float → Float → Iteration
 iteration-at k π ρ r = record { pass = k; perturbation = π; «previous_radius» = ρ; «scaled_radius» = r }
 
+both-undone : {A : Type 0} (t : Bool) (m n : Asking A) → is-done m ≡ false → is-done n ≡ false → is-done (cond t m n) ≡ false
+both-undone true m n p q = p
+both-undone false m n p q = q
+
 module _ (h : Held) (a : Arguments) (hk : known (h .kept .family) ≡ true) (hs : sized (h .kept .n) ≡ true) where
   abbrev F : Family
   F = family-of (h .kept .family)
 
   close-undone : (s k : ℕ) (r : Float) (v : Vectors) → is-done (close F (h .kept .n) a s k r v) ≡ false
   unfolding close evaluate _>>=_ is-done
-  close-undone s k r v = go (all-finite (with-candidate v candidate))
-    where
-      go : (t : Bool) → is-done (cond t
-          (evaluate (with-candidate v) (a .time ⊕ a .step) (with-candidate v candidate) >>= λ d. done (finished-attempt F (h .kept .n) a s k r (with-last F (h .kept .n) a (with-candidate v) d)))
-          (stopped 10 (with-candidate v))) ≡ false
-      go true = refl
-      go false = refl
+  close-undone s k r v = both-undone (all-finite (with-candidate v candidate)) _ _ refl refl
 
   -- s stages after k passes, at the scaled radius r
   module _ (s k : ℕ) (r π ρ : Float) (hs′ : permitted F s ≡ true) (hr : stage-need F r ≡ Met s) (hn : lt r nought ≡ false) (1≤k : 1 ≤ k) (k≤ : k ≤ 12) where
@@ -137,7 +135,7 @@ module _ (h : Held) (a : Arguments) (hk : known (h .kept .family) ≡ true) (hs 
         asked h a hk hs P.Stage I (staging-at s j rc) v c e (a .time ⊕ a .step ⊗ rc .«theta_previous») previous-one x
         (λ m. (m >>= on-from zero j rc v) >>= close F (h .kept .n) a s k r)
         hv hc (both hs′ (both (le-leb 2 j 2≤j) (le-leb j s (omega arith)))) refl
-        (λ d fin. rw (le-ltb j s (omega arith)) (close-undone s k r (taken j rc v d)))
+        (λ d fin. rw (le-ltb j s (omega arith)) (close-undone s k r _))
         (λ d hd fin. rw (le-ltb j s (omega arith)) (candidate-follows j rc v (taken j rc v d) c e (intact-row h F (a .step) (coefficients F s j rc) v d hv hd) hc (omega arith)))
     stages-follow (suc m) j rc v c e x j≡ 2≤j e≡ hv hc =
         asked h a hk hs P.Stage I (staging-at s j rc) v c e (a .time ⊕ a .step ⊗ rc .«theta_previous») previous-one x
