@@ -94,27 +94,31 @@ outer = record {
 abbrev answered : Replied → Next
 answered r = record { answer = r .answer; «record» = r .«record» }
 
+-- what the outer call leaves in the counters, which held k
+abbrev left : Counters → Replied → Counters
+left k r = r .counters
+
 -- what the core says of its result and of the area's last list
-abbrev Said : Record → Counters → List Float → List Float → Replied → List Float → Type 0
-Said s k xs ds r zs = Meets (calls.reply (holding s k xs) ds) (r .answer) (r .«record») (r .counters) zs
+abbrev Core-said : Record → Counters → List Float → List Float → Replied → List Float → Type 0
+Core-said s k xs ds r zs = Meets (calls.reply (holding s k xs) ds) (r .answer) (r .«record») (r .counters) zs
 
 -- what the outer call says of its result, of the counters' last value and of the area's last list
-abbrev Told : Record → Counters → List Float → List Float → Next → Counters → List Float → Type 0
-Told s k xs ds r k′ zs = Meets (calls.reply (holding s k xs) ds) (r .answer) (r .«record») k′ zs
+abbrev Outer-said : Record → Counters → List Float → List Float → Next → Counters → List Float → Type 0
+Outer-said s k xs ds r k′ zs = Meets (calls.reply (holding s k xs) ds) (r .answer) (r .«record») k′ zs
 
 module _ {M : Type 1} (𝓤 : URA M) where
   abbrev core-clauses : Clauses 𝓤 core.ended
   core-clauses κs a = record {
     ghost = Unit {0};
     requires = λ _. emp 𝓤;
-    ensures = λ _ r e. fact 𝓤 (Said (a .0) (a .1 .0) (now (a .1 .1 .0)) (now (a .1 .1 .1 .0)) r (now (e .1 .1 .0)));
+    ensures = λ _ r e. fact 𝓤 (Core-said (a .0) (a .1 .0) (now (a .1 .1 .0)) (now (a .1 .1 .1 .0)) r (now (e .1 .1 .0)));
   }
 
   abbrev outer-clauses : Clauses 𝓤 reply.ended
   outer-clauses κs a = record {
     ghost = Unit {0};
     requires = λ _. emp 𝓤;
-    ensures = λ _ r e. fact 𝓤 (Told (a .0) (now (a .1 .0)) (now (a .1 .1 .0)) (now (a .1 .1 .1 .0)) r (now (e .1 .0)) (now (e .1 .1 .0)));
+    ensures = λ _ r e. fact 𝓤 (Outer-said (a .0) (now (a .1 .0)) (now (a .1 .1 .0)) (now (a .1 .1 .1 .0)) r (now (e .1 .0)) (now (e .1 .1 .0)));
   }
 
 -- the core's triple
@@ -168,17 +172,17 @@ module _ {M : Type 1} (𝓤 : URA M) (H : Heap 𝓤) (A : Atoms 𝓤) (W : Given
       owned ! K.the-row (Is K.the-row) (LL.makes K.the-type K′.the-plain 𝓤 H A) k _ is-k $ fjoin ! $ owned ! R.the-row (Is R.the-row) (LL.makes R.the-type R′.the-plain 𝓤 H A) s _ is-s $ fjoin ! $ move ! (2 ∷ 0 ∷ []) $ join ! $ frame ! $ done !
 
   -- what whoever holds an outcome knows of its fields
-  is-counters : (r : Replied) (w : Val) → Is O.the-row r (w ∷ []) → Is K.the-row (r .counters) (kv (r .counters) ∷ [])
-  is-counters r w is = LL.owed O.the-type O′.the-laws r _ is .1 .1 .0
+  is-left : Is K.the-row k (kv k ∷ []) → (r : Replied) (w : Val) → Is O.the-row r (w ∷ []) → Is K.the-row (left k r) (kv (left k r) ∷ [])
+  is-left is-k r w is = LL.owed O.the-type O′.the-laws r _ is .1 .1 .0
 
   is-reply : (r : Replied) (w : Val) → Is O.the-row r (w ∷ []) → Is P.the-row (answered r) (LL.vals P.the-type P′.the-laws (answered r))
   is-reply r w is = LL.owes P.the-type P′.the-laws (answered r) (LL.owed O.the-type O′.the-laws r _ is .0, (LL.owed O.the-type O′.the-laws r _ is .1 .0, tt))
 
-  exits : (r : Replied) (w : Val) (zs : List Float) → Is O.the-row r (w ∷ []) → Said s k (x .now) (d .now) r zs → length zs ≡ length (x .now)
-      → ent 𝓤 (⋆ 𝓤 H A (‵ (fobs γ (K.the-row .coded .code (r .counters))) ∷ ‵ (fbor κ₀ (Body (mem K.the-row) b o γ)) ∷ ‵ (flft κ₀ q₀) ∷ (‵ (flft κ₁ q₁) ⊛ (‵ (flft κ₂ q₂) ⊛ ‵ ftrue)) ∷ ‵ (finally f64 (x .name) zs) ∷ [])) (Post (LL.val P.the-type P′.the-laws (answered r)))
+  exits : (r : Replied) (w : Val) (zs : List Float) → Is O.the-row r (w ∷ []) → Core-said s k (x .now) (d .now) r zs → length zs ≡ length (x .now)
+      → ent 𝓤 (⋆ 𝓤 H A (‵ (fobs γ (K.the-row .coded .code (left k r))) ∷ ‵ (fbor κ₀ (Body (mem K.the-row) b o γ)) ∷ ‵ (flft κ₀ q₀) ∷ (‵ (flft κ₁ q₁) ⊛ (‵ (flft κ₂ q₂) ⊛ ‵ ftrue)) ∷ ‵ (finally f64 (x .name) zs) ∷ [])) (Post (LL.val P.the-type P′.the-laws (answered r)))
   exits r w zs is e l =
-      qed W (‵ (fobs γ (K.the-row .coded .code (r .counters))) ∷ ‵ (fbor κ₀ (Body (mem K.the-row) b o γ)) ∷ ‵ (flft κ₀ q₀) ∷ (‵ (flft κ₁ q₁) ⊛ (‵ (flft κ₂ q₂) ⊛ ‵ ftrue)) ∷ ‵ (finally f64 (x .name) zs) ∷ []) ∵
-      suffices ! _ (ends-at 𝓤 H A reply.ended stayed (outer-clauses 𝓤) W (((κ₀, (κ₁, (κ₂, tt))), (q₀, (q₁, (q₂, tt))), tt, a, vals), tt) (LL.val P.the-type P′.the-laws (answered r)) (answered r) (tt, (r .counters, (zs, (tt, tt)))) (tt, (tt, (l, (tt, tt))))) $ says ! (e) $
+      qed W (‵ (fobs γ (K.the-row .coded .code (left k r))) ∷ ‵ (fbor κ₀ (Body (mem K.the-row) b o γ)) ∷ ‵ (flft κ₀ q₀) ∷ (‵ (flft κ₁ q₁) ⊛ (‵ (flft κ₂ q₂) ⊛ ‵ ftrue)) ∷ ‵ (finally f64 (x .name) zs) ∷ []) ∵
+      suffices ! _ (ends-at 𝓤 H A reply.ended stayed (outer-clauses 𝓤) W (((κ₀, (κ₁, (κ₂, tt))), (q₀, (q₁, (q₂, tt))), tt, a, vals), tt) (LL.val P.the-type P′.the-laws (answered r)) (answered r) (tt, (left k r, (zs, (tt, tt)))) (tt, (tt, (l, (tt, tt))))) $ says ! (e) $
       move ! (2 ∷ 3 ∷ []) $ join ! $ frame ! $
       -- [obs; the borrow; the last list]
       nothing ! $ nothing ! $ fjoin ! $ move ! (3 ∷ 0 ∷ []) $ fjoin ! $ move ! (1 ∷ 2 ∷ []) $ feqI ! (List Val) (vptr b o ∷ []) (vptr b o ∷ []) refl $ fjoin3 ! $ fjoin ! $ nothing ! $ fjoin ! $
@@ -203,15 +207,15 @@ module _ {M : Type 1} (𝓤 : URA M) (H : Heap 𝓤) (A : Atoms 𝓤) (W : Given
         calls-at ! fm (Core 𝓤 H A) known to-core (and-then ! (load ! (from ! (stop !)) (look ! 20 refl)) (and-then ! (load ! (from ! (stop !)) (look ! 10 refl)) (and-then ! (load ! (from ! (stop !)) (look ! 6 refl)) (and-then ! (load ! (from ! (stop !)) (look ! 14 refl)) (no-more !))))) (λ w.
         use1 W (later (some (λ (r : Replied). ((‵ (flft κ₁ q₁) ⊛ (‵ (flft κ₂ q₂) ⊛ ‵ ftrue)) ⊛ ‵ (O.the-row .own r (w ∷ []))) ⊛ raw (ensured 𝓤 H A core.ended (core-clauses 𝓤) (κ₁, (κ₂, tt)) passed tt r)))) (id⊢ 𝓤 _) $ await ! tt $ pick ! (λ r.
         -- what it ensures, at some last list of the area
-        split ! $ move ! (1 ∷ []) $ use1 W (some (λ (zs : Unit {0} × (Unit {0} × (List Float × (Unit {0} × Unit {0})))). ‵ (lasts core.ended (κ₁, (κ₂, tt)) passed zs) ⊛ raw (fact 𝓤 (Said s k (x .now) (d .now) r (zs .1 .1 .0))))) (id⊢ 𝓤 _) $ pick ! (λ zs.
-        split ! $ move ! (1 ∷ []) $ heard ! (Said s k (x .now) (d .now) r (zs .1 .1 .0)) (λ e. fsplit ! $ drop ! $ fsplit ! $ drop ! $ fsplit ! $ fsplit ! $ move ! (1 ∷ []) $ feqL ! (λ l.
+        split ! $ move ! (1 ∷ []) $ use1 W (some (λ (zs : Unit {0} × (Unit {0} × (List Float × (Unit {0} × Unit {0})))). ‵ (lasts core.ended (κ₁, (κ₂, tt)) passed zs) ⊛ raw (fact 𝓤 (Core-said s k (x .now) (d .now) r (zs .1 .1 .0))))) (id⊢ 𝓤 _) $ pick ! (λ zs.
+        split ! $ move ! (1 ∷ []) $ heard ! (Core-said s k (x .now) (d .now) r (zs .1 .1 .0)) (λ e. fsplit ! $ drop ! $ fsplit ! $ drop ! $ fsplit ! $ fsplit ! $ move ! (1 ∷ []) $ feqL ! (λ l.
         move ! (2 ∷ []) $ split ! $ move ! (1 ∷ []) $ peeks ! O.the-row (Is O.the-row) (shows 𝓤 H A O.the-row) r (w ∷ []) (λ is.
         -- [what the outcome owns; the tokens; the last list; …; the counters' cell; what they own; the open borrow; obs; auth; _8; …]
         land ! (from ! (stop !)) (init ! 15 refl (LL.lawful O.the-type O′.the-laws 𝓤 H A W .typed r _ is .0)) $ rewrite ! 15 (λ (u : Val). ‵ (fat fullShare O′.mir l₅ 0 u)) (ap only (LL.tells O.the-type O′.the-laws r _ is)) refl $
-        assigns ! (of-opd ! (load ! (from ! (fld ! refl (stop !))) (look-in ! 15 (sub ! 2 refl (whole !))))) (from ! (hop ! (look ! 21 refl) (stop !))) (store-raw ! 4 refl (LL.lawful K.the-type K′.the-laws 𝓤 H A W .typed (r .counters) _ (is-counters r w is) .0)) $
+        assigns ! (of-opd ! (load ! (from ! (fld ! refl (stop !))) (look-in ! 15 (sub ! 2 refl (whole !))))) (from ! (hop ! (look ! 21 refl) (stop !))) (store-raw ! 4 refl (LL.lawful K.the-type K′.the-laws 𝓤 H A W .typed (left k r) _ (is-left is-k r w is) .0)) $
         assigns ! (agg ! (and-then ! (load ! (from ! (fld ! refl (stop !))) (look-in ! 15 (sub ! 0 refl (whole !)))) (and-then ! (load ! (from ! (fld ! refl (stop !))) (look-in ! 15 (sub ! 1 refl (whole !)))) (no-more !)))) (from ! (stop !)) (init ! 25 refl (LL.lawful P.the-type P′.the-laws 𝓤 H A W .typed (answered r) _ (is-reply r w is) .0)) $
         -- the borrow is closed at the new counters
-        move ! (5 ∷ []) $ drop ! $ owned ! K.the-row (Is K.the-row) (LL.makes K.the-type K′.the-plain 𝓤 H A) (r .counters) _ (is-counters r w is) $ move ! (5 ∷ 0 ∷ 6 ∷ 7 ∷ 8 ∷ []) $ closes ! tt K.the-row (r .counters) (kv (r .counters) ∷ []) b o $
+        move ! (5 ∷ []) $ drop ! $ owned ! K.the-row (Is K.the-row) (LL.makes K.the-type K′.the-plain 𝓤 H A) (left k r) _ (is-left is-k r w is) $ move ! (5 ∷ 0 ∷ 6 ∷ 7 ∷ 8 ∷ []) $ closes ! tt K.the-row (left k r) (kv (left k r) ∷ []) b o $
         -- [obs; the borrow; its token; what the outcome owns; the tokens; the last list; …; _8; …]
         returns ! (look ! 23 refl) $ forget ! 7 refl $ forget ! 9 refl $ forget ! 11 refl $ forget ! 13 refl $ forget ! 15 refl $ forget ! 17 refl $ forget ! 19 refl $ forget ! 21 refl $ forget ! 23 refl $
         move ! (23 ∷ 24 ∷ []) $ free1 ! $ move ! (21 ∷ 22 ∷ []) $ free1 ! $ move ! (19 ∷ 20 ∷ []) $ free1 ! $ move ! (17 ∷ 18 ∷ []) $ free1 ! $ move ! (15 ∷ 16 ∷ []) $ free1 ! $ move ! (13 ∷ 14 ∷ []) $ free1 ! $ move ! (11 ∷ 12 ∷ []) $ free1 ! $ move ! (9 ∷ 10 ∷ []) $ free1 ! $ move ! (7 ∷ 8 ∷ []) $ free1 ! $ free0 ! $
