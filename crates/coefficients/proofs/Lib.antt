@@ -1,5 +1,5 @@
 pub mod Numbers
-mod Bits
+mod Arms
 mod Small
 mod Doubles
 mod RowTable
