@@ -6,8 +6,10 @@ use std::time::Instant;
 extern "C" {
     fn timed_row(area: *mut f64, count: usize, n: usize, family: u64, mu: f64, nu: f64, mu_tilde: f64, gamma_tilde: f64, step: f64, derivative: *const f64, m: usize);
     fn timed_finite(v: *const f64, n: usize) -> bool;
+    fn timed_root(x: f64) -> f64;
     fn timed_norm(v: *const f64, n: usize) -> f64;
     fn timed_point(area: *mut f64, count: usize, n: usize, perturbation: f64);
+    fn timed_point_from(area: *mut f64, count: usize, n: usize, perturbation: f64, norm: f64);
     fn timed_pass(area: *mut f64, count: usize, n: usize, perturbation: f64, derivative: *const f64, m: usize);
 }
 
@@ -89,9 +91,23 @@ impl Vectors {
         std::mem::swap(&mut self.previous_one, &mut self.next_stage);
     }
 
+    /// The Rust's point: it works the norm out.
     #[inline(never)]
     fn point(&mut self) {
-        let scale = PERTURBATION / norm(&self.eigenvector).max(f64::MIN_POSITIVE);
+        let norm = norm(&self.eigenvector);
+        self.point_from(norm)
+    }
+
+    /// The same with the root that is worked out here.
+    #[inline(never)]
+    fn point_by_our_root(&mut self) {
+        let norm = norm_by_our_root(&self.eigenvector);
+        self.point_from(norm)
+    }
+
+    #[inline(always)]
+    fn point_from(&mut self, norm: f64) {
+        let scale = PERTURBATION / norm.max(f64::MIN_POSITIVE);
         for ((perturbed, value), direction) in self.perturbed_state.iter_mut().zip(&self.state).zip(&self.eigenvector) {
             *perturbed = value + scale * direction;
         }
@@ -112,6 +128,13 @@ impl Vectors {
 #[inline(never)]
 fn norm(v: &[f64]) -> f64 {
     v.iter().map(|x| x * x).sum::<f64>().sqrt()
+}
+
+/// The same sum with the root that is worked out here: what is left to compare is the loop.
+#[inline(never)]
+fn norm_by_our_root(v: &[f64]) -> f64 {
+    // SAFETY: a number goes in and a number comes out.
+    unsafe { timed_root(v.iter().map(|x| x * x).sum::<f64>()) }
 }
 
 #[inline(never)]
@@ -149,6 +172,8 @@ fn main() {
             timed_row(black_box(a), count, black_box(n), family, ROW.mu, ROW.nu, ROW.mu_tilde, ROW.gamma_tilde, STEP, d, n)
         };
         let point = || unsafe { timed_point(black_box(a), count, black_box(n), PERTURBATION) };
+        let at_hand = norm(&derivative);
+        let point_from = || unsafe { timed_point_from(black_box(a), count, black_box(n), PERTURBATION, black_box(at_hand)) };
         let pass = || unsafe { timed_pass(black_box(a), count, black_box(n), PERTURBATION, d, n) };
         let tested = || unsafe { black_box(timed_finite(black_box(d), n)) };
         for family in [1, 3] {
@@ -166,8 +191,12 @@ fn main() {
                 black_box(&mut vectors).row(3, ROW, &v)
             }
         });
-        measure("norm", n, || unsafe { black_box(timed_norm(black_box(d), n)); }, || { black_box(norm(black_box(&v))); });
-        measure("perturbed point with its norm", n, point, || black_box(&mut vectors).point());
+        let ours = || unsafe { black_box(timed_norm(black_box(d), n)); };
+        measure("norm", n, ours, || { black_box(norm(black_box(&v))); });
+        measure("norm, our root in both", n, ours, || { black_box(norm_by_our_root(black_box(&v))); });
+        measure("point, norm worked out", n, point, || black_box(&mut vectors).point());
+        measure("point, our root in both", n, point, || black_box(&mut vectors).point_by_our_root());
+        measure("point, norm at hand in ours", n, point_from, || black_box(&mut vectors).point());
         measure("pass: direction, norm, next point", n, pass, || black_box(&mut vectors).pass(black_box(&v)));
     }
 }

@@ -40,12 +40,29 @@ pub extern "C" fn timed_norm(v: &[f64]) -> f64 {
     workspace::vector_norm(v)
 }
 
-// The perturbed point, its norm worked out.
+// The root alone, for the Rust loops that take the same one.
+#[no_mangle]
+pub extern "C" fn timed_root(x: f64) -> f64 {
+    ieee::sqrt(x)
+}
+
+// The perturbed point, the direction's norm worked out.
 #[no_mangle]
 pub extern "C" fn timed_point(area: &mut [f64], n: usize, perturbation: f64) {
     if n <= 512 {
         if 11 * n <= area.len() {
-            workspace::perturb(area, n, perturbation);
+            let norm = workspace::direction_norm(area, n);
+            workspace::perturb(area, n, perturbation, norm);
+        }
+    }
+}
+
+// The same with the norm at hand, as after a pass.
+#[no_mangle]
+pub extern "C" fn timed_point_from(area: &mut [f64], n: usize, perturbation: f64, norm: f64) {
+    if n <= 512 {
+        if 11 * n <= area.len() {
+            workspace::perturb(area, n, perturbation, norm);
         }
     }
 }
@@ -58,7 +75,7 @@ pub extern "C" fn timed_pass(area: &mut [f64], n: usize, perturbation: f64, deri
             if derivative.len() == n {
                 workspace::turn(area, n, derivative);
                 let norm = workspace::direction_norm(area, n);
-                workspace::perturb_along(area, n, perturbation, norm);
+                workspace::perturb(area, n, perturbation, norm);
             }
         }
     }

@@ -14,7 +14,7 @@ use Rattle.family.specs.Family.{Family, RKC, RKL1, RKL2, RKG1, RKG2}
 use Rattle.coefficients.specs.declared.Coefficients.{Coefficients}
 use Rattle.workspace.specs.declared.Arguments.{Arguments}
 use Rattle.workspace.specs.Vectors.{Vector, Vectors, _with_≔_, number, named, vector-count, unpack, pack, join, in-order, tabulate, each, vector-norm, first-derivative, last-derivative, derivative, previous-two, previous-one, next-stage, eigenvector, perturbed-state, perturbed-derivative, state, candidate}
-use Rattle.workspace.specs.Kernel.{with-direction, perturbed, turned, first-stage, with-row, entry, exchanged, with-candidate, with-last, error}
+use Rattle.workspace.specs.Kernel.{with-direction, perturbed-by, perturbed, turned, first-stage, with-row, entry, exchanged, with-candidate, with-last, error}
 
 -- every vector is n long
 abbrev pub Long : ℕ → Vectors → Type 0
@@ -201,7 +201,7 @@ module _ (n : ℕ) where
       go false u = h
 
   pub long-perturbed : (p : Float) (v : Vectors) → Long n v → Long n (perturbed n p v)
-  unfolding perturbed
+  unfolding perturbed perturbed-by
   long-perturbed p v h = long-each v v perturbed-state _ h
 
   pub long-turned : (v : Vectors) (d : List Float) → Long n v → length d ≡ n → Long n (turned n v d)

@@ -25,10 +25,13 @@ with-direction n v =
 unfoldable pub perturbation-of : Vectors → Float
 perturbation-of v = root-epsilon ⊗ max (vector-norm (v state)) one
 
--- the point of a pass
-unfoldable pub perturbed : ℕ → Float → Vectors → Vectors
-perturbed n perturbation v = let scale = perturbation ⊘ max (vector-norm (v eigenvector)) min-positive in
+-- the point of a pass, along a direction of this norm
+unfoldable pub perturbed-by : ℕ → Float → Float → Vectors → Vectors
+perturbed-by n perturbation norm v = let scale = perturbation ⊘ max norm min-positive in
     v with perturbed-state ≔ each n v (λ x. x state ⊕ scale ⊗ x eigenvector)
+
+unfoldable pub perturbed : ℕ → Float → Vectors → Vectors
+perturbed n perturbation v = perturbed-by n perturbation (vector-norm (v eigenvector)) v
 
 -- its derivative d taken: the next direction
 unfoldable pub turned : ℕ → Vectors → List Float → Vectors

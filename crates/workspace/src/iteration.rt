@@ -5,7 +5,7 @@ ghost use lib.ListN.{length};
 ghost use lib.Ieee.{binary64, div};
 ghost use Rattle.ieee.specs.Sqrt.{sqrt};
 ghost use Rattle.workspace.specs.Vectors.{named, unpack, eigenvector, sum-of-squares, vector-norm};
-ghost use Rattle.workspace.specs.Kernel.{with-direction, perturbation-of, perturbed, turned, radius-of, ended, scaled};
+ghost use Rattle.workspace.specs.Kernel.{with-direction, perturbation-of, perturbed-by, turned, ended, scaled};
 use crate::EIGENVECTOR;
 use crate::FIRST_DERIVATIVE;
 use crate::PERTURBED_DERIVATIVE;
@@ -56,18 +56,30 @@ fn norm_of(area: &[f64], n: usize, k: usize) -> f64
     vector_norm(&area[a..b])
 }
 
-// The kept eigenvector, else the first derivative, else all ones.
-pub fn choose_direction(area: &mut [f64], n: usize)
+// The norm of the direction.
+pub fn direction_norm(area: &[f64], n: usize) -> f64
     requires { ⌜ 11 * n ≤ length (now area) ⌝ }
-    ensures { λ _. ⌜ unpack n (now (area .exit)) ≡ with-direction n (unpack n (now (area .entry))) ⌝ }
+    ensures { λ r. ⌜ r ≡ vector-norm (unpack n (now (area .entry)) eigenvector) ⌝ }
 {
-    if norm_of(area, n, EIGENVECTOR) <= MIN_POSITIVE {
-        if norm_of(area, n, FIRST_DERIVATIVE) <= MIN_POSITIVE {
+    norm_of(area, n, EIGENVECTOR)
+}
+
+// The kept eigenvector, else the first derivative, else all ones; and its norm, for the first pass.
+pub fn choose_direction(area: &mut [f64], n: usize) -> f64
+    requires { ⌜ 11 * n ≤ length (now area) ⌝ }
+    ensures { λ r. ⌜ (unpack n (now (area .exit)) ≡ with-direction n (unpack n (now (area .entry)))) × (r ≡ vector-norm (unpack n (now (area .exit)) eigenvector)) ⌝ }
+{
+    let kept = direction_norm(area, n);
+    if kept <= MIN_POSITIVE {
+        let first = norm_of(area, n, FIRST_DERIVATIVE);
+        if first <= MIN_POSITIVE {
             fill_vector(area, n, EIGENVECTOR, 1.0);
-        } else {
-            copy_vector(area, n, FIRST_DERIVATIVE, EIGENVECTOR);
+            return direction_norm(area, n);
         }
+        copy_vector(area, n, FIRST_DERIVATIVE, EIGENVECTOR);
+        return first;
     }
+    kept
 }
 
 pub fn perturbation(area: &[f64], n: usize) -> f64
@@ -77,18 +89,10 @@ pub fn perturbation(area: &[f64], n: usize) -> f64
     ROOT_EPSILON * ieee::max(norm_of(area, n, STATE), 1.0)
 }
 
-// The norm of the direction.
-pub fn direction_norm(area: &[f64], n: usize) -> f64
+// The point of a pass. Its caller has the direction's norm at hand, which the Rust works out a second time.
+pub fn perturb(area: &mut [f64], n: usize, perturbation: f64, norm: f64)
     requires { ⌜ 11 * n ≤ length (now area) ⌝ }
-    ensures { λ r. ⌜ r ≡ vector-norm (unpack n (now (area .entry)) eigenvector) ⌝ }
-{
-    norm_of(area, n, EIGENVECTOR)
-}
-
-// The point of a pass, where the norm of the direction is at hand: the Rust works it out a second time.
-pub fn perturb_along(area: &mut [f64], n: usize, perturbation: f64, norm: f64)
-    requires { ⌜ 11 * n ≤ length (now area) ⌝ }
-    ensures { λ _. ⌜ (norm ≡ vector-norm (unpack n (now (area .entry)) eigenvector) → unpack n (now (area .exit)) ≡ perturbed n perturbation (unpack n (now (area .entry)))) ⌝ }
+    ensures { λ _. ⌜ unpack n (now (area .exit)) ≡ perturbed-by n perturbation norm (unpack n (now (area .entry))) ⌝ }
 {
     let scale = perturbation / ieee::max(norm, MIN_POSITIVE);
     let mut i = 0;
@@ -96,14 +100,6 @@ pub fn perturb_along(area: &mut [f64], n: usize, perturbation: f64, norm: f64)
         area[PERTURBED_STATE * n + i] = area[STATE * n + i] + scale * area[EIGENVECTOR * n + i];
         i += 1;
     }
-}
-
-pub fn perturb(area: &mut [f64], n: usize, perturbation: f64)
-    requires { ⌜ 11 * n ≤ length (now area) ⌝ }
-    ensures { λ _. ⌜ unpack n (now (area .exit)) ≡ perturbed n perturbation (unpack n (now (area .entry))) ⌝ }
-{
-    let norm = direction_norm(area, n);
-    perturb_along(area, n, perturbation, norm);
 }
 
 // The pass's derivative taken: the next direction.
@@ -119,13 +115,6 @@ pub fn turn(area: &mut [f64], n: usize, derivative: &[f64])
             - area[FIRST_DERIVATIVE * n + i];
         i += 1;
     }
-}
-
-pub fn radius(area: &[f64], n: usize, perturbation: f64) -> f64
-    requires { ⌜ 11 * n ≤ length (now area) ⌝ }
-    ensures { λ r. ⌜ r ≡ radius-of perturbation (unpack n (now (area .entry))) ⌝ }
-{
-    direction_norm(area, n) / perturbation
 }
 
 // Whether the iteration ends after this pass: at radius 0, and from the second pass on at a small change.

@@ -21,17 +21,17 @@ chosen : (n : ℕ) (v : Vectors) (t u : Bool) → le (vector-norm (v eigenvector
 unfolding with-direction
 chosen n v t u e f = sym (ap₂ (λ (s w : Bool). cond s (cond w (v with eigenvector ≔ replicate n one) (v with eigenvector ≔ v first-derivative)) v) e f)
 
+direction-norm-requires : tie.Need-direction-norm-requires
+direction-norm-requires c κs = search needs
+
 norm-of-requires : tie.Need-norm-of-requires
 norm-of-requires c κs = search needs
-
-norm-of-requires-2 : tie.Need-norm-of-requires-2
-norm-of-requires-2 c κs = search needs
 
 fill-vector-requires : tie.Need-fill-vector-requires
 fill-vector-requires c κs = search needs
 
-copy-vector-requires : tie.Need-copy-vector-requires
-copy-vector-requires c κs = search needs
+direction-norm-requires-2 : tie.Need-direction-norm-requires-2
+direction-norm-requires-2 c κs = search needs
 
 same-length : tie.Need-same-length
 same-length c = search needs
@@ -39,9 +39,14 @@ same-length c = search needs
 returns : tie.Need-returns
 unfolding ofBits
 returns c =
-    let a = c .before .before .before .before .before .before .before .before .before .before .before .args in
-    c .before .before .fill-vector .ensures
-    ∙ chosen (a .n) (unpack (a .n) (a .area .now)) true true (small (c .before .before .before .before .before .before .before .before .norm-of .ensures) (c .before .before .before .before .before .before .before .if1 .taken)) (small (c .before .before .before .before .before .norm-of2 .ensures) (c .before .before .before .before .if2 .taken))
+    let a = c .before .before .before .before .before .before .before .before .before .before .before .before .before .args in (
+      c .before .before .before .before .fill-vector .ensures
+          ∙ chosen (a .n) (unpack (a .n) (a .area .now)) true true (small (c .before .before .before .before .before .before .before .before .before .before .direction-norm .ensures) (c .before .before .before .before .before .before .before .before .before .if1 .taken)) (small (c .before .before .before .before .before .before .before .norm-of .ensures) (c .before .before .before .before .before .before .if2 .taken)),
+      c .direction-norm2 .ensures,
+    )
+
+copy-vector-requires : tie.Need-copy-vector-requires
+copy-vector-requires c κs = search needs
 
 same-length-2 : tie.Need-same-length-2
 same-length-2 c = search needs
@@ -49,8 +54,12 @@ same-length-2 c = search needs
 returns-2 : tie.Need-returns-2
 returns-2 c =
     let a = c .before .before .before .before .before .before .before .before .before .before .before .args in
-    c .before .before .copy-vector .ensures
-    ∙ chosen (a .n) (unpack (a .n) (a .area .now)) true false (small (c .before .before .before .before .before .before .before .before .norm-of .ensures) (c .before .before .before .before .before .before .before .if1 .taken)) (small (c .before .before .before .before .before .norm-of2 .ensures) (c .before .before .before .before .if2 .left))
+    let first = c .before .before .before .before .before .norm-of .ensures in
+    let moved = c .before .before .copy-vector .ensures in (
+      moved
+          ∙ chosen (a .n) (unpack (a .n) (a .area .now)) true false (small (c .before .before .before .before .before .before .before .before .direction-norm .ensures) (c .before .before .before .before .before .before .before .if1 .taken)) (small first (c .before .before .before .before .if2 .left)),
+      first ∙ sym (ap (λ (v : Vectors). vector-norm (v eigenvector)) moved),
+    )
 
 same-length-3 : tie.Need-same-length-3
 same-length-3 c = search needs
@@ -59,18 +68,19 @@ returns-3 : tie.Need-returns-3
 returns-3 c =
     let a = c .before .before .before .before .args in
     let v = unpack (a .n) (a .area .now) in
-    chosen (a .n) v false (le (vector-norm (v first-derivative)) min-positive) (small (c .before .norm-of .ensures) (c .if1 .left)) refl
+    (chosen (a .n) v false (le (vector-norm (v first-derivative)) min-positive) (small (c .before .direction-norm .ensures) (c .if1 .left)) refl, c .before .direction-norm .ensures)
 
 pub choose-direction-spec : {M : Type 1} → statement M
 choose-direction-spec =
     tie.close
     (tie.spec
+    direction-norm-requires
     norm-of-requires
-    norm-of-requires-2
     fill-vector-requires
-    copy-vector-requires
+    direction-norm-requires-2
     same-length
     returns
+    copy-vector-requires
     same-length-2
     returns-2
     same-length-3

@@ -5,6 +5,7 @@ use Prim.Native.Nat.{_-_, _*_}
 use lib.ListN.{length, length-set}
 use Rattle.family.specs.Family.{family-of}
 use Rattle.workspace.specs.Kernel.{entry}
+use Rattle.workspace.specs.Reads.{Reads}
 use Rattle.workspace.proofs.Rows.{exchange-rules, exchange-law}
 use Rattle.workspace.proofs.Columns.{Working, begin-among, turn, finish}
 use native.Mathlib.Omega.{arith}
@@ -20,32 +21,8 @@ abbrev μ-loop : tie.MeasureT-loop
 loop-holds : tie.Need-loop-holds Inv-loop μ-loop
 loop-holds c = (begin-among 10 _ _ _ refl (omega arith), c .before .pre)
 
-entry-at-requires : tie.Need-entry-at-requires Inv-loop μ-loop
-entry-at-requires c κs = omega arith
-
-mul-one : tie.Need-mul-one Inv-loop μ-loop
-mul-one c = omega arith
-
-add-one : tie.Need-add-one Inv-loop μ-loop
-add-one c = omega arith
-
-mul-one-2 : tie.Need-mul-one-2 Inv-loop μ-loop
-mul-one-2 c = omega arith
-
-slice-read-one : tie.Need-slice-read-one Inv-loop μ-loop
-slice-read-one c = omega arith
-
-mul-two : tie.Need-mul-two Inv-loop μ-loop
-mul-two c = omega arith
-
-add-two : tie.Need-add-two Inv-loop μ-loop
-add-two c = omega arith
-
-mul-two-2 : tie.Need-mul-two-2 Inv-loop μ-loop
-mul-two-2 c = omega arith
-
-slice-read-two : tie.Need-slice-read-two Inv-loop μ-loop
-slice-read-two c = omega arith
+entries-at-requires : tie.Need-entries-at-requires Inv-loop μ-loop
+entries-at-requires c κs = omega arith
 
 mul-ten : tie.Need-mul-ten Inv-loop μ-loop
 mul-ten c = omega arith
@@ -71,6 +48,9 @@ mul-ten-4 c = omega arith
 slice-write-ten-2 : tie.Need-slice-write-ten-2 Inv-loop μ-loop
 slice-write-ten-2 c = simp length-set (omega arith)
 
+entry-of-requires : tie.Need-entry-of-requires Inv-loop μ-loop
+entry-of-requires c κs = omega arith
+
 mul-ten-5 : tie.Need-mul-ten-5 Inv-loop μ-loop
 mul-ten-5 c = omega arith
 
@@ -90,9 +70,11 @@ loop-less : tie.Need-loop-less Inv-loop μ-loop
 loop-less c = omega arith
 
 loop-again : tie.Need-loop-again Inv-loop μ-loop
+unfolding Reads
 loop-again c =
-    let r = c .before .before .before .before .before in
-    (turn (_ ∷ _ ∷ _ ∷ []) (r .loop .inv .0) (omega arith) (refl, (refl, (c .before .before .entry-at .ensures, tt))), r .loop .inv .1)
+    let r = c .before .before .before .before in
+    let e = c .before .entries-at .ensures in
+    (turn (_ ∷ _ ∷ _ ∷ []) (r .loop .inv .0) (omega arith) (e .1, (e .0, (c .entry-of .ensures _ e, tt))), r .loop .inv .1)
 
 same-length : tie.Need-same-length Inv-loop μ-loop
 same-length c = omega arith
@@ -107,15 +89,7 @@ row-and-exchange-in-spec =
     Inv-loop
     μ-loop
     loop-holds
-    entry-at-requires
-    mul-one
-    add-one
-    mul-one-2
-    slice-read-one
-    mul-two
-    add-two
-    mul-two-2
-    slice-read-two
+    entries-at-requires
     mul-ten
     add-ten
     mul-ten-2
@@ -124,6 +98,7 @@ row-and-exchange-in-spec =
     add-ten-2
     mul-ten-4
     slice-write-ten-2
+    entry-of-requires
     mul-ten-5
     add-ten-3
     mul-ten-6

@@ -20,8 +20,11 @@ abbrev μ-loop : tie.MeasureT-loop
 loop-holds : tie.Need-loop-holds Inv-loop μ-loop
 loop-holds c = (begin-among 10 _ _ _ refl (omega arith), c .before .pre)
 
-entry-at-requires : tie.Need-entry-at-requires Inv-loop μ-loop
-entry-at-requires c κs = omega arith
+entries-at-requires : tie.Need-entries-at-requires Inv-loop μ-loop
+entries-at-requires c κs = omega arith
+
+entry-of-requires : tie.Need-entry-of-requires Inv-loop μ-loop
+entry-of-requires c κs = omega arith
 
 mul-ten : tie.Need-mul-ten Inv-loop μ-loop
 mul-ten c = omega arith
@@ -42,7 +45,9 @@ loop-less : tie.Need-loop-less Inv-loop μ-loop
 loop-less c = omega arith
 
 loop-again : tie.Need-loop-again Inv-loop μ-loop
-loop-again c = (turn (_ ∷ []) (c .before .before .before .loop .inv .0) (omega arith) (c .entry-at .ensures, tt), c .before .before .before .loop .inv .1)
+loop-again c =
+    let r = c .before .before .before .before in
+    (turn (_ ∷ []) (r .loop .inv .0) (omega arith) (c .entry-of .ensures _ (c .before .entries-at .ensures), tt), r .loop .inv .1)
 
 same-length : tie.Need-same-length Inv-loop μ-loop
 same-length c = omega arith
@@ -57,7 +62,8 @@ row-in-spec =
     Inv-loop
     μ-loop
     loop-holds
-    entry-at-requires
+    entries-at-requires
+    entry-of-requires
     mul-ten
     add-ten
     mul-ten-2

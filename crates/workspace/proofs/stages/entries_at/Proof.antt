@@ -1,11 +1,9 @@
--- `entry_at` meets its contract: only the first family has a form of its own.
-use Rattle.workspace.proofs.Rows.{first-entry, later-entry}
-use lib.Ieee.{ofBits}
-use Rattle.workspace.specs.Vectors.{column}
-use Rattle.workspace.specs.Kernel.{chebyshev-entry, orthogonal-entry}
+-- `entries_at` meets its contract: five reads.
+use mathlib.Core.Path.{refl}
+use Rattle.workspace.specs.Reads.{Reads}
 use native.Mathlib.Omega.{arith}
-use Rattle.workspace.proofs.stages.entry_at.Statement.{statement}
-use Rattle.workspace.proofs.stages.entry_at.Tie as tie
+use Rattle.workspace.proofs.stages.entries_at.Statement.{statement}
+use Rattle.workspace.proofs.stages.entries_at.Tie as tie
 
 mul-one : tie.Need-mul-one
 mul-one c = omega arith
@@ -68,15 +66,11 @@ shared-slice-read-first : tie.Need-shared-slice-read-first
 shared-slice-read-first c = omega arith
 
 returns : tie.Need-returns
-unfolding chebyshev-entry ofBits
-returns c = let a = c .before .before .before .before .before .before .before .before .before .before .before .before .args in first-entry (a .family) (a .step) (a .c) (column (a .n) (a .ten .now) (a .i)) (c .before .before .match .keys1)
+unfolding Reads
+returns c = (refl, refl, refl, refl, refl)
 
-returns-2 : tie.Need-returns-2
-unfolding orthogonal-entry ofBits
-returns-2 c = let a = c .before .before .before .before .before .before .before .before .before .before .before .before .args in later-entry (a .family) (a .step) (a .c) (column (a .n) (a .ten .now) (a .i)) (c .before .before .match .rest .1)
-
-pub entry-at-spec : {M : Type 1} → statement M
-entry-at-spec =
+pub entries-at-spec : {M : Type 1} → statement M
+entries-at-spec =
     tie.close
     (tie.spec
     mul-one
@@ -99,5 +93,4 @@ entry-at-spec =
     add-first
     mul-first-2
     shared-slice-read-first
-    returns
-    returns-2)
+    returns)
