@@ -44,7 +44,7 @@ differ (inl p) e = omega arith
 differ (inr p) e = omega arith
 
 -- the column v with x at k
-abbrev with-at : Vector → Float → (Vector → Float) → Vector → Float
+abbrev pub with-at : Vector → Float → (Vector → Float) → Vector → Float
 with-at k x v b = cond (eqb (number k) (number b)) x (v b)
 
 -- ---- a store, by columns
@@ -78,7 +78,7 @@ stores n i [] l = l
 stores n i ((k, x) ∷ ws) l = stores n i ws (set l (number k * n + i) x)
 
 -- what the rules make of column v
-abbrev made : Rules → (Vector → Float) → List (Vector × Float)
+abbrev pub made : Rules → (Vector → Float) → List (Vector × Float)
 made [] v = []
 made ((k, f) ∷ rs) v = (k, f v) ∷ made rs v
 
@@ -108,18 +108,18 @@ both m k t e = go (ltb (number k) m) refl e
     go true p q = (ltb-true (number k) m p, q)
     go false p q = absurd (false≢true q)
 
-roomy : (m n l : ℕ) (rs : Rules) → among m rs ≡ true → m * n ≤ l → Room n l rs
+pub roomy : (m n l : ℕ) (rs : Rules) → among m rs ≡ true → m * n ≤ l → Room n l rs
 unfolding Room
 roomy m n l [] e h = tt
 roomy m n l ((k, f) ∷ rs) e h =
     let b = both m k (among m rs) e in
     (omega (arith, h, room m (number k) n (b .0)), roomy m n l rs (b .1) h)
 
-length-stores : (n i : ℕ) (ws : List (Vector × Float)) (l : List Float) → length (stores n i ws l) ≡ length l
+pub length-stores : (n i : ℕ) (ws : List (Vector × Float)) (l : List Float) → length (stores n i ws l) ≡ length l
 length-stores n i [] l = refl
 length-stores n i ((k, x) ∷ ws) l = length-stores n i ws (set l (number k * n + i) x) ∙ length-set l (number k * n + i) x
 
-stores-here : (n i : ℕ) (rs : Rules) (v : Vector → Float) (l : List Float) → i < n → Room n (length l) rs
+pub stores-here : (n i : ℕ) (rs : Rules) (v : Vector → Float) (l : List Float) → i < n → Room n (length l) rs
     → column n (stores n i (made rs v) l) i ≡ written rs v (column n l i)
 unfolding written Room
 stores-here n i [] v l h r = refl
@@ -128,24 +128,24 @@ stores-here n i ((k, f) ∷ rs) v l h r =
     stores-here n i rs v l′ h (subst (λ (m : ℕ). Room n m rs) (sym (length-set l (number k * n + i) (f v))) (r .1))
     ∙ ap (written rs v) (set-here k n i (f v) l h (r .0))
 
-stores-there : (n i j : ℕ) (ws : List (Vector × Float)) (l : List Float) → i < n → j < n → (j ≡ i → ⊥)
+pub stores-there : (n i j : ℕ) (ws : List (Vector × Float)) (l : List Float) → i < n → j < n → (j ≡ i → ⊥)
     → column n (stores n i ws l) j ≡ column n l j
 stores-there n i j [] l h m d = refl
 stores-there n i j ((k, x) ∷ ws) l h m d = stores-there n i j ws (set l (number k * n + i) x) h m d ∙ set-there k n i j x l h m d
 
 -- ---- the vectors written, by columns and by length
 
-abbrev at : Vectors → ℕ → Vector → Float
+abbrev pub at : Vectors → ℕ → Vector → Float
 at v j b = getD (v b) j nan
 
-with-column : (w : Vectors) (k : Vector) (x : List Float) (j : ℕ) → at (w with k ≔ x) j ≡ with-at k (getD x j nan) (at w j)
+pub with-column : (w : Vectors) (k : Vector) (x : List Float) (j : ℕ) → at (w with k ≔ x) j ≡ with-at k (getD x j nan) (at w j)
 with-column w k x j = fun-ext (λ b. go b (eqb (number k) (number b)))
   where
     go : (b : Vector) (t : Bool) → getD (cond t x (w b)) j nan ≡ cond t (getD x j nan) (at w j b)
     go b true = refl
     go b false = refl
 
-written-column : (n j : ℕ) (rs : Rules) (v w : Vectors) → j < n → at (written-by n rs v w) j ≡ written rs (at v j) (at w j)
+pub written-column : (n j : ℕ) (rs : Rules) (v w : Vectors) → j < n → at (written-by n rs v w) j ≡ written rs (at v j) (at w j)
 unfolding written
 written-column n j [] v w h = refl
 written-column n j ((k, f) ∷ rs) v w h =
@@ -153,11 +153,11 @@ written-column n j ((k, f) ∷ rs) v w h =
     ∙ ap (written rs (at v j)) (with-column w k (each n v f) j ∙ ap (λ (x : Float). with-at k x (at w j)) (each-at n v f j h))
 
 -- the vectors that are written were n long
-unfoldable Before : ℕ → Rules → Vectors → Type 0
+unfoldable pub Before : ℕ → Rules → Vectors → Type 0
 Before n [] w = Unit
 Before n ((k, f) ∷ rs) w = (length (w k) ≡ n) × Before n rs w
 
-length-with : (n : ℕ) (w : Vectors) (k : Vector) (x : List Float) → length (w k) ≡ n → length x ≡ n → (b : Vector) → length ((w with k ≔ x) b) ≡ length (w b)
+pub length-with : (n : ℕ) (w : Vectors) (k : Vector) (x : List Float) → length (w k) ≡ n → length x ≡ n → (b : Vector) → length ((w with k ≔ x) b) ≡ length (w b)
 length-with n w k x h e b = go (eqb (number k) (number b)) refl
   where
     go : (t : Bool) → eqb (number k) (number b) ≡ t → length (cond t x (w b)) ≡ length (w b)
@@ -166,12 +166,12 @@ length-with n w k x h e b = go (eqb (number k) (number b)) refl
         e ∙ sym h ∙ ap (λ (c : Vector). length (w c)) q
     go false p = refl
 
-still : (n : ℕ) (rs : Rules) (w : Vectors) (k : Vector) (x : List Float) → length (w k) ≡ n → length x ≡ n → Before n rs w → Before n rs (w with k ≔ x)
+pub still : (n : ℕ) (rs : Rules) (w : Vectors) (k : Vector) (x : List Float) → length (w k) ≡ n → length x ≡ n → Before n rs w → Before n rs (w with k ≔ x)
 unfolding Before
 still n [] w k x h e r = tt
 still n ((q, f) ∷ rs) w k x h e r = (length-with n w k x h e q ∙ r .0, still n rs w k x h e (r .1))
 
-written-length : (n : ℕ) (rs : Rules) (v w : Vectors) → Before n rs w → (b : Vector) → length (written-by n rs v w b) ≡ length (w b)
+pub written-length : (n : ℕ) (rs : Rules) (v w : Vectors) → Before n rs w → (b : Vector) → length (written-by n rs v w b) ≡ length (w b)
 unfolding Before
 written-length n [] v w r b = refl
 written-length n ((k, f) ∷ rs) v w r b =
@@ -180,22 +180,22 @@ written-length n ((k, f) ∷ rs) v w r b =
 
 -- ---- and as they stand in an area
 
-unpack-column : (n j : ℕ) (l : List Float) → j < n → at (unpack n l) j ≡ column n l j
+pub unpack-column : (n j : ℕ) (l : List Float) → j < n → at (unpack n l) j ≡ column n l j
 unfolding unpack
 unpack-column n j l h = fun-ext (λ b. getD-take n (drop (number b * n) l) j nan h ∙ getD-drop (number b * n) l j nan)
 
 pub each-column : (n : ℕ) (l : List Float) (f : (Vector → Float) → Float) (j : ℕ) → j < n → getD (each n (unpack n l) f) j nan ≡ f (column n l j)
 each-column n l f j h = each-at n (unpack n l) f j h ∙ ap f (unpack-column n j l h)
 
-unpack-length : (n : ℕ) (l m : List Float) → length l ≡ length m → (b : Vector) → length (unpack n l b) ≡ length (unpack n m b)
+pub unpack-length : (n : ℕ) (l m : List Float) → length l ≡ length m → (b : Vector) → length (unpack n l b) ≡ length (unpack n m b)
 unfolding unpack
 unpack-length n l m e b = simp (length-take, length-drop) (ap (λ (k : ℕ). min n (k - number b * n)) e)
 
-unpack-short : (n : ℕ) (l : List Float) (b : Vector) → length (unpack n l b) ≤ n
+pub unpack-short : (n : ℕ) (l : List Float) (b : Vector) → length (unpack n l b) ≤ n
 unfolding unpack
 unpack-short n l b = simp length-take (omega arith)
 
-roomy-before : (n : ℕ) (rs : Rules) (l : List Float) → Room n (length l) rs → Before n rs (unpack n l)
+pub roomy-before : (n : ℕ) (rs : Rules) (l : List Float) → Room n (length l) rs → Before n rs (unpack n l)
 unfolding Room Before unpack
 roomy-before n [] l r = tt
 roomy-before n ((k, f) ∷ rs) l r =
@@ -255,7 +255,7 @@ sent [] xs = []
 sent (r ∷ rs) [] = []
 sent ((k, f) ∷ rs) (x ∷ xs) = (k, x) ∷ sent rs xs
 
-sent-made : (rs : Rules) (v : Vector → Float) (xs : List Float) → Made rs v xs → sent rs xs ≡ made rs v
+pub sent-made : (rs : Rules) (v : Vector → Float) (xs : List Float) → Made rs v xs → sent rs xs ≡ made rs v
 sent-made [] v xs m = refl
 sent-made (r ∷ rs) v [] m = absurd m
 sent-made ((k, f) ∷ rs) v (x ∷ xs) m =

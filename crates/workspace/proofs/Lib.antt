@@ -4,4 +4,5 @@ pub mod Parts
 pub mod Front
 pub mod Finite
 pub mod Columns
+pub mod Taking
 pub mod Rows

@@ -1,16 +1,18 @@
 -- The rows: an element by the family's number, what the loops' rules come to, and that the candidate has no part in them.
 use mathlib.Core.Path.{_≡_, refl, sym, ap, _∙_, fun-ext}
+use mathlib.Core.Bool.{Bool, true, false, cond}
 use mathlib.Core.List.{List, [], _∷_}
-use Prim.Native.Nat.{ℕ, _*_, _≤_}
+use Prim.Native.Nat.{ℕ, _<_}
 use native.Mathlib.Omega.{arith}
+use borrow.Author.Tests.{eqb-true, ltb-false}
+use lib.Dec.{eqb, ltb}
 use lib.ListN.{length}
 use lib.Ieee.{Float}
 use Rattle.family.specs.Family.{Family, RKC, RKL1, RKL2, RKG1, RKG2, family-of}
 use Rattle.coefficients.specs.declared.Coefficients.{Coefficients}
 use Rattle.coefficients.proofs.Numbers.{orthogonal}
-use Rattle.workspace.specs.Vectors.{Vector, Vectors, _with_≔_, unpack, each, first-derivative, last-derivative, derivative, previous-two, previous-one, next-stage, eigenvector, perturbed-state, perturbed-derivative, state, candidate}
-use Rattle.workspace.specs.Kernel.{entry, chebyshev-entry, orthogonal-entry, exchanged}
-use Rattle.workspace.proofs.Areas.{long-at}
+use Rattle.workspace.specs.Vectors.{Vector, Vectors, number, _with_≔_, each, first-derivative, last-derivative, derivative, previous-two, previous-one, next-stage, eigenvector, perturbed-state, perturbed-derivative, state, candidate}
+use Rattle.workspace.specs.Kernel.{entry, chebyshev-entry, orthogonal-entry, with-row, exchanged}
 use Rattle.workspace.proofs.Lists.{each-same}
 use Rattle.workspace.proofs.Parts.{_beside_}
 use Rattle.workspace.proofs.Columns.{Rules, written-by}
@@ -50,14 +52,13 @@ cycled v x perturbed-derivative = refl
 cycled v x state = refl
 cycled v x candidate = refl
 
-pub exchange-law : (n : ℕ) (g : (Vector → Float) → Float) (a : List Float) → 10 * n ≤ length a
-    → written-by n (exchange-rules g) (unpack n a) (unpack n a) ≡ exchanged (rowed n g (unpack n a))
-exchange-law n g a h =
-    let v = unpack n a in
+pub exchange-law : (n : ℕ) (g : (Vector → Float) → Float) (v : Vectors) → length (v previous-two) ≡ n → length (v previous-one) ≡ n
+    → written-by n (exchange-rules g) v v ≡ exchanged (rowed n g v)
+exchange-law n g v long-two long-one =
     ap (λ (x : List Float). v with next-stage ≔ x with previous-two ≔ each n v (λ x. x previous-one) with previous-one ≔ each n v g)
-    (each-same n v previous-two (long-at n a previous-two (omega arith)))
+    (each-same n v previous-two long-two)
     ∙ ap (λ (x : List Float). v with next-stage ≔ v previous-two with previous-two ≔ x with previous-one ≔ each n v g)
-    (each-same n v previous-one (long-at n a previous-one (omega arith)))
+    (each-same n v previous-one long-one)
     ∙ fun-ext (cycled v (each n v g))
 
 -- ---- the candidate has no part in it
@@ -70,18 +71,14 @@ each-beside RKL2 n h c v w = refl
 each-beside RKG1 n h c v w = refl
 each-beside RKG2 n h c v w = refl
 
-with-beside : (v w : Vectors) (x : List Float) (b : Vector) → ((v beside w) with next-stage ≔ x) b ≡ ((v with next-stage ≔ x) beside w) b
-with-beside v w x first-derivative = refl
-with-beside v w x last-derivative = refl
-with-beside v w x derivative = refl
-with-beside v w x previous-two = refl
-with-beside v w x previous-one = refl
-with-beside v w x next-stage = refl
-with-beside v w x eigenvector = refl
-with-beside v w x perturbed-state = refl
-with-beside v w x perturbed-derivative = refl
-with-beside v w x state = refl
-with-beside v w x candidate = refl
+-- a vector of the first ten written
+with-beside : (k : Vector) → number k < 10 → (v w : Vectors) (x : List Float) → ((v beside w) with k ≔ x) ≡ ((v with k ≔ x) beside w)
+with-beside k h v w x = fun-ext (λ b. go b (eqb (number k) (number b)) (ltb (number b) 10) refl refl)
+  where
+    go : (b : Vector) (t u : Bool) → eqb (number k) (number b) ≡ t → ltb (number b) 10 ≡ u → cond t x (cond u (v b) (w b)) ≡ cond u (cond t x (v b)) (w b)
+    go b t true p q = refl
+    go b false false p q = refl
+    go b true false p q = absurd (let e : number k ≡ number b = eqb-true (number k) (number b) p in let z : ⊥ = omega (arith, ltb-false (number b) 10 q) in z)
 
 exchanged-beside : (v w : Vectors) (b : Vector) → exchanged (v beside w) b ≡ (exchanged v beside w) b
 unfolding exchanged
@@ -97,9 +94,14 @@ exchanged-beside v w perturbed-derivative = refl
 exchanged-beside v w state = refl
 exchanged-beside v w candidate = refl
 
-module _ (f : Family) (n : ℕ) (h : Float) (c : Coefficients) (v w : Vectors) where
-  pub row-beside : rowed n (entry f h c) (v beside w) ≡ (rowed n (entry f h c) v beside w)
-  row-beside = ap (λ (x : List Float). (v beside w) with next-stage ≔ x) (each-beside f n h c v w) ∙ fun-ext (with-beside v w (each n v (entry f h c)))
+module _ (f : Family) (n : ℕ) (h : Float) (c : Coefficients) (d : List Float) (v w : Vectors) where
+  pub row-beside : with-row f n h c (v beside w) d ≡ (with-row f n h c v d beside w)
+  unfolding with-row
+  row-beside =
+      let u = v with derivative ≔ d in
+      ap (λ (y : Vectors). y with next-stage ≔ each n y (entry f h c)) (with-beside derivative (omega arith) v w d)
+      ∙ ap (λ (x : List Float). (u beside w) with next-stage ≔ x) (each-beside f n h c u w)
+      ∙ with-beside next-stage (omega arith) u w (each n u (entry f h c))
 
-  pub exchange-beside : exchanged (rowed n (entry f h c) (v beside w)) ≡ (exchanged (rowed n (entry f h c) v) beside w)
-  exchange-beside = ap exchanged row-beside ∙ fun-ext (exchanged-beside (rowed n (entry f h c) v) w)
+  pub exchange-beside : exchanged (with-row f n h c (v beside w) d) ≡ (exchanged (with-row f n h c v d) beside w)
+  exchange-beside = ap exchanged row-beside ∙ fun-ext (exchanged-beside (with-row f n h c v d) w)

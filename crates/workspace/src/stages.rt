@@ -4,9 +4,9 @@ ghost use Prim.Native.Nat.{_*_, _≤_, _<_};
 ghost use lib.ListN.{length};
 ghost use Rattle.family.specs.Family.{family-of};
 ghost use lib.Ieee.{Float};
-ghost use Rattle.workspace.specs.Vectors.{Vector, column, unpack, _with_≔_, each, next-stage};
+ghost use Rattle.workspace.specs.Vectors.{Vector, column, unpack};
 ghost use Rattle.workspace.specs.Kernel.{first-stage, entry, with-row, exchanged, with-candidate};
-ghost use Rattle.workspace.specs.Reads.{Reads};
+ghost use Rattle.workspace.specs.Reads.{taking, Reads};
 use crate::CANDIDATE;
 use crate::DERIVATIVE;
 use crate::FIRST_DERIVATIVE;
@@ -15,7 +15,6 @@ use crate::PREVIOUS_ONE;
 use crate::PREVIOUS_TWO;
 use crate::STATE;
 use crate::area::copy_vector;
-use crate::area::put_vector;
 use coefficients::Coefficients;
 
 // Stages 0 and 1.
@@ -42,17 +41,16 @@ struct Entries {
     first: f64,
 }
 
-// `ten` is the area without the candidate: a row reads other vectors than the one it writes, so it is lent the
-// shortest part that holds them all.
-fn entries_at(ten: &[f64], n: usize, i: usize) -> Entries
+// `slope` is the element of the derivative, which is not in the area yet. `ten` is the area without the candidate: a row
+// reads other vectors than the one it writes, so it is lent the shortest part that holds them all.
+fn entries_at(ten: &[f64], n: usize, i: usize, slope: f64) -> Entries
     requires { ⌜ length (now ten) ≡ 10 * n ⌝ }
     requires { ⌜ i < n ⌝ }
-    ensures { λ r. ⌜ Reads r (column n (now (ten .entry)) i) ⌝ }
+    ensures { λ r. ⌜ Reads r (taking slope (column n (now (ten .entry)) i)) ⌝ }
 {
     let one = ten[PREVIOUS_ONE * n + i];
     let two = ten[PREVIOUS_TWO * n + i];
     let initial = ten[STATE * n + i];
-    let slope = ten[DERIVATIVE * n + i];
     let first = ten[FIRST_DERIVATIVE * n + i];
     Entries {
         one,
@@ -74,28 +72,42 @@ fn entry_of(family: u64, c: Coefficients, step: f64, x: Entries) -> f64
     }
 }
 
-fn row_in(ten: &mut [f64], n: usize, family: u64, c: Coefficients, step: f64)
+// The derivative taken and the row in one pass over the columns.
+fn row_in(ten: &mut [f64], n: usize, family: u64, c: Coefficients, step: f64, derivative: &[f64])
     requires { ⌜ length (now ten) ≡ 10 * n ⌝ }
-    ensures { λ _. ⌜ unpack n (now (ten .exit)) ≡ (unpack n (now (ten .entry)) with next-stage ≔ each n (unpack n (now (ten .entry))) (entry (family-of family) step c)) ⌝ }
+    requires { ⌜ length (now derivative) ≡ n ⌝ }
+    ensures { λ _. ⌜ unpack n (now (ten .exit)) ≡ with-row (family-of family) n step c (unpack n (now (ten .entry))) (now (derivative .entry)) ⌝ }
 {
     let mut i = 0;
     while i < n {
-        let x = entries_at(ten, n, i);
+        let slope = derivative[i];
+        let x = entries_at(ten, n, i, slope);
         let next = entry_of(family, c, step, x);
+        ten[DERIVATIVE * n + i] = slope;
         ten[NEXT_STAGE * n + i] = next;
         i += 1;
     }
 }
 
-// The row and the exchange in one pass over the columns. What moves is stored before the element is worked out,
-// so that it need not be kept: measured, a tenth of the time.
-fn row_and_exchange_in(ten: &mut [f64], n: usize, family: u64, c: Coefficients, step: f64)
+// The derivative taken, the row and the exchange in one pass. What moves is stored before the element is worked out,
+// so that no copy of it is kept: a tenth of the time.
+fn row_and_exchange_in(
+    ten: &mut [f64],
+    n: usize,
+    family: u64,
+    c: Coefficients,
+    step: f64,
+    derivative: &[f64],
+)
     requires { ⌜ length (now ten) ≡ 10 * n ⌝ }
-    ensures { λ _. ⌜ unpack n (now (ten .exit)) ≡ exchanged (unpack n (now (ten .entry)) with next-stage ≔ each n (unpack n (now (ten .entry))) (entry (family-of family) step c)) ⌝ }
+    requires { ⌜ length (now derivative) ≡ n ⌝ }
+    ensures { λ _. ⌜ unpack n (now (ten .exit)) ≡ exchanged (with-row (family-of family) n step c (unpack n (now (ten .entry))) (now (derivative .entry))) ⌝ }
 {
     let mut i = 0;
     while i < n {
-        let x = entries_at(ten, n, i);
+        let slope = derivative[i];
+        let x = entries_at(ten, n, i, slope);
+        ten[DERIVATIVE * n + i] = slope;
         ten[NEXT_STAGE * n + i] = x.two;
         ten[PREVIOUS_TWO * n + i] = x.one;
         let next = entry_of(family, c, step, x);
@@ -110,9 +122,8 @@ pub fn row(area: &mut [f64], n: usize, family: u64, c: Coefficients, step: f64, 
     requires { ⌜ length (now derivative) ≡ n ⌝ }
     ensures { λ _. ⌜ unpack n (now (area .exit)) ≡ with-row (family-of family) n step c (unpack n (now (area .entry))) (now (derivative .entry)) ⌝ }
 {
-    put_vector(area, n, DERIVATIVE, derivative);
     let end = 10 * n;
-    row_in(&mut area[0..end], n, family, c, step);
+    row_in(&mut area[0..end], n, family, c, step, derivative);
 }
 
 // The row, and the exchange of the two stages before it, after any other stage.
@@ -128,9 +139,8 @@ pub fn row_and_exchange(
     requires { ⌜ length (now derivative) ≡ n ⌝ }
     ensures { λ _. ⌜ unpack n (now (area .exit)) ≡ exchanged (with-row (family-of family) n step c (unpack n (now (area .entry))) (now (derivative .entry))) ⌝ }
 {
-    put_vector(area, n, DERIVATIVE, derivative);
     let end = 10 * n;
-    row_and_exchange_in(&mut area[0..end], n, family, c, step);
+    row_and_exchange_in(&mut area[0..end], n, family, c, step, derivative);
 }
 
 pub fn keep_candidate(area: &mut [f64], n: usize)

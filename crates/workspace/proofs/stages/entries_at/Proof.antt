@@ -1,4 +1,4 @@
--- `entries_at` meets its contract: five reads.
+-- `entries_at` meets its contract: four reads, and the slope as it is handed in.
 use mathlib.Core.Path.{refl}
 use Rattle.workspace.specs.Reads.{Reads}
 use native.Mathlib.Omega.{arith}
@@ -41,18 +41,6 @@ mul-initial-2 c = omega arith
 shared-slice-read-initial : tie.Need-shared-slice-read-initial
 shared-slice-read-initial c = omega arith
 
-mul-slope : tie.Need-mul-slope
-mul-slope c = omega arith
-
-add-slope : tie.Need-add-slope
-add-slope c = omega arith
-
-mul-slope-2 : tie.Need-mul-slope-2
-mul-slope-2 c = omega arith
-
-shared-slice-read-slope : tie.Need-shared-slice-read-slope
-shared-slice-read-slope c = omega arith
-
 mul-first : tie.Need-mul-first
 mul-first c = omega arith
 
@@ -85,10 +73,6 @@ entries-at-spec =
     add-initial
     mul-initial-2
     shared-slice-read-initial
-    mul-slope
-    add-slope
-    mul-slope-2
-    shared-slice-read-slope
     mul-first
     add-first
     mul-first-2

@@ -1,25 +1,33 @@
--- `row_and_exchange_in` meets its contract, by the law of a loop over columns with three rules.
+-- `row_and_exchange_in` meets its contract, by the law of a loop over columns that takes the derivative in, with three rules.
 use mathlib.Core.Path.{_≡_, refl, _∙_}
 use mathlib.Core.List.{[], _∷_}
 use Prim.Native.Nat.{_-_, _*_}
 use lib.ListN.{length, length-set}
 use Rattle.family.specs.Family.{family-of}
-use Rattle.workspace.specs.Kernel.{entry}
+use Rattle.workspace.specs.Vectors.{derivative, previous-two, previous-one}
+use Rattle.workspace.specs.Kernel.{entry, with-row}
 use Rattle.workspace.specs.Reads.{Reads}
+use Rattle.workspace.proofs.Areas.{long-at}
 use Rattle.workspace.proofs.Rows.{exchange-rules, exchange-law}
-use Rattle.workspace.proofs.Columns.{Working, begin-among, turn, finish}
+use Rattle.workspace.proofs.Taking.{Taking, begin-taking, turn-taking, finish-taking}
 use native.Mathlib.Omega.{arith}
 use Rattle.workspace.proofs.stages.row_and_exchange_in.Statement.{statement}
 use Rattle.workspace.proofs.stages.row_and_exchange_in.Tie as tie
 
 abbrev Inv-loop : tie.InvT-loop
-Inv-loop ten₀ n family c step i₀ ten i = Working 10 n (exchange-rules (entry (family-of family) step c)) ten₀ ten i × (length ten₀ ≡ 10 * n)
+Inv-loop ten₀ n family c step d i₀ ten i = Taking derivative d n ten₀ (exchange-rules (entry (family-of family) step c)) ten i × (length ten₀ ≡ 10 * n) × (length d ≡ n)
 
 abbrev μ-loop : tie.MeasureT-loop
-μ-loop ten₀ n family c step i₀ ten i = n - i
+μ-loop ten₀ n family c step d i₀ ten i = n - i
 
 loop-holds : tie.Need-loop-holds Inv-loop μ-loop
-loop-holds c = (begin-among 10 _ _ _ refl (omega arith), c .before .pre)
+loop-holds c = (begin-taking _ _ _ _ 10 _ refl (omega arith), c .before .before .pre .0, c .before .before .pre .1)
+
+mul-slope : tie.Need-mul-slope Inv-loop μ-loop
+mul-slope c = omega arith
+
+shared-slice-read-slope : tie.Need-shared-slice-read-slope Inv-loop μ-loop
+shared-slice-read-slope c = omega arith
 
 entries-at-requires : tie.Need-entries-at-requires Inv-loop μ-loop
 entries-at-requires c κs = omega arith
@@ -48,9 +56,6 @@ mul-ten-4 c = omega arith
 slice-write-ten-2 : tie.Need-slice-write-ten-2 Inv-loop μ-loop
 slice-write-ten-2 c = simp length-set (omega arith)
 
-entry-of-requires : tie.Need-entry-of-requires Inv-loop μ-loop
-entry-of-requires c κs = omega arith
-
 mul-ten-5 : tie.Need-mul-ten-5 Inv-loop μ-loop
 mul-ten-5 c = omega arith
 
@@ -63,6 +68,21 @@ mul-ten-6 c = omega arith
 slice-write-ten-3 : tie.Need-slice-write-ten-3 Inv-loop μ-loop
 slice-write-ten-3 c = simp length-set (omega arith)
 
+entry-of-requires : tie.Need-entry-of-requires Inv-loop μ-loop
+entry-of-requires c κs = omega arith
+
+mul-ten-7 : tie.Need-mul-ten-7 Inv-loop μ-loop
+mul-ten-7 c = omega arith
+
+add-ten-4 : tie.Need-add-ten-4 Inv-loop μ-loop
+add-ten-4 c = omega arith
+
+mul-ten-8 : tie.Need-mul-ten-8 Inv-loop μ-loop
+mul-ten-8 c = omega arith
+
+slice-write-ten-4 : tie.Need-slice-write-ten-4 Inv-loop μ-loop
+slice-write-ten-4 c = simp length-set (omega arith)
+
 add-i : tie.Need-add-i Inv-loop μ-loop
 add-i c = omega arith
 
@@ -72,15 +92,20 @@ loop-less c = omega arith
 loop-again : tie.Need-loop-again Inv-loop μ-loop
 unfolding Reads
 loop-again c =
-    let r = c .before .before .before .before in
+    let r = c .before .before .before .before .before in
     let e = c .before .entries-at .ensures in
-    (turn (_ ∷ _ ∷ _ ∷ []) (r .loop .inv .0) (omega arith) (e .1, (e .0, (c .entry-of .ensures _ e, tt))), r .loop .inv .1)
+    (turn-taking _ _ _ _ _ (_ ∷ _ ∷ _ ∷ []) (r .loop .inv .0) (omega arith) refl (e .1, (e .0, (c .entry-of .ensures _ e, tt))), r .loop .inv .1, r .loop .inv .2)
 
 same-length : tie.Need-same-length Inv-loop μ-loop
 same-length c = omega arith
 
 returns : tie.Need-returns Inv-loop μ-loop
-returns c = finish (c .before .loop .inv .0) (c .loop-test .left) ∙ exchange-law _ _ _ (omega arith)
+unfolding with-row
+returns c =
+    let x = c .before .before .before .before .args in
+    let l = x .ten .now in
+    finish-taking _ _ _ _ (c .before .loop .inv .2) (c .before .loop .inv .0) (c .loop-test .left)
+    ∙ exchange-law _ _ _ (long-at (x .n) l previous-two (omega arith)) (long-at (x .n) l previous-one (omega arith))
 
 pub row-and-exchange-in-spec : {M : Type 1} → statement M
 row-and-exchange-in-spec =
@@ -89,6 +114,8 @@ row-and-exchange-in-spec =
     Inv-loop
     μ-loop
     loop-holds
+    mul-slope
+    shared-slice-read-slope
     entries-at-requires
     mul-ten
     add-ten
@@ -98,11 +125,15 @@ row-and-exchange-in-spec =
     add-ten-2
     mul-ten-4
     slice-write-ten-2
-    entry-of-requires
     mul-ten-5
     add-ten-3
     mul-ten-6
     slice-write-ten-3
+    entry-of-requires
+    mul-ten-7
+    add-ten-4
+    mul-ten-8
+    slice-write-ten-4
     add-i
     loop-less
     loop-again
