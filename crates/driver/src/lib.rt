@@ -210,9 +210,9 @@ pub fn attempt(record: Record, area: &mut [f64], arguments: Arguments) -> Next
         return refused(record, 7);
     }
     let perturbation = workspace::perturbation(area, n);
-    workspace::choose_direction(area, n);
+    let norm = workspace::choose_direction(area, n);
     let begun = position::at_pass(record, arguments, 1, perturbation, 0.0);
-    replies::ask_pass(begun, area)
+    replies::ask_pass(begun, area, norm)
 }
 
 // One more evaluation.

@@ -5,7 +5,7 @@ ghost use Prim.Native.Nat.{_*_, _≤_, _<_, _^_};
 ghost use lib.Dec.{eqb};
 ghost use lib.ListN.{length};
 ghost use Rattle.family.specs.Family.{family-of};
-ghost use Rattle.workspace.specs.Vectors.{Vectors, unpack};
+ghost use Rattle.workspace.specs.Vectors.{Vectors, unpack, eigenvector, vector-norm};
 ghost use Rattle.workspace.specs.Kernel.{ended};
 ghost use Rattle.driver.specs.declared.Need as need;
 ghost use Rattle.driver.specs.Calls as calls;
@@ -48,12 +48,14 @@ pub fn take_callback(record: Record, area: &mut [f64], derivative: &[f64]) -> Ne
     }
 }
 
-pub fn ask_pass(record: Record, area: &mut [f64]) -> Next
+// The norm is that of the direction.
+pub fn ask_pass(record: Record, area: &mut [f64], norm: f64) -> Next
     requires { ⌜ 11 * «record» .n ≤ length (now area) ⌝ }
+    requires { ⌜ norm ≡ vector-norm (unpack («record» .n) (now area) eigenvector) ⌝ }
     ensures { λ r. ⌜ Steps (calls.ask-pass «record» (unpack («record» .n) (now (area .entry)))) r (unpack («record» .n) (now (area .exit))) ⌝ }
 {
     let n = record.n;
-    workspace::perturb(area, n, record.iteration.perturbation);
+    workspace::perturb(area, n, record.iteration.perturbation, norm);
     Next {
         answer: Answer::Evaluate {
             time: record.arguments.time,
@@ -135,14 +137,15 @@ pub fn take_pass(record: Record, area: &mut [f64], derivative: &[f64]) -> Next
     let pass = record.iteration.pass;
     let perturbation = record.iteration.perturbation;
     workspace::turn(area, n, derivative);
-    let radius = workspace::radius(area, n, perturbation);
+    let norm = workspace::direction_norm(area, n);
+    let radius = norm / perturbation;
     if last_pass(pass, record.iteration.previous_radius, radius) {
         let scaled_radius = workspace::scaled_radius(record.arguments.step, radius);
         return begin_stages(record, area, scaled_radius);
     }
     let arguments = record.arguments;
     let on = position::at_pass(record, arguments, pass + 1, perturbation, radius);
-    ask_pass(on, area)
+    ask_pass(on, area, norm)
 }
 
 // The vectors stand.
