@@ -11,7 +11,7 @@ use Rattle.family.specs.Family.{Family, RKC, RKL1, RKL2, RKG1, RKG2}
 use Rattle.coefficients.specs.declared.Coefficients.{Coefficients}
 use Rattle.workspace.specs.declared.Arguments.{Arguments}
 use Rattle.workspace.specs.Vectors.{Vector, Vectors, _with_≔_, number, each, vector-norm, first-derivative, last-derivative, derivative, previous-two, previous-one, next-stage, eigenvector, perturbed-state, perturbed-derivative, state, candidate}
-use Rattle.workspace.specs.Kernel.{with-direction, perturbed, turned, first-stage, orthogonal-entry, chebyshev-entry, entry, with-row, exchanged, with-candidate, with-last, error}
+use Rattle.workspace.specs.Kernel.{with-direction, perturbed-by, perturbed, turned, first-stage, orthogonal-entry, chebyshev-entry, entry, with-row, exchanged, with-candidate, with-last, error}
 
 abbrev pub Agree : (Vector → Bool) → Vectors → Vectors → Type 0
 Agree on v w = (b : Vector) → on b ≡ true → v b ≡ w b
@@ -60,7 +60,7 @@ module _ (n : ℕ) where
       go false u = p
 
   pub perturbed-agrees : (π : Float) (v w : Vectors) → Agree three v w → Agree (three or perturbed-state) (perturbed n π v) (perturbed n π w)
-  unfolding perturbed each
+  unfolding perturbed-by perturbed each
   perturbed-agrees π v w p = agree-with three perturbed-state v w _ _ p (rw (p state refl, p eigenvector refl))
 
   pub turned-agrees : (d : List Float) (v w : Vectors) → Agree (three or perturbed-state) v w → Agree five (turned n v d) (turned n w d)

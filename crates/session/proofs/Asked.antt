@@ -14,7 +14,7 @@ use Rattle.family.specs.Family.{Family, known}
 use Rattle.coefficients.specs.declared.Coefficients.{Coefficients}
 use Rattle.workspace.specs.declared.Arguments.{Arguments}
 use Rattle.workspace.specs.Vectors.{Vector, Vectors, _with_≔_, number, named, unpack, pack, vector-norm, all-finite, first-derivative, eigenvector, state}
-use Rattle.workspace.specs.Kernel.{with-direction, perturbed, turned, first-stage, with-row, exchanged, with-candidate}
+use Rattle.workspace.specs.Kernel.{with-direction, perturbed-by, perturbed, turned, first-stage, with-row, exchanged, with-candidate}
 use Rattle.workspace.proofs.Areas.{Long, named-number, unpack-pack, long-direction, long-perturbed, long-turned, long-first, long-row, long-exchanged, long-candidate}
 use Rattle.driver.specs.declared.Phase.{Phase}
 use Rattle.driver.specs.declared.Iteration.{Iteration}
@@ -68,7 +68,7 @@ module _ (h : Held) where
       go b false u e = refl
 
   pub intact-perturbed : (π : Float) (v : Vectors) → Intact v → Intact (perturbed (h .kept .n) π v)
-  unfolding perturbed
+  unfolding perturbed-by perturbed
   intact-perturbed π v i = record { long = long-perturbed (h .kept .n) π v (i .long); state-is = i .state-is; first-is = i .first-is }
 
   pub intact-turned : (v : Vectors) (d : List Float) → Intact v → length d ≡ h .kept .n → Intact (turned (h .kept .n) v d)

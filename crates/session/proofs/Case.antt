@@ -13,7 +13,7 @@ use Rattle.family.specs.Family.{known, family-of, smallest-count, largest-count
 use Rattle.coefficients.specs.Rows.{omega-zero, omega-one-of, b-first, first-mu-tilde, first-polynomials, recurrence, with-theta, legendre-one, coefficients, next-polynomials, next}
 use Rattle.workspace.specs.declared.Arguments.{Arguments}
 use Rattle.workspace.specs.Vectors.{vector-count, each, sum-of-squares, root-of-squares, vector-norm, all-finite}
-use Rattle.workspace.specs.Kernel.{with-direction, perturbation-of, perturbed, turned, radius-of, ended, scaled, first-stage, orthogonal-entry, entry, with-row, exchanged, with-candidate, error, with-last, divisor, scaled-error, scaled-error-norm, error-norm}
+use Rattle.workspace.specs.Kernel.{with-direction, perturbation-of, perturbed-by, perturbed, turned, radius-of, ended, scaled, first-stage, orthogonal-entry, entry, with-row, exchanged, with-candidate, error, with-last, divisor, scaled-error, scaled-error-norm, error-norm}
 use Rattle.driver.specs.declared.Counters.{Counters}
 use Rattle.driver.specs.Calls.{Held, stage-need, Call, Start, Attempt, Reply, Accept, Abandon, sized, as-long, good-times, good-tolerance, good-tolerances, room}
 use Rattle.session.specs.Attempt.{_>>=_, evaluate, stages-for, iterate, spectral-radius, stage-loop, run-recurrence, finished-attempt, close, attempt-step}
@@ -26,7 +26,7 @@ unfolding toBits add sub mul div neg le lt eq ofInt round toUnsigned sum units o
 doubles = tt
 
 unfoldable attempts : Unit {0}
-unfolding smallest-count largest-count odd-only before-limits odd-step limited stage-count omega-zero omega-one-of b-first first-mu-tilde first-polynomials recurrence with-theta legendre-one coefficients next-polynomials next each sum-of-squares root-of-squares vector-norm all-finite with-direction perturbation-of perturbed turned radius-of ended scaled first-stage orthogonal-entry entry with-row exchanged with-candidate error with-last divisor scaled-error scaled-error-norm error-norm stage-need _>>=_ evaluate stages-for iterate spectral-radius stage-loop run-recurrence finished-attempt close attempt-step
+unfolding smallest-count largest-count odd-only before-limits odd-step limited stage-count omega-zero omega-one-of b-first first-mu-tilde first-polynomials recurrence with-theta legendre-one coefficients next-polynomials next each sum-of-squares root-of-squares vector-norm all-finite with-direction perturbation-of perturbed-by perturbed turned radius-of ended scaled first-stage orthogonal-entry entry with-row exchanged with-candidate error with-last divisor scaled-error scaled-error-norm error-norm stage-need _>>=_ evaluate stages-for iterate spectral-radius stage-loop run-recurrence finished-attempt close attempt-step
 attempts = tt
 
 unfoldable sessions : Unit {0}
