@@ -32,14 +32,14 @@ apart : (k q n i j : ℕ) → i < n → j < n → (k < q) ⊎ (q < k) → q * n 
 apart k q n i j h l (inl p) e = omega (arith, mul-le-mul-right n p, suc-mul k n)
 apart k q n i j h l (inr p) e = omega (arith, mul-le-mul-right n p, suc-mul q n)
 
-data Order (q k : ℕ) : Type 0 where
+pub data Order (q k : ℕ) : Type 0 where
   same : q ≡ k → Order q k
   other : (k < q) ⊎ (q < k) → Order q k
 
-order : (q k : ℕ) → Order q k
+pub order : (q k : ℕ) → Order q k
 order q k = ⊎-elim (λ (p : q ≤ k). ⊎-elim (λ e. same e) (λ l. other (inr l)) (eq-or-lt-of-le p)) (λ (p : k < q). other (inl p)) (split q k)
 
-differ : {q k : ℕ} → (k < q) ⊎ (q < k) → k ≡ q → ⊥
+pub differ : {q k : ℕ} → (k < q) ⊎ (q < k) → k ≡ q → ⊥
 differ (inl p) e = omega arith
 differ (inr p) e = omega arith
 
@@ -49,7 +49,7 @@ with-at k x v b = cond (eqb (number k) (number b)) x (v b)
 
 -- ---- a store, by columns
 
-set-here : (k : Vector) (n i : ℕ) (x : Float) (l : List Float) → i < n → number k * n + n ≤ length l
+pub set-here : (k : Vector) (n i : ℕ) (x : Float) (l : List Float) → i < n → number k * n + n ≤ length l
     → column n (set l (number k * n + i) x) i ≡ with-at k x (column n l i)
 set-here k n i x l h fits = fun-ext (λ b. go b (order (number b) (number k)))
   where
@@ -62,7 +62,7 @@ set-here k n i x l h fits = fun-ext (λ b. go b (order (number b) (number k)))
         getD-set-other l (number k * n + i) (number b * n + i) x nan (apart (number k) (number b) n i i h h d)
         ∙ sym (ap (λ (t : Bool). cond t x (column n l i b)) (ne-eqb (number k) (number b) (differ d)))
 
-set-there : (k : Vector) (n i j : ℕ) (x : Float) (l : List Float) → i < n → j < n → (j ≡ i → ⊥)
+pub set-there : (k : Vector) (n i j : ℕ) (x : Float) (l : List Float) → i < n → j < n → (j ≡ i → ⊥)
     → column n (set l (number k * n + i) x) j ≡ column n l j
 set-there k n i j x l h m d = fun-ext (λ b. getD-set-other l (number k * n + i) (number b * n + j) x nan (go b (order (number b) (number k))))
   where

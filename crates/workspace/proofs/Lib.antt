@@ -6,3 +6,4 @@ pub mod Finite
 pub mod Columns
 pub mod Taking
 pub mod Rows
+pub mod Fours

@@ -53,9 +53,12 @@ mul-first-2 c = omega arith
 shared-slice-read-first : tie.Need-shared-slice-read-first
 shared-slice-read-first c = omega arith
 
+gather-requires : tie.Need-gather-requires
+gather-requires c κs = omega arith
+
 returns : tie.Need-returns
 unfolding Reads
-returns c = (refl, refl, refl, refl, refl)
+returns c = rw (c .gather .ensures) (refl, refl, refl, refl, refl)
 
 pub entries-at-spec : {M : Type 1} → statement M
 entries-at-spec =
@@ -77,4 +80,5 @@ entries-at-spec =
     add-first
     mul-first-2
     shared-slice-read-first
+    gather-requires
     returns)

@@ -1,15 +1,14 @@
--- `row_and_exchange_in` meets its contract, by the law of a loop over columns that takes the derivative in, with three rules.
+-- `row_and_exchange_in` meets its contract: the loop over columns that takes the derivative in goes on by four columns or by one.
 use mathlib.Core.Path.{_≡_, refl, _∙_}
-use mathlib.Core.List.{[], _∷_}
 use Prim.Native.Nat.{_-_, _*_}
-use lib.ListN.{length, length-set}
+use lib.ListN.{length}
 use Rattle.family.specs.Family.{family-of}
 use Rattle.workspace.specs.Vectors.{derivative, previous-two, previous-one}
 use Rattle.workspace.specs.Kernel.{entry, with-row}
-use Rattle.workspace.specs.Reads.{Reads}
 use Rattle.workspace.proofs.Areas.{long-at}
 use Rattle.workspace.proofs.Rows.{exchange-rules, exchange-law}
-use Rattle.workspace.proofs.Taking.{Taking, begin-taking, turn-taking, finish-taking}
+use Rattle.workspace.proofs.Taking.{Taking, begin-taking, finish-taking}
+use Rattle.workspace.proofs.Fours.{goes-on}
 use native.Mathlib.Omega.{arith}
 use Rattle.workspace.proofs.stages.row_and_exchange_in.Statement.{statement}
 use Rattle.workspace.proofs.stages.row_and_exchange_in.Tie as tie
@@ -23,65 +22,11 @@ abbrev μ-loop : tie.MeasureT-loop
 loop-holds : tie.Need-loop-holds Inv-loop μ-loop
 loop-holds c = (begin-taking _ _ _ _ 10 _ refl (omega arith), c .before .before .pre .0, c .before .before .pre .1)
 
-mul-slope : tie.Need-mul-slope Inv-loop μ-loop
-mul-slope c = omega arith
+sub-if1 : tie.Need-sub-if1 Inv-loop μ-loop
+sub-if1 c = omega arith
 
-shared-slice-read-slope : tie.Need-shared-slice-read-slope Inv-loop μ-loop
-shared-slice-read-slope c = omega arith
-
-entries-at-requires : tie.Need-entries-at-requires Inv-loop μ-loop
-entries-at-requires c κs = omega arith
-
-mul-ten : tie.Need-mul-ten Inv-loop μ-loop
-mul-ten c = omega arith
-
-add-ten : tie.Need-add-ten Inv-loop μ-loop
-add-ten c = omega arith
-
-mul-ten-2 : tie.Need-mul-ten-2 Inv-loop μ-loop
-mul-ten-2 c = omega arith
-
-slice-write-ten : tie.Need-slice-write-ten Inv-loop μ-loop
-slice-write-ten c = omega arith
-
-mul-ten-3 : tie.Need-mul-ten-3 Inv-loop μ-loop
-mul-ten-3 c = omega arith
-
-add-ten-2 : tie.Need-add-ten-2 Inv-loop μ-loop
-add-ten-2 c = omega arith
-
-mul-ten-4 : tie.Need-mul-ten-4 Inv-loop μ-loop
-mul-ten-4 c = omega arith
-
-slice-write-ten-2 : tie.Need-slice-write-ten-2 Inv-loop μ-loop
-slice-write-ten-2 c = simp length-set (omega arith)
-
-mul-ten-5 : tie.Need-mul-ten-5 Inv-loop μ-loop
-mul-ten-5 c = omega arith
-
-add-ten-3 : tie.Need-add-ten-3 Inv-loop μ-loop
-add-ten-3 c = omega arith
-
-mul-ten-6 : tie.Need-mul-ten-6 Inv-loop μ-loop
-mul-ten-6 c = omega arith
-
-slice-write-ten-3 : tie.Need-slice-write-ten-3 Inv-loop μ-loop
-slice-write-ten-3 c = simp length-set (omega arith)
-
-entry-of-requires : tie.Need-entry-of-requires Inv-loop μ-loop
-entry-of-requires c κs = omega arith
-
-mul-ten-7 : tie.Need-mul-ten-7 Inv-loop μ-loop
-mul-ten-7 c = omega arith
-
-add-ten-4 : tie.Need-add-ten-4 Inv-loop μ-loop
-add-ten-4 c = omega arith
-
-mul-ten-8 : tie.Need-mul-ten-8 Inv-loop μ-loop
-mul-ten-8 c = omega arith
-
-slice-write-ten-4 : tie.Need-slice-write-ten-4 Inv-loop μ-loop
-slice-write-ten-4 c = simp length-set (omega arith)
+move-one-requires : tie.Need-move-one-requires Inv-loop μ-loop
+move-one-requires c κs = omega arith
 
 add-i : tie.Need-add-i Inv-loop μ-loop
 add-i c = omega arith
@@ -90,11 +35,19 @@ loop-less : tie.Need-loop-less Inv-loop μ-loop
 loop-less c = omega arith
 
 loop-again : tie.Need-loop-again Inv-loop μ-loop
-unfolding Reads
-loop-again c =
-    let r = c .before .before .before .before .before in
-    let e = c .before .entries-at .ensures in
-    (turn-taking _ _ _ _ _ (_ ∷ _ ∷ _ ∷ []) (r .loop .inv .0) (omega arith) refl (e .1, (e .0, (c .entry-of .ensures _ e, tt))), r .loop .inv .1, r .loop .inv .2)
+loop-again c = (goes-on _ _ _ _ _ _ _ _ (c .before .before .before .before .before .before .loop .inv .0) (omega arith) (c .before .before .move-one .ensures), c .before .before .before .before .before .before .loop .inv .1, c .before .before .before .before .before .before .loop .inv .2)
+
+move-four-requires : tie.Need-move-four-requires Inv-loop μ-loop
+move-four-requires c κs = omega arith
+
+add-i-2 : tie.Need-add-i-2 Inv-loop μ-loop
+add-i-2 c = omega arith
+
+loop-less-2 : tie.Need-loop-less-2 Inv-loop μ-loop
+loop-less-2 c = omega arith
+
+loop-again-2 : tie.Need-loop-again-2 Inv-loop μ-loop
+loop-again-2 c = (goes-on _ _ _ _ _ _ _ _ (c .before .before .before .before .before .before .loop .inv .0) (omega arith) (c .before .before .move-four .ensures), c .before .before .before .before .before .before .loop .inv .1, c .before .before .before .before .before .before .loop .inv .2)
 
 same-length : tie.Need-same-length Inv-loop μ-loop
 same-length c = omega arith
@@ -114,28 +67,14 @@ row-and-exchange-in-spec =
     Inv-loop
     μ-loop
     loop-holds
-    mul-slope
-    shared-slice-read-slope
-    entries-at-requires
-    mul-ten
-    add-ten
-    mul-ten-2
-    slice-write-ten
-    mul-ten-3
-    add-ten-2
-    mul-ten-4
-    slice-write-ten-2
-    mul-ten-5
-    add-ten-3
-    mul-ten-6
-    slice-write-ten-3
-    entry-of-requires
-    mul-ten-7
-    add-ten-4
-    mul-ten-8
-    slice-write-ten-4
+    sub-if1
+    move-one-requires
     add-i
     loop-less
     loop-again
+    move-four-requires
+    add-i-2
+    loop-less-2
+    loop-again-2
     same-length
     returns)
