@@ -199,6 +199,43 @@ module _ (n i : ℕ) (g : (Vector → Float) → Float) (d l m₁ m₂ m₃ m₄
           ∙ put-there next-stage n i two m₁ m₂ p₂ fits j h e
           ∙ put-there derivative n i slope l m₁ p₁ fits j h e
 
+-- ---- columns that are moved, one part after the other
+
+module _ (n : ℕ) (g : (Vector → Float) → Float) (d : List Float) where
+  pub moved-length : (i k : ℕ) (l m : List Float) → Moved n g d i k l m → length m ≡ length l
+  unfolding Moved
+  moved-length i k l m M = M .0
+
+  moved-none : (i : ℕ) (l : List Float) → Moved n g d i 0 l l
+  unfolding Moved
+  moved-none i l = (refl, (λ j p q. absurd (let z : ⊥ = omega arith in z)), λ j h e. refl)
+
+  pub moved-on : (i k e : ℕ) (l m o : List Float) → i + k + e ≤ n → Moved n g d i k l m → Moved n g d (i + k) e m o → Moved n g d i (k + e) l o
+  unfolding Moved
+  moved-on i k e l m o fits M O = (O .0 ∙ M .0, within, outside)
+    where
+      within : (j : ℕ) → i ≤ j → j < i + (k + e) → column n o j ≡ moved g (taking (getD d j nan) (column n l j))
+      within j p q = ⊎-elim
+          (λ (r : i + k ≤ j). O .1 j r (omega arith) ∙ ap (λ (w : Vector → Float). moved g (taking (getD d j nan) w)) (M .2 j (omega arith) (inr r)))
+          (λ (r : j < i + k). O .2 j (omega arith) (inl r) ∙ M .1 j p r)
+          (split (i + k) j)
+
+      outside : (j : ℕ) → j < n → (j < i) ⊎ (i + (k + e) ≤ j) → column n o j ≡ column n l j
+      outside j h (inl r) = O .2 j h (inl (omega arith)) ∙ M .2 j h (inl r)
+      outside j h (inr r) = O .2 j h (inr (omega arith)) ∙ M .2 j h (inr (omega arith))
+
+  -- the loop from `from` on: at its start, by one column, and at its end
+  pub moved-start : (from : ℕ) (l : List Float) → Moved n g d from (from - from) l l
+  moved-start from l = subst (λ (k : ℕ). Moved n g d from k l l) (let e : 0 ≡ from - from = omega arith in e) (moved-none from l)
+
+  pub moved-next : (from i : ℕ) (l m o : List Float) → from ≤ i → i < n → Moved n g d from (i - from) l m → Moved n g d i 1 m o → Moved n g d from (i + 1 - from) l o
+  moved-next from i l m o h p M O =
+      subst (λ (k : ℕ). Moved n g d from k l o) (let e : i - from + 1 ≡ i + 1 - from = omega arith in e)
+      (moved-on from (i - from) 1 l m o (omega arith) M (subst (λ (k : ℕ). Moved n g d k 1 m o) (let e : i ≡ from + (i - from) = omega arith in e) O))
+
+  pub moved-end : (from i : ℕ) (l m : List Float) → i ≤ n → n ≤ i → Moved n g d from (i - from) l m → Moved n g d from (n - from) l m
+  moved-end from i l m h p M = subst (λ (k : ℕ). Moved n g d from (k - from) l m) (let e : i ≡ n = omega arith in e) M
+
 -- ---- the loop goes on
 
 pub goes-on : (d : List Float) (n : ℕ) (a : List Float) (g : (Vector → Float) → Float) (area later : List Float) (i k : ℕ)

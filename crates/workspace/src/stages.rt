@@ -1,6 +1,6 @@
 // The stages of `run_orthogonal_polynomial` and `run_rkc`: stages 0 and 1, the rows, the exchange after a row, the candidate.
 ghost use mathlib.Core.Path.{_≡_};
-ghost use Prim.Native.Nat.{ℕ, _+_, _*_, _≤_, _<_};
+ghost use Prim.Native.Nat.{ℕ, _+_, _-_, _*_, _≤_, _<_};
 ghost use lib.ListN.{length};
 ghost use Rattle.family.specs.Family.{family-of};
 ghost use lib.Ieee.{Float};
@@ -206,6 +206,28 @@ fn move_four(
     put_four(ten, PREVIOUS_ONE * n + i, next);
 }
 
+// The columns from `from` on, one at a time.
+fn move_rest(
+    ten: &mut [f64],
+    n: usize,
+    from: usize,
+    family: u64,
+    c: Coefficients,
+    step: f64,
+    derivative: &[f64],
+)
+    requires { ⌜ length (now ten) ≡ 10 * n ⌝ }
+    requires { ⌜ length (now derivative) ≡ n ⌝ }
+    requires { ⌜ from ≤ n ⌝ }
+    ensures { λ _. ⌜ Moved n (entry (family-of family) step c) (now (derivative .entry)) from (n - from) (now (ten .entry)) (now (ten .exit)) ⌝ }
+{
+    let mut i = from;
+    while i < n {
+        move_one(ten, n, i, family, c, step, derivative);
+        i += 1;
+    }
+}
+
 // The derivative taken, the row and the exchange in one pass over the columns.
 fn row_and_exchange_in(
     ten: &mut [f64],
@@ -220,15 +242,11 @@ fn row_and_exchange_in(
     ensures { λ _. ⌜ unpack n (now (ten .exit)) ≡ exchanged (with-row (family-of family) n step c (unpack n (now (ten .entry))) (now (derivative .entry))) ⌝ }
 {
     let mut i = 0;
-    while i < n {
-        if n - i < 4 {
-            move_one(ten, n, i, family, c, step, derivative);
-            i += 1;
-        } else {
-            move_four(ten, n, i, family, c, step, derivative);
-            i += 4;
-        }
+    while i + 4 <= n {
+        move_four(ten, n, i, family, c, step, derivative);
+        i += 4;
     }
+    move_rest(ten, n, i, family, c, step, derivative);
 }
 
 // A stage's derivative taken: the row. So it stands after the last stage.

@@ -1,4 +1,4 @@
--- `row_and_exchange_in` meets its contract: the loop over columns that takes the derivative in goes on by four columns or by one.
+-- `row_and_exchange_in` meets its contract: the loop over columns that takes the derivative in goes on by four columns, and then by the rest.
 use mathlib.Core.Path.{_≡_, refl, _∙_}
 use Prim.Native.Nat.{_-_, _*_}
 use lib.ListN.{length}
@@ -22,11 +22,11 @@ abbrev μ-loop : tie.MeasureT-loop
 loop-holds : tie.Need-loop-holds Inv-loop μ-loop
 loop-holds c = (begin-taking _ _ _ _ 10 _ refl (omega arith), c .before .before .pre .0, c .before .before .pre .1)
 
-sub-if1 : tie.Need-sub-if1 Inv-loop μ-loop
-sub-if1 c = omega arith
+add-loop : tie.Need-add-loop Inv-loop μ-loop
+add-loop c = omega arith
 
-move-one-requires : tie.Need-move-one-requires Inv-loop μ-loop
-move-one-requires c κs = omega arith
+move-four-requires : tie.Need-move-four-requires Inv-loop μ-loop
+move-four-requires c κs = omega arith
 
 add-i : tie.Need-add-i Inv-loop μ-loop
 add-i c = omega arith
@@ -35,19 +35,12 @@ loop-less : tie.Need-loop-less Inv-loop μ-loop
 loop-less c = omega arith
 
 loop-again : tie.Need-loop-again Inv-loop μ-loop
-loop-again c = (goes-on _ _ _ _ _ _ _ _ (c .before .before .before .before .before .before .loop .inv .0) (omega arith) (c .before .before .move-one .ensures), c .before .before .before .before .before .before .loop .inv .1, c .before .before .before .before .before .before .loop .inv .2)
+loop-again c =
+    let r = c .before .before .before .before .before .loop .inv in
+    (goes-on _ _ _ _ _ _ _ _ (r .0) (omega arith) (c .before .before .move-four .ensures), r .1, r .2)
 
-move-four-requires : tie.Need-move-four-requires Inv-loop μ-loop
-move-four-requires c κs = omega arith
-
-add-i-2 : tie.Need-add-i-2 Inv-loop μ-loop
-add-i-2 c = omega arith
-
-loop-less-2 : tie.Need-loop-less-2 Inv-loop μ-loop
-loop-less-2 c = omega arith
-
-loop-again-2 : tie.Need-loop-again-2 Inv-loop μ-loop
-loop-again-2 c = (goes-on _ _ _ _ _ _ _ _ (c .before .before .before .before .before .before .loop .inv .0) (omega arith) (c .before .before .move-four .ensures), c .before .before .before .before .before .before .loop .inv .1, c .before .before .before .before .before .before .loop .inv .2)
+move-rest-requires : tie.Need-move-rest-requires Inv-loop μ-loop
+move-rest-requires c κs = omega arith
 
 same-length : tie.Need-same-length Inv-loop μ-loop
 same-length c = omega arith
@@ -55,9 +48,10 @@ same-length c = omega arith
 returns : tie.Need-returns Inv-loop μ-loop
 unfolding with-row
 returns c =
-    let x = c .before .before .before .before .args in
+    let x = c .before .before .before .before .before .before .before .before .args in
     let l = x .ten .now in
-    finish-taking _ _ _ _ (c .before .loop .inv .2) (c .before .loop .inv .0) (c .loop-test .left)
+    let r = c .before .before .before .before .before .loop .inv in
+    finish-taking _ _ _ _ (r .2) (goes-on _ _ _ _ _ _ _ _ (r .0) (omega arith) (c .before .before .move-rest .ensures)) (omega arith)
     ∙ exchange-law _ _ _ (long-at (x .n) l previous-two (omega arith)) (long-at (x .n) l previous-one (omega arith))
 
 pub row-and-exchange-in-spec : {M : Type 1} → statement M
@@ -67,14 +61,11 @@ row-and-exchange-in-spec =
     Inv-loop
     μ-loop
     loop-holds
-    sub-if1
-    move-one-requires
+    add-loop
+    move-four-requires
     add-i
     loop-less
     loop-again
-    move-four-requires
-    add-i-2
-    loop-less-2
-    loop-again-2
+    move-rest-requires
     same-length
     returns)
