@@ -30,6 +30,13 @@ told {before} {adaptive} call {area} {left} {kept} {after} {a} {c} {d} {given} i
       area-is = m .area;
     })
 
+-- of an area that has been lent before, and stood
+pub told-still : {before : Record} {adaptive : ℕ} (call : Held → Called) {area still left : List Float} {kept after : Kept} {a : Case} {c d : Counters} {given : Outcome}
+    → still ≡ area → kept ≡ meaning before → Meets (call (holding kept c still)) a after d left → given ≡ handed-back before adaptive (in-numbers a) after
+    → Told before adaptive (call (holding (meaning before) c area)) given d left
+told-still {before} {adaptive} call {left = left} {c = c} {d} {given} stood is m e =
+    subst (λ (z : List Float). Told before adaptive (call (holding (meaning before) c z)) given d left) stood (told call is m e)
+
 -- of a call that is lent no counters
 pub tells : {before : Record} {adaptive : ℕ} (call : Held → Called) {area left : List Float} {kept : Kept} {x : Next} {given : Outcome}
     → kept ≡ meaning before → Keeps (λ c. call (holding kept c area)) x left → given ≡ handed-back before adaptive (in-numbers (x .answer)) (x .«record»)

@@ -1,6 +1,8 @@
 // The six calls for C: records of plain numbers, the answer as code, number and value. Each says what
 // driver's call of that name says.
 ghost use mathlib.Core.Path.{_≡_};
+ghost use Rattle.workspace.specs.Vectors.{number, previous-one};
+ghost use Rattle.driver.specs.declared.Answer.the-variants.{Evaluate};
 ghost use Rattle.driver.specs.Calls as calls;
 ghost use Rattle.driver.specs.Promises.{holding};
 ghost use Rattle.capi.specs.Numbers as numbers;
@@ -208,6 +210,29 @@ fn handed_back(
     }
 }
 
+// The next stage's evaluation at this time and position; all else of the record stands.
+fn asked_at(before: Record, time: f64, staging: Staging) -> Outcome
+    ensures { λ r. ⌜ r ≡ numbers.handed-back before (before .arguments .adaptive) (numbers.in-numbers (Evaluate time (number previous-one))) (calls.at-stage (staging .stages) (staging .stage) (staging .recurrence) (numbers.meaning before)) ⌝ }
+{
+    let arguments = before.arguments;
+    let iteration = before.iteration;
+    Outcome {
+        answer: Answer {
+            code: 1,
+            number: 4,
+            value: time,
+        },
+        record: Record {
+            family: before.family,
+            n: before.n,
+            phase: 4,
+            arguments,
+            iteration,
+            staging,
+        },
+    }
+}
+
 #[no_mangle]
 pub extern "C" fn stabilized_start(
     record: Record,
@@ -261,7 +286,15 @@ pub extern "C" fn stabilized_reply(
         evaluations: *evaluations,
         finished_attempts: *finished_attempts,
     };
-    let replied = driver::reply(kept, counters, area, derivative);
+    let on = driver::stage_on(kept, counters, area, derivative);
+    if on.went {
+        *evaluations = on.evaluations;
+        let staging = on.staging;
+        return asked_at(record, on.time, staging);
+    }
+    // a record of its own, so that a stage's need not be set down in memory
+    let again = meaning(record);
+    let replied = driver::reply(again, counters, area, derivative);
     *evaluations = replied.counters.evaluations;
     *finished_attempts = replied.counters.finished_attempts;
     let answer = replied.answer;

@@ -3,3 +3,4 @@ pub mod Sizes
 pub mod Ranges
 pub mod Steps
 pub mod Counting
+pub mod Going

@@ -24,6 +24,13 @@ pub both : (a b : Bool) → (a && b) ≡ true → (a ≡ true) × (b ≡ true)
 both true b e = (refl, e)
 both false b e = absurd (false≢true e)
 
+-- tests put all at once
+pub three : (a b c : Bool) → ((a && b) && c) ≡ true → (a ≡ true) × (b ≡ true) × (c ≡ true)
+three a b c e = let t = both (a && b) c e in let u = both a b (t .0) in (u .0, u .1, t .1)
+
+pub four : (a b c d : Bool) → (((a && b) && c) && d) ≡ true → (a ≡ true) × (b ≡ true) × (c ≡ true) × (d ≡ true)
+four a b c d e = let t = both ((a && b) && c) d e in let u = three a b c (t .0) in (u .0, u .1, u .2, t .1)
+
 pub most : (n : ℕ) → sized n ≡ true → n ≤ 512
 unfolding sized
 most n e = leb-true n 512 (both (leb 1 n) (leb n 512) e .1)

@@ -1,12 +1,12 @@
 -- The promises of the calls in code: answer, record, counters and area, each an equation with the definition, for every input.
 use Prim.Native.Nat.{ℕ}
 use mathlib.Core.Path.{_≡_}
-use mathlib.Core.Bool.{false}
+use mathlib.Core.Bool.{true, false}
 use mathlib.Core.List.{List}
 use lib.Ieee.{Float}
-use Rattle.ieee.specs.Double.{nought}
+use Rattle.ieee.specs.Double.{_⊕_, _⊗_, nought}
 use Rattle.workspace.specs.declared.Arguments.{Arguments}
-use Rattle.workspace.specs.Vectors.{Vectors}
+use Rattle.workspace.specs.Vectors.{Vectors, number, previous-one}
 use Rattle.coefficients.specs.declared.Polynomials.{Polynomials}
 use Rattle.coefficients.specs.declared.Recurrence.{Recurrence}
 use Rattle.driver.specs.declared.Phase.the-variants as P
@@ -15,11 +15,12 @@ use Rattle.driver.specs.declared.Staging.{Staging}
 use Rattle.driver.specs.declared.Record.{Record}
 use Rattle.driver.specs.declared.Counters.{Counters}
 use Rattle.driver.specs.declared.Answer.{Answer}
-use Rattle.driver.specs.declared.Answer.the-variants.{Refused}
+use Rattle.driver.specs.declared.Answer.the-variants.{Evaluate, Refused}
 use Rattle.driver.specs.declared.Next.{Next}
 use Rattle.driver.specs.declared.Replied.{Replied}
+use Rattle.driver.specs.declared.Onward.{Onward}
 use Rattle.driver.specs.Answers.{Says}
-use Rattle.driver.specs.Calls.{Held, Called, Step}
+use Rattle.driver.specs.Calls.{Held, Called, Step, at-stage}
 
 -- what a call is handed
 abbrev pub holding : Record → Counters → List Float → Held
@@ -48,6 +49,15 @@ pub record Steps (promised : Step) (x : Next) (left : Vectors) : Type 0 where
   pub answer : Says (x .answer) (promised .answer)
   pub kept : x .«record» ≡ promised .kept
   pub vectors : left ≡ promised .vectors
+
+-- the next stage is asked for, from this position
+abbrev pub asked-at : Staging → Record → Next
+asked-at g r = record { answer = Evaluate (r .arguments .time ⊕ r .arguments .step ⊗ g .recurrence .«theta_previous») (number previous-one); «record» = at-stage (g .stages) (g .stage) (g .recurrence) r }
+
+-- a reply that was tried: where it went on, it is the call's own, a stage being asked for; else the area stands
+pub record Goes-on (promised : Called) (r : Record) (c : Counters) (area : List Float) (x : Onward) (left : List Float) : Type 0 where
+  pub went : x .went ≡ true → Meets promised (Evaluate (x .time) (number previous-one)) (at-stage (x .staging .stages) (x .staging .stage) (x .staging .recurrence) r) (record { evaluations = x .evaluations; «finished_attempts» = c .«finished_attempts» }) left
+  pub stood : x .went ≡ false → left ≡ area
 
 -- ---- a record that was never started: it is refused by every call but start (its family is none)
 

@@ -1,8 +1,10 @@
 // The tests that turn a call away, each the test of that name in the definition.
 ghost use mathlib.Core.Path.{_≡_};
-ghost use mathlib.Core.Bool.{_&&_};
-ghost use Prim.Native.Nat.{_≤_};
+ghost use mathlib.Core.Bool.{true, _&&_};
+ghost use Prim.Native.Nat.{_≤_, _<_};
 ghost use Rattle.family.specs.Family as families;
+ghost use Rattle.workspace.specs.Vectors.{all-finite};
+ghost use Rattle.driver.specs.declared.Phase.the-variants as P;
 ghost use Rattle.driver.specs.Calls as calls;
 use crate::Counters;
 use crate::Phase;
@@ -203,4 +205,47 @@ pub fn has_room(phase: Phase, counters: Counters) -> bool
         return room(counters.finished_attempts);
     }
     true
+}
+
+// Whether a stage's evaluation is pending.
+fn in_stages(phase: Phase) -> bool
+    ensures { λ r. ⌜ (r ≡ true → phase ≡ P.Stage) ⌝ }
+{
+    match phase {
+        Phase::Empty => false,
+        Phase::First => false,
+        Phase::Ready => false,
+        Phase::Pass => false,
+        Phase::Stage => true,
+        Phase::Candidate => false,
+        Phase::Finished => false,
+        Phase::Callback => false,
+    }
+}
+
+// Whether a reply passes every test and brings the derivative of a stage before the last. Two rounds of tests without
+// branches between them: after one branch a test the compiler takes what follows to be rare, and calls it instead of
+// compiling it in place.
+pub fn goes_on(record: Record, counters: Counters, area: &[f64], derivative: &[f64]) -> bool
+    ensures { λ r. ⌜ (r ≡ true → (families.known («record» .family) ≡ true) × (calls.sized («record» .n) ≡ true) × ((calls.whole-area («record» .family) («record» .n) (now (area .entry)) && calls.as-long («record» .n) (now (derivative .entry))) ≡ true) × («record» .phase ≡ P.Stage) × (calls.good-stage («record» .family) («record» .staging .stages) («record» .staging .stage) ≡ true) × («record» .staging .stage < «record» .staging .stages) × (calls.room (counters .evaluations) ≡ true) × (all-finite (now (derivative .entry)) ≡ true)) ⌝ }
+{
+    let phase = record.phase;
+    let n = record.n;
+    let s = record.staging.stages;
+    let j = record.staging.stage;
+    let family = known(record.family);
+    let size = sized(n);
+    let stages = in_stages(phase);
+    let more = room(counters.evaluations);
+    let first = family & size & stages & more;
+    if !first {
+        return false;
+    }
+    let lengths = both_long(record.family, n, area, derivative);
+    let place = good_stage(record.family, s, j);
+    let second = lengths & place & (j < s);
+    if !second {
+        return false;
+    }
+    workspace::all_finite(derivative)
 }

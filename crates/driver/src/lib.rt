@@ -6,7 +6,7 @@ ghost use Rattle.driver.specs.declared.Phase.the-variants as P;
 ghost use Rattle.driver.specs.declared.Answer.the-variants.{Refused};
 ghost use Rattle.driver.specs.Answers.{case-number};
 ghost use Rattle.driver.specs.Calls as calls;
-ghost use Rattle.driver.specs.Promises.{Meets, Keeps, holding, refusal, turned-away, new-record, no-recurrence};
+ghost use Rattle.driver.specs.Promises.{Meets, Keeps, Goes-on, holding, refusal, turned-away, new-record, no-recurrence};
 use coefficients::Polynomials;
 use coefficients::Recurrence;
 use workspace::Arguments;
@@ -81,6 +81,15 @@ pub struct Replied {
     pub answer: Answer,
     pub record: Record,
     pub counters: Counters,
+}
+
+// What a reply within the stages comes to, where it does: the time and the position of the evaluation that it asks for,
+// and the evaluations so far.
+pub struct Onward {
+    pub went: bool,
+    pub time: f64,
+    pub evaluations: u64,
+    pub staging: Staging,
 }
 
 // How many stages an attempt runs, or the number that its stage need is refused with.
@@ -304,6 +313,31 @@ pub fn reply(record: Record, counters: Counters, area: &mut [f64], derivative: &
         answer,
         record: after,
         counters: more,
+    }
+}
+
+// The commonest reply, for a caller to try before `reply`: the derivative of a stage before the last, where no test fails.
+// It hands back the parts that change, so that the record is not copied. Where it does not go on, nothing is written.
+pub fn stage_on(record: Record, counters: Counters, area: &mut [f64], derivative: &[f64]) -> Onward
+    ensures { λ r. ⌜ Goes-on (calls.reply (holding «record» counters (now (area .entry))) (now (derivative .entry))) «record» counters (now (area .entry)) r (now (area .exit)) ⌝ }
+{
+    if !checks::goes_on(record, counters, area, derivative) {
+        let staging = record.staging;
+        return Onward {
+            went: false,
+            time: 0.0,
+            evaluations: counters.evaluations,
+            staging,
+        };
+    }
+    let staging = replies::next_stage(record, area, derivative);
+    let time = record.arguments.time + record.arguments.step * staging.recurrence.theta_previous;
+    let evaluations = counters.evaluations + 1;
+    Onward {
+        went: true,
+        time,
+        evaluations,
+        staging,
     }
 }
 

@@ -9,12 +9,13 @@ ghost use Rattle.workspace.specs.Vectors.{Vectors, unpack, eigenvector, vector-
 ghost use Rattle.workspace.specs.Kernel.{ended};
 ghost use Rattle.driver.specs.declared.Need as need;
 ghost use Rattle.driver.specs.Calls as calls;
-ghost use Rattle.driver.specs.Promises.{Steps};
+ghost use Rattle.driver.specs.Promises.{Steps, asked-at};
 use crate::Answer;
 use crate::Need;
 use crate::Next;
 use crate::Phase;
 use crate::Record;
+use crate::Staging;
 use crate::position;
 
 // The derivative of the kept state.
@@ -194,6 +195,34 @@ pub fn take_stage(record: Record, area: &mut [f64], derivative: &[f64]) -> Next
     workspace::row(area, n, family, row, step, derivative);
     workspace::keep_candidate(area, n);
     ask_candidate(record, area)
+}
+
+// A stage before the last: the position after it. The answer, and the rest of the record, follow from that.
+pub fn next_stage(record: Record, area: &mut [f64], derivative: &[f64]) -> Staging
+    requires { ⌜ 11 * «record» .n ≤ length (now area) ⌝ }
+    requires { ⌜ length (now derivative) ≡ «record» .n ⌝ }
+    requires { ⌜ (2 ≤ «record» .staging .stage) × («record» .staging .stage < «record» .staging .stages) ⌝ }
+    requires { ⌜ «record» .staging .stages < 2 ^ 16 ⌝ }
+    ensures { λ r. ⌜ Steps (calls.take-stage «record» (unpack («record» .n) (now (area .entry))) (now (derivative .entry))) (asked-at r «record») (unpack («record» .n) (now (area .exit))) ⌝ }
+{
+    let s = record.staging.stages;
+    let j = record.staging.stage;
+    let c = record.staging.recurrence;
+    let row = coefficients::row_coefficients(record.family, s, j, c);
+    workspace::row_and_exchange(
+        area,
+        record.n,
+        record.family,
+        row,
+        record.arguments.step,
+        derivative,
+    );
+    let recurrence = coefficients::next_recurrence(record.family, s, c, row);
+    Staging {
+        stages: s,
+        stage: j + 1,
+        recurrence,
+    }
 }
 
 pub fn take_candidate(record: Record, area: &mut [f64], derivative: &[f64]) -> Next
