@@ -1,5 +1,5 @@
 mod Said
 mod Calls
-mod Ends
+pub mod Ends
 mod Run
 mod Outset

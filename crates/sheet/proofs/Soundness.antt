@@ -1,12 +1,12 @@
--- What is read as a day has 1 to 512 temperatures: line 1 is tested for it. Assumes nothing.
+-- What is read as a day has 1 to 512 temperatures, since line 1 is tested for it, and 1,440 readings, one a line. Assumes nothing.
 use mathlib.Core.Path.{_≡_, refl, subst}
 use mathlib.Core.Bool.{Bool, true, false, cond, _&&_, false≢true}
-use mathlib.Core.List.{List, []}
-use Prim.Native.Nat.{ℕ, _≤_}
+use mathlib.Core.List.{List, [], _∷_, _++_}
+use Prim.Native.Nat.{ℕ, zero, suc, _+_, _≤_}
 use native.Mathlib.Omega.{arith}
 use borrow.Author.Tests.{leb-true}
 use lib.Dec.{leb, eqb}
-use lib.ListN.{length}
+use lib.ListN.{length, length-append}
 use lib.Ieee.{Float}
 use Rattle.family.specs.Family.{known}
 use Rattle.heat_sink.specs.declared.Inverter.{Inverter}
@@ -14,7 +14,7 @@ use Rattle.sheet.specs.declared.Field.{Field}
 use Rattle.sheet.specs.declared.Field.the-variants.{Value, Bad}
 use Rattle.sheet.specs.declared.Head.{Head}
 use Rattle.sheet.specs.declared.Head.the-variants.{Line, Malformed}
-use Rattle.sheet.specs.Text.{after, finite-constants, sound, if-sound, constants, first-line, Lined, Readings, Bad-line, lines-from, minutes-a-day, Day, Bad-at, to-the-end, after-head, parsed}
+use Rattle.sheet.specs.Text.{line-end, word-field, double-of-bits, after, finite-constants, sound, if-sound, constants, first-line, Lined, Readings, Bad-line, lines-from, minutes-a-day, Day, Bad-at, to-the-end, after-head, parsed}
 
 unfoldable Sound : Head → Type 0
 Sound (Line m at) = sound m ≡ true
@@ -83,3 +83,41 @@ sizes m e =
 pub day-sizes : (text : List ℕ) (m : Inverter) (xs : List Float) → parsed text ≡ Day m xs → (1 ≤ m .n) × (m .n ≤ 512)
 unfolding parsed
 day-sizes text m xs e = sizes m (read-sound text m xs (first-line text) (head-sound text) e)
+
+-- ---- the number of readings
+
+-- each line that is read gives one
+unfoldable Grown : ℕ → Lined → Type 0
+Grown n (Readings xs at) = length xs ≡ n
+Grown n (Bad-line line) = Unit
+
+lines-grow : (text : List ℕ) (k at from : ℕ) (xs : List Float) → Grown (length xs + k) (lines-from text k at from xs)
+unfolding lines-from Grown after
+lines-grow text zero at from xs = omega arith
+lines-grow text (suc k) at from xs = on (word-field line-end text at) (λ bits next. lines-grow text k next (from + 1) (xs ++ (double-of-bits bits ∷ [])))
+  where
+    on : (f : Field) → ((bits next : ℕ) → Grown (length (xs ++ (double-of-bits bits ∷ [])) + k) (lines-from text k next (from + 1) (xs ++ (double-of-bits bits ∷ []))))
+        → Grown (length xs + suc k) (after (Bad-line from) f (λ bits next. lines-from text k next (from + 1) (xs ++ (double-of-bits bits ∷ []))))
+    on (Value bits next) h =
+        let e = length-append xs (double-of-bits bits ∷ []) in
+        let n : length (xs ++ (double-of-bits bits ∷ [])) + k ≡ length xs + suc k = omega (arith, e) in
+        subst (λ (j : ℕ). Grown j (lines-from text k next (from + 1) (xs ++ (double-of-bits bits ∷ [])))) n (h bits next)
+    on Bad h = tt
+
+ended-grown : (text : List ℕ) (m′ m : Inverter) (n : ℕ) (xs : List Float) (l : Lined) → Grown n l → to-the-end text m′ l ≡ Day m xs → length xs ≡ n
+unfolding to-the-end Grown
+ended-grown text m′ m n xs (Readings ys at) g e = go (eqb at (length text)) e
+  where
+    go : (b : Bool) → cond b (Day m′ ys) (Bad-at 1442) ≡ Day m xs → length xs ≡ n
+    go true e = let q : ys ≡ xs = cc in subst (λ (l : List Float). length l ≡ n) q g
+    go false e = let z : _≡_ {A = ℕ} 0 1 = cc in absurd (omega arith)
+ended-grown text m′ m n xs (Bad-line line) g e = let z : _≡_ {A = ℕ} 0 1 = cc in absurd (omega arith)
+
+read-minutes : (text : List ℕ) (m : Inverter) (xs : List Float) (h : Head) → after-head text h ≡ Day m xs → length xs ≡ minutes-a-day
+unfolding after-head
+read-minutes text m xs (Line m′ at) e = ended-grown text m′ m minutes-a-day xs (lines-from text minutes-a-day at 2 []) (lines-grow text minutes-a-day at 2 []) e
+read-minutes text m xs Malformed e = let z : _≡_ {A = ℕ} 0 1 = cc in absurd (omega arith)
+
+pub day-minutes : (text : List ℕ) (m : Inverter) (xs : List Float) → parsed text ≡ Day m xs → length xs ≡ minutes-a-day
+unfolding parsed
+day-minutes text m xs e = read-minutes text m xs (first-line text) e

@@ -1,0 +1,128 @@
+-- The theorem: the report of a text that is a day accounts for its 1,440 minutes (`accounts`). By the minutes one after another, each by `minute-ended`;
+-- the number of readings is that of the text's lines.
+use mathlib.Core.Path.{_≡_, refl, sym, ap, subst, _∙_}
+use mathlib.Core.Bool.{Bool, true, false, not, _&&_}
+use mathlib.Core.List.{List, [], _∷_, _++_}
+use Prim.Native.Nat.{ℕ, zero, suc, _+_, _≤_}
+use native.Mathlib.Omega.{arith}
+use borrow.Author.Tests.{eq-eqb, ne-eqb}
+use lib.Dec.{eqb}
+use lib.ListN.{length, length-append}
+use lib.Ieee.{Float, lt}
+use Rattle.driver.specs.Calls.{Called}
+use Rattle.session.specs.Refusals.{largest-number}
+use Rattle.heat_sink.specs.declared.Inverter.{Inverter}
+use Rattle.sheet.specs.Text as Text
+use Rattle.sheet.specs.Text.{minutes-a-day}
+use Rattle.sheet.proofs.Soundness.{day-minutes}
+use Rattle.inverter.specs.declared.Total.{Total}
+use Rattle.inverter.specs.declared.DayResult.the-variants.{Day}
+use Rattle.inverter.specs.Day.{one-if, passed, upcoming, finished, junction, is-above, refusal, counted, end-of, So-far, held, with-minute, run, no-count, outset, first-area, total-of, total, reported, day, Reports}
+use Rattle.accounts.specs.Accounts.{Ended, Completed, Given-up, listed, Rising, Numbered, Accounts}
+use Rattle.accounts.proofs.Minute.{minute-ended}
+use Rattle.accounts.proofs.Hours.{minutes-told}
+use Rattle.accounts.proofs.Listing.{listed-grown, numbered-grown, listed-rising}
+
+-- what holds after so many minutes
+record After (k : ℕ) (t : So-far) : Type 0 where
+  every-minute : t .count .counters .«finished_attempts» + t .count .refused ≡ k
+  above-finished : t .count .above ≤ t .count .counters .«finished_attempts»
+  a-number-each : length (t .refusals) ≡ k
+  a-junction-each : length (t .junctions) ≡ k
+  all-listed : length (listed 0 (t .refusals)) ≡ t .count .refused
+  numbered : Numbered (listed 0 (t .refusals))
+
+one-if-not : (x : ℕ) → x ≡ 0 → one-if (not (eqb x 0)) ≡ 0
+one-if-not x e = ap (λ (b : Bool). one-if (not b)) (eq-eqb x 0 e)
+
+one-if-some : (x : ℕ) → 1 ≤ x → one-if (not (eqb x 0)) ≡ 1
+one-if-some x h = ap (λ (b : Bool). one-if (not b)) (ne-eqb x 0 (λ e. omega arith))
+
+one-at-most : (b : Bool) → one-if b ≤ 1
+one-at-most true = omega arith
+one-at-most false = omega arith
+
+above-none : (f b : Bool) → f ≡ false → one-if (f && b) ≡ 0
+above-none f b e = ap (λ (x : Bool). one-if (x && b)) e
+
+-- a minute more
+with-minute-after : (m : Inverter) (k : ℕ) (c : Called) (t : So-far) → Ended (held t) c → After k t → After (k + 1) (with-minute m c t)
+unfolding with-minute counted is-above
+with-minute-after m k c t (Completed f z n) a =
+    let x = refusal (c .answer) in
+    let temperature = junction m (c .answer) (c .held .area) in
+    let none = one-if-not x z in
+    let above = one-at-most (finished (c .answer) && lt (m .rated) temperature) in
+    let grown = listed-grown 0 (t .refusals) x in
+    record {
+      every-minute = omega (arith, n, none, a .every-minute);
+      above-finished = omega (arith, n, above, a .above-finished);
+      a-number-each = omega (arith, length-append (t .refusals) (x ∷ []), a .a-number-each);
+      a-junction-each = omega (arith, length-append (t .junctions) (temperature ∷ []), a .a-junction-each);
+      all-listed = omega (arith, grown, a .all-listed);
+      numbered = numbered-grown 0 (t .refusals) x (omega (arith, z)) (a .numbered);
+    }
+with-minute-after m k c t (Given-up f l most n) a =
+    let x = refusal (c .answer) in
+    let temperature = junction m (c .answer) (c .held .area) in
+    let some = one-if-some x l in
+    let above = above-none (finished (c .answer)) (lt (m .rated) temperature) f in
+    let grown = listed-grown 0 (t .refusals) x in
+    record {
+      every-minute = omega (arith, n, some, a .every-minute);
+      above-finished = omega (arith, n, above, a .above-finished);
+      a-number-each = omega (arith, length-append (t .refusals) (x ∷ []), a .a-number-each);
+      a-junction-each = omega (arith, length-append (t .junctions) (temperature ∷ []), a .a-junction-each);
+      all-listed = omega (arith, grown, a .all-listed);
+      numbered = numbered-grown 0 (t .refusals) x most (a .numbered);
+    }
+
+run-after : (m : Inverter) (minute k : ℕ) (readings : List Float) (t : So-far) → After k t → After (k + length readings) (run m minute readings t)
+unfolding run
+run-after m minute k [] t a = let e : k ≡ k + 0 = omega arith in subst (λ (j : ℕ). After j t) e a
+run-after m minute k (reading ∷ readings) t a =
+    let c = passed m minute reading (upcoming reading readings) (held t) in
+    let e : k + 1 + length readings ≡ k + suc (length readings) = omega arith in
+    subst (λ (j : ℕ). After j (run m (minute + 1) readings (with-minute m c t))) e
+    (run-after m (minute + 1) (k + 1) readings (with-minute m c t) (with-minute-after m k c t (minute-ended m minute reading (upcoming reading readings) (held t)) a))
+
+outset-after : (area : List Float) → After 0 (outset area)
+unfolding no-count listed Numbered
+outset-after area = record { every-minute = refl; above-finished = omega arith; a-number-each = refl; a-junction-each = refl; all-listed = refl; numbered = tt }
+
+-- a day's minutes, all together
+after-accounts : (t : So-far) → After minutes-a-day t → Accounts (total t) (t .refusals) (t .junctions)
+unfolding total-of
+after-accounts t a =
+    record {
+      every-minute = a .every-minute;
+      above-finished = a .above-finished;
+      a-number-each = a .a-number-each;
+      a-junction-each = a .a-junction-each;
+      all-listed = a .all-listed;
+      in-order = subst (λ (k : ℕ). Rising 0 k (listed 0 (t .refusals))) (let e : 0 + length (t .refusals) ≡ minutes-a-day = omega (arith, a .a-number-each) in e) (listed-rising 0 (t .refusals));
+      numbered = a .numbered;
+      hours-are = refl;
+      minutes-told = minutes-told (t .count .above) (omega (arith, a .every-minute, a .above-finished));
+    }
+
+module _ (text before : List ℕ) (temperatures : List Float) (r : Total) where
+  parsed-accounts : (p : Text.Parsed) → Text.parsed text ≡ p → reported p before temperatures .result ≡ Day r
+      → Accounts r (reported p before temperatures .refusals) (reported p before temperatures .junctions)
+  unfolding reported
+  parsed-accounts (Text.Day m readings) e o =
+      let t = run m 0 readings (outset (first-area m)) in
+      let all : 0 + length readings ≡ minutes-a-day = omega (arith, day-minutes text m readings e) in
+      let a = subst (λ (k : ℕ). After k t) all (run-after m 0 0 readings (outset (first-area m)) (outset-after (first-area m))) in
+      let same : total t ≡ r = cc in
+      subst (λ (x : Total). Accounts x (t .refusals) (t .junctions)) same (after-accounts t a)
+  parsed-accounts (Text.Bad-at line) e o = let z : _≡_ {A = ℕ} 0 1 = cc in absurd (omega arith)
+
+  -- of a report that gives a total, whatever the two lists held before
+  pub accounts : {refusals : List ℕ} {junctions : List Float} → Reports (day text before temperatures) (Day r) refusals junctions → Accounts r refusals junctions
+  unfolding day
+  accounts {refusals} {junctions} h =
+      let p = Text.parsed text in
+      let a = parsed-accounts p refl (sym (h .results)) in
+      let b = subst (λ (l : List ℕ). Accounts r l (reported p before temperatures .junctions)) (sym (h .numbers)) a in
+      subst (λ (l : List Float). Accounts r refusals l) (sym (h .temperatures)) b

@@ -1,0 +1,4 @@
+pub mod Minute
+pub mod Listing
+pub mod Hours
+pub mod Day

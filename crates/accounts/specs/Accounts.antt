@@ -1,0 +1,67 @@
+-- What the report of a day accounts for. docs/DECISIONS.md, "The day": every minute is a finished attempt, or is refused and listed with its number, so
+-- that nothing is left out silently (40); a minute that counts as above is a finished one, and the total is the number of such minutes over 60 (41).
+use Prim.Native.Nat.{ℕ, _+_, _≤_}
+use mathlib.Core.Path.{_≡_}
+use mathlib.Core.Bool.{true, false, cond}
+use mathlib.Core.List.{List, [], _∷_}
+use lib.Dec.{eqb}
+use lib.ListN.{length}
+use lib.Ieee.{Float, toUnsigned}
+use Rattle.ieee.specs.Double.{_⊕_, _⊗_, _⊘_, double, half}
+use Rattle.driver.specs.Calls.{Held, Called}
+use Rattle.session.specs.Refusals.{largest-number}
+use Rattle.sheet.specs.Text.{minutes-a-day}
+use Rattle.inverter.specs.declared.Total.{Total}
+use Rattle.inverter.specs.Day.{finished, refusal}
+
+-- ---- a minute
+
+-- from what the caller held, the calls of a minute come to a finished attempt, one more, or to a refusal with its number, none more
+pub data Ended (h : Held) (end : Called) : Type 0 where
+  Completed : finished (end .answer) ≡ true → refusal (end .answer) ≡ 0 → end .held .counters .«finished_attempts» ≡ h .counters .«finished_attempts» + 1 → Ended h end
+  Given-up : finished (end .answer) ≡ false → 1 ≤ refusal (end .answer) → refusal (end .answer) ≤ largest-number
+      → end .held .counters .«finished_attempts» ≡ h .counters .«finished_attempts» → Ended h end
+
+-- ---- the refused minutes
+
+-- a refused minute, counted from 0, and the number that it was refused with
+pub record Entry : Type 0 where
+  pub minute : ℕ
+  pub number : ℕ
+
+abbrev pub entry : ℕ → ℕ → Entry
+entry minute number = record { minute = minute; number = number }
+
+-- those among the numbers of the minutes from this one on, in their order (0 is the number of a minute that is not refused)
+unfoldable pub listed : ℕ → List ℕ → List Entry
+listed minute [] = []
+listed minute (number ∷ numbers) = cond (eqb number 0) (listed (minute + 1) numbers) (entry minute number ∷ listed (minute + 1) numbers)
+
+-- the minutes rise strictly; the first is not before `from`, the last is before `to`
+unfoldable pub Rising : ℕ → ℕ → List Entry → Type 0
+Rising from to [] = from ≤ to
+Rising from to (e ∷ es) = (from ≤ e .minute) × Rising (e .minute + 1) to es
+
+-- each has a number of the table of refusals
+unfoldable pub Numbered : List Entry → Type 0
+Numbered [] = Unit
+Numbered (e ∷ es) = (1 ≤ e .number) × (e .number ≤ largest-number) × Numbered es
+
+-- ---- the day
+
+-- the minutes that a number of hours tells: 60 times as many, to the nearest whole number
+unfoldable pub minutes-of : Float → ℕ
+unfolding toUnsigned
+minutes-of hours = toUnsigned 64 (hours ⊗ double 60 ⊕ half)
+
+-- the total of a day, the refusal of each minute and the junction temperature of each
+pub record Accounts (t : Total) (refusals : List ℕ) (junctions : List Float) : Type 0 where
+  pub every-minute : t .«finished_attempts» + t .refused ≡ minutes-a-day
+  pub above-finished : t .above ≤ t .«finished_attempts»
+  pub a-number-each : length refusals ≡ minutes-a-day
+  pub a-junction-each : length junctions ≡ minutes-a-day
+  pub all-listed : length (listed 0 refusals) ≡ t .refused
+  pub in-order : Rising 0 minutes-a-day (listed 0 refusals)
+  pub numbered : Numbered (listed 0 refusals)
+  pub hours-are : t .hours ≡ double (t .above) ⊘ double 60
+  pub minutes-told : minutes-of (t .hours) ≡ t .above

@@ -1,0 +1,1 @@
+// What the report of a day accounts for: definitions and theorems only, no code.

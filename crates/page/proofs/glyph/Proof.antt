@@ -1,0 +1,30 @@
+-- `page::glyph` meets its contract: the test is that of the definition. Assumes nothing.
+use borrow.Author.Tests.{lt-ltb, le-ltb}
+use Rattle.page.specs.Page as spec
+use borrow.Author.Needs.{needs}
+use Rattle.page.proofs.glyph.Statement.{statement}
+use Rattle.page.proofs.glyph.Tie as tie
+
+cast-result : tie.Need-cast-result
+cast-result c = search needs
+
+add-result : tie.Need-add-result
+add-result c = search needs
+
+cast-result-2 : tie.Need-cast-result-2
+cast-result-2 c = search needs
+
+add-result-2 : tie.Need-add-result-2
+add-result-2 c = search needs
+
+returns : tie.Need-returns
+unfolding spec.glyph
+returns c = simp (lt-ltb _ 10 (c .if1 .taken))
+
+returns-2 : tie.Need-returns-2
+unfolding spec.glyph
+returns-2 c = simp (le-ltb _ 10 (c .if1 .left))
+
+pub glyph-spec : {M : Type 1} → statement M
+glyph-spec =
+    tie.close (tie.spec cast-result add-result cast-result-2 add-result-2 returns returns-2)
