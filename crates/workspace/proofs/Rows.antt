@@ -28,6 +28,13 @@ module _ (k : ℕ) (h : Float) (c : Coefficients) (x : Vector → Float) where
   unfolding entry
   later-entry d = orthogonal (λ f. orthogonal-entry h c x ≡ entry f h c x) refl refl refl refl k d
 
+-- every family but the first has the row of the second
+pub same-row : (k n : ℕ) (h : Float) (c : Coefficients) (v : Vectors) (d : List Float) → (k ≡ 1 → ⊥) → with-row (family-of 2) n h c v d ≡ with-row (family-of k) n h c v d
+unfolding with-row
+same-row k n h c v d other =
+    let w = v with derivative ≔ d in
+    ap (λ (g : (Vector → Float) → Float). w with next-stage ≔ each n w g) (fun-ext (λ x. sym (later-entry 2 h c x (λ (e : 2 ≡ 1). omega arith)) ∙ later-entry k h c x other))
+
 -- ---- the row, by the rule g of an element
 
 abbrev pub rowed : ℕ → ((Vector → Float) → Float) → Vectors → Vectors

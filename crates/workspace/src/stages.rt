@@ -229,6 +229,20 @@ fn move_rest(
 }
 
 // The derivative taken, the row and the exchange in one pass over the columns.
+fn move_all(ten: &mut [f64], n: usize, family: u64, c: Coefficients, step: f64, derivative: &[f64])
+    requires { ⌜ length (now ten) ≡ 10 * n ⌝ }
+    requires { ⌜ length (now derivative) ≡ n ⌝ }
+    ensures { λ _. ⌜ unpack n (now (ten .exit)) ≡ exchanged (with-row (family-of family) n step c (unpack n (now (ten .entry))) (now (derivative .entry))) ⌝ }
+{
+    let mut i = 0;
+    while i + 4 <= n {
+        move_four(ten, n, i, family, c, step, derivative);
+        i += 4;
+    }
+    move_rest(ten, n, i, family, c, step, derivative);
+}
+
+// By the form of the family, so that the loop is compiled for each form by itself.
 fn row_and_exchange_in(
     ten: &mut [f64],
     n: usize,
@@ -241,12 +255,10 @@ fn row_and_exchange_in(
     requires { ⌜ length (now derivative) ≡ n ⌝ }
     ensures { λ _. ⌜ unpack n (now (ten .exit)) ≡ exchanged (with-row (family-of family) n step c (unpack n (now (ten .entry))) (now (derivative .entry))) ⌝ }
 {
-    let mut i = 0;
-    while i + 4 <= n {
-        move_four(ten, n, i, family, c, step, derivative);
-        i += 4;
+    match family {
+        1 => move_all(ten, n, 1, c, step, derivative),
+        _ => move_all(ten, n, 2, c, step, derivative),
     }
-    move_rest(ten, n, i, family, c, step, derivative);
 }
 
 // A stage's derivative taken: the row. So it stands after the last stage.

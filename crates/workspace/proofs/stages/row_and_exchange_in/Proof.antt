@@ -1,71 +1,37 @@
--- `row_and_exchange_in` meets its contract: the loop over columns that takes the derivative in goes on by four columns, and then by the rest.
-use mathlib.Core.Path.{_≡_, refl, _∙_}
-use Prim.Native.Nat.{_-_, _*_}
-use lib.ListN.{length}
+-- `row_and_exchange_in` meets its contract, from `move_all`: every family but the first has the row of the second.
+use mathlib.Core.Path.{sym, ap, _∙_}
+use Prim.Native.Nat.{ℕ}
 use Rattle.family.specs.Family.{family-of}
-use Rattle.workspace.specs.Vectors.{derivative, previous-two, previous-one}
-use Rattle.workspace.specs.Kernel.{entry, with-row}
-use Rattle.workspace.proofs.Areas.{long-at}
-use Rattle.workspace.proofs.Rows.{exchange-rules, exchange-law}
-use Rattle.workspace.proofs.Taking.{Taking, begin-taking, finish-taking}
-use Rattle.workspace.proofs.Fours.{goes-on}
-use native.Mathlib.Omega.{arith}
+use Rattle.workspace.specs.Vectors.{unpack}
+use Rattle.workspace.specs.Kernel.{with-row, exchanged}
+use Rattle.workspace.proofs.Rows.{same-row}
+use borrow.Author.Needs.{needs}
 use Rattle.workspace.proofs.stages.row_and_exchange_in.Statement.{statement}
 use Rattle.workspace.proofs.stages.row_and_exchange_in.Tie as tie
 
-abbrev Inv-loop : tie.InvT-loop
-Inv-loop ten₀ n family c step d i₀ ten i = Taking derivative d n ten₀ (exchange-rules (entry (family-of family) step c)) ten i × (length ten₀ ≡ 10 * n) × (length d ≡ n)
+move-all-requires : tie.Need-move-all-requires
+move-all-requires c κs = search needs
 
-abbrev μ-loop : tie.MeasureT-loop
-μ-loop ten₀ n family c step d i₀ ten i = n - i
+move-all-requires-2 : tie.Need-move-all-requires-2
+move-all-requires-2 c κs = search needs
 
-loop-holds : tie.Need-loop-holds Inv-loop μ-loop
-loop-holds c = (begin-taking _ _ _ _ 10 _ refl (omega arith), c .before .before .pre .0, c .before .before .pre .1)
+same-length : tie.Need-same-length
+same-length c = search needs
 
-add-loop : tie.Need-add-loop Inv-loop μ-loop
-add-loop c = omega arith
-
-move-four-requires : tie.Need-move-four-requires Inv-loop μ-loop
-move-four-requires c κs = omega arith
-
-add-i : tie.Need-add-i Inv-loop μ-loop
-add-i c = omega arith
-
-loop-less : tie.Need-loop-less Inv-loop μ-loop
-loop-less c = omega arith
-
-loop-again : tie.Need-loop-again Inv-loop μ-loop
-loop-again c =
-    let r = c .before .before .before .before .before .loop .inv in
-    (goes-on _ _ _ _ _ _ _ _ (r .0) (omega arith) (c .before .before .move-four .ensures), r .1, r .2)
-
-move-rest-requires : tie.Need-move-rest-requires Inv-loop μ-loop
-move-rest-requires c κs = omega arith
-
-same-length : tie.Need-same-length Inv-loop μ-loop
-same-length c = omega arith
-
-returns : tie.Need-returns Inv-loop μ-loop
-unfolding with-row
+returns : tie.Need-returns
 returns c =
-    let x = c .before .before .before .before .before .before .before .before .args in
-    let l = x .ten .now in
-    let r = c .before .before .before .before .before .loop .inv in
-    finish-taking _ _ _ _ (r .2) (goes-on _ _ _ _ _ _ _ _ (r .0) (omega arith) (c .before .before .move-rest .ensures)) (omega arith)
-    ∙ exchange-law _ _ _ (long-at (x .n) l previous-two (omega arith)) (long-at (x .n) l previous-one (omega arith))
+    let x = c .before .before .before .before .before .before .before .args in
+    c .before .before .move-all .ensures
+    ∙ ap (λ (k : ℕ). exchanged (with-row (family-of k) (x .n) (x .step) (x .c) (unpack (x .n) (x .ten .now)) (x .derivative .now))) (sym (c .before .before .before .before .match .keys1))
+
+same-length-2 : tie.Need-same-length-2
+same-length-2 c = search needs
+
+returns-2 : tie.Need-returns-2
+returns-2 c =
+    let x = c .before .before .before .before .before .before .before .args in
+    c .before .before .move-all2 .ensures
+    ∙ ap exchanged (same-row (x .family) (x .n) (x .step) (x .c) (unpack (x .n) (x .ten .now)) (x .derivative .now) (c .before .before .before .before .match .rest .1))
 
 pub row-and-exchange-in-spec : {M : Type 1} → statement M
-row-and-exchange-in-spec =
-    tie.close
-    (tie.spec
-    Inv-loop
-    μ-loop
-    loop-holds
-    add-loop
-    move-four-requires
-    add-i
-    loop-less
-    loop-again
-    move-rest-requires
-    same-length
-    returns)
+row-and-exchange-in-spec = tie.close (tie.spec move-all-requires move-all-requires-2 same-length returns same-length-2 returns-2)
