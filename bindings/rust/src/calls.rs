@@ -161,43 +161,15 @@ mod library {
             relative_tolerance: f64,
             adaptive: u64,
         ) -> Outcome;
-        // The record as its 24 words. On x86-64 Linux, for which alone the library is built, this is the call that has the
-        // outcome as its result and the record as its first argument: the outcome's place and the five arguments before
-        // the words take the six registers, and the words lie on the stack where the record would. Given the record whole,
-        // the compiler copies it there with a string instruction, which costs a call about 10 ns.
         pub fn stabilized_reply(
-            outcome: *mut Outcome,
+            record: Record,
             evaluations: *mut u64,
             finished_attempts: *mut u64,
             area: *mut f64,
             area_length: usize,
             derivative: *const f64,
-            word_0: u64,
-            word_1: u64,
-            word_2: u64,
-            word_3: u64,
-            word_4: u64,
-            word_5: u64,
-            word_6: u64,
-            word_7: u64,
-            word_8: u64,
-            word_9: u64,
-            word_10: u64,
-            word_11: u64,
-            word_12: u64,
-            word_13: u64,
-            word_14: u64,
-            word_15: u64,
-            word_16: u64,
-            word_17: u64,
-            word_18: u64,
-            word_19: u64,
-            word_20: u64,
-            word_21: u64,
-            word_22: u64,
-            word_23: u64,
             derivative_length: usize,
-        );
+        ) -> Outcome;
         pub fn stabilized_accept(record: Record, area: *mut f64, area_length: usize) -> Outcome;
         pub fn stabilized_accept_with_callback(
             record: Record,
@@ -270,59 +242,17 @@ pub fn reply(
     area: &mut [f64],
     derivative: &[f64],
 ) -> Outcome {
-    let mut outcome = Outcome {
-        answer: Answer::default(),
-        record,
-    };
-    reply_in_place(&mut outcome, counters, area, derivative);
-    outcome
-}
-
-/// As `reply`: the record is that of an outcome, which the reply's own outcome replaces.
-#[inline]
-pub fn reply_in_place(
-    outcome: &mut Outcome,
-    counters: &mut Counters,
-    area: &mut [f64],
-    derivative: &[f64],
-) {
-    // SAFETY: a record is 24 fields of 8 bytes, all of which hold any bits.
-    let w: [u64; 24] = unsafe { std::mem::transmute(outcome.record) };
-    // SAFETY: as in `start`; the counters and the outcome are lent alone.
+    // SAFETY: as in `start`; the counters are lent alone.
     unsafe {
         library::stabilized_reply(
-            outcome,
+            record,
             &mut counters.evaluations,
             &mut counters.finished_attempts,
             area.as_mut_ptr(),
             area.len(),
             derivative.as_ptr(),
-            w[0],
-            w[1],
-            w[2],
-            w[3],
-            w[4],
-            w[5],
-            w[6],
-            w[7],
-            w[8],
-            w[9],
-            w[10],
-            w[11],
-            w[12],
-            w[13],
-            w[14],
-            w[15],
-            w[16],
-            w[17],
-            w[18],
-            w[19],
-            w[20],
-            w[21],
-            w[22],
-            w[23],
             derivative.len(),
-        );
+        )
     }
 }
 

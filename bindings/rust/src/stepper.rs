@@ -107,8 +107,8 @@ impl<F: FnMut(&mut [f64], &[f64], f64)> Stepper<F> {
         let mut outcome = first;
         while outcome.answer.code == code::EVALUATE {
             self.evaluate(outcome.answer.number as usize, outcome.answer.value);
-            calls::reply_in_place(
-                &mut outcome,
+            outcome = calls::reply(
+                outcome.record,
                 &mut self.counters,
                 &mut self.area,
                 &self.derivative,

@@ -228,14 +228,23 @@ fn move_rest(
     }
 }
 
+// How many columns are moved four at a time: those of a short vector. In a long one the compiler's own test of which
+// vectors overlap costs less than it gains.
+fn fours_within(n: usize) -> usize
+    ensures { λ r. ⌜ r ≤ n ⌝ }
+{
+    if n < 128 { n } else { 0 }
+}
+
 // The derivative taken, the row and the exchange in one pass over the columns.
 fn move_all(ten: &mut [f64], n: usize, family: u64, c: Coefficients, step: f64, derivative: &[f64])
     requires { ⌜ length (now ten) ≡ 10 * n ⌝ }
     requires { ⌜ length (now derivative) ≡ n ⌝ }
     ensures { λ _. ⌜ unpack n (now (ten .exit)) ≡ exchanged (with-row (family-of family) n step c (unpack n (now (ten .entry))) (now (derivative .entry))) ⌝ }
 {
+    let short = fours_within(n);
     let mut i = 0;
-    while i + 4 <= n {
+    while i + 4 <= short {
         move_four(ten, n, i, family, c, step, derivative);
         i += 4;
     }

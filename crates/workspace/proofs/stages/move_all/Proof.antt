@@ -1,6 +1,6 @@
 -- `move_all` meets its contract: the loop over columns that takes the derivative in goes on by four columns, and then by the rest.
 use mathlib.Core.Path.{_≡_, refl, _∙_}
-use Prim.Native.Nat.{_-_, _*_}
+use Prim.Native.Nat.{_-_, _*_, _≤_}
 use lib.ListN.{length}
 use Rattle.family.specs.Family.{family-of}
 use Rattle.workspace.specs.Vectors.{derivative, previous-two, previous-one}
@@ -14,13 +14,16 @@ use Rattle.workspace.proofs.stages.move_all.Statement.{statement}
 use Rattle.workspace.proofs.stages.move_all.Tie as tie
 
 abbrev Inv-loop : tie.InvT-loop
-Inv-loop ten₀ n family c step d i₀ ten i = Taking derivative d n ten₀ (exchange-rules (entry (family-of family) step c)) ten i × (length ten₀ ≡ 10 * n) × (length d ≡ n)
+Inv-loop ten₀ n family c step d short i₀ ten i = Taking derivative d n ten₀ (exchange-rules (entry (family-of family) step c)) ten i × (length ten₀ ≡ 10 * n) × (length d ≡ n) × (short ≤ n)
 
 abbrev μ-loop : tie.MeasureT-loop
-μ-loop ten₀ n family c step d i₀ ten i = n - i
+μ-loop ten₀ n family c step d short i₀ ten i = n - i
+
+fours-within-requires : tie.Need-fours-within-requires Inv-loop μ-loop
+fours-within-requires c κs = omega arith
 
 loop-holds : tie.Need-loop-holds Inv-loop μ-loop
-loop-holds c = (begin-taking _ _ _ _ 10 _ refl (omega arith), c .before .before .pre .0, c .before .before .pre .1)
+loop-holds c = (begin-taking _ _ _ _ 10 _ refl (omega arith), c .before .before .before .pre .0, c .before .before .before .pre .1, c .fours-within .ensures)
 
 add-loop : tie.Need-add-loop Inv-loop μ-loop
 add-loop c = omega arith
@@ -37,7 +40,7 @@ loop-less c = omega arith
 loop-again : tie.Need-loop-again Inv-loop μ-loop
 loop-again c =
     let r = c .before .before .before .before .before .loop .inv in
-    (goes-on _ _ _ _ _ _ _ _ (r .0) (omega arith) (c .before .before .move-four .ensures), r .1, r .2)
+    (goes-on _ _ _ _ _ _ _ _ (r .0) (omega arith) (c .before .before .move-four .ensures), r .1, r .2, r .3)
 
 move-rest-requires : tie.Need-move-rest-requires Inv-loop μ-loop
 move-rest-requires c κs = omega arith
@@ -48,7 +51,7 @@ same-length c = omega arith
 returns : tie.Need-returns Inv-loop μ-loop
 unfolding with-row
 returns c =
-    let x = c .before .before .before .before .before .before .before .before .args in
+    let x = c .before .before .before .before .before .before .before .before .before .args in
     let l = x .ten .now in
     let r = c .before .before .before .before .before .loop .inv in
     finish-taking _ _ _ _ (r .2) (goes-on _ _ _ _ _ _ _ _ (r .0) (omega arith) (c .before .before .move-rest .ensures)) (omega arith)
@@ -60,6 +63,7 @@ move-all-spec =
     (tie.spec
     Inv-loop
     μ-loop
+    fours-within-requires
     loop-holds
     add-loop
     move-four-requires
