@@ -1,6 +1,6 @@
 -- A reply within the stages: where the tests pass, before the last stage, it is the call's own.
 use mathlib.Core.Path.{_≡_, refl, sym, ap, _∙_}
-use mathlib.Core.Bool.{Bool, true, _&&_}
+use mathlib.Core.Bool.{Bool, true, _&&_, false≢true}
 use mathlib.Core.List.{List}
 use Prim.Native.Nat.{ℕ, _*_, _<_, _-_, _^_}
 use borrow.Author.Tests.{ltb-true}
@@ -14,10 +14,54 @@ use Rattle.driver.specs.declared.Record.{Record}
 use Rattle.driver.specs.declared.Staging.{Staging}
 use Rattle.driver.specs.declared.Counters.{Counters}
 use Rattle.driver.specs.Calls.{reply, replied, take-stage, sized, whole-area, as-long, pending, in-range, good-stage, awaiting, finishes, room, has-room, one-more, counted}
-use Rattle.driver.specs.Promises.{Meets, Steps, holding, asked-at}
+use Rattle.driver.specs.Promises.{Meets, Steps, holding, asked-at, in-stages, goes-on}
 use Rattle.driver.proofs.Ladder.{beyond}
+use Rattle.driver.proofs.Sizes.{both, three, four}
 use Rattle.driver.proofs.Steps.{as-step}
 use Rattle.driver.proofs.Counting.{settles}
+
+-- ---- what the tests say where they pass
+
+pub record Passed (r : Record) (c : Counters) (area d : List Float) : Type 0 where
+  pub family : known (r .family) ≡ true
+  pub size : sized (r .n) ≡ true
+  pub phase : r .phase ≡ P.Stage
+  pub more : room (c .evaluations) ≡ true
+  pub lengths : (whole-area (r .family) (r .n) area && as-long (r .n) d) ≡ true
+  pub place : good-stage (r .family) (r .staging .stages) (r .staging .stage) ≡ true
+  pub before-last : r .staging .stage < r .staging .stages
+  pub finite : all-finite d ≡ true
+
+of-stages : (p : Phase) → in-stages p ≡ true → p ≡ P.Stage
+unfolding in-stages
+of-stages P.Empty e = absurd (false≢true e)
+of-stages P.First e = absurd (false≢true e)
+of-stages P.Ready e = absurd (false≢true e)
+of-stages P.Pass e = absurd (false≢true e)
+of-stages P.Stage e = refl
+of-stages P.Candidate e = absurd (false≢true e)
+of-stages P.Finished e = absurd (false≢true e)
+of-stages P.Callback e = absurd (false≢true e)
+
+pub passed : (r : Record) (c : Counters) (area d : List Float) → goes-on r c area d ≡ true → Passed r c area d
+unfolding goes-on
+passed r c area d e =
+    let rounds = both _ _ e in
+    let first = four _ _ _ _ (rounds .0) in
+    let second = both _ _ (rounds .1) in
+    let place = three _ _ _ (second .0) in
+    record {
+      family = first .0;
+      size = first .1;
+      phase = of-stages (r .phase) (first .2);
+      more = first .3;
+      lengths = place .0;
+      place = place .1;
+      before-last = ltb-true (r .staging .stage) (r .staging .stages) (place .2);
+      finite = second .1;
+    }
+
+-- ---- the reply
 
 awaits : (r : Record) → r .phase ≡ P.Stage → good-stage (r .family) (r .staging .stages) (r .staging .stage) ≡ true → awaiting r ≡ true
 unfolding awaiting pending in-range
@@ -31,16 +75,14 @@ roomy : (p : Phase) (c : Counters) → p ≡ P.Stage → room (c .evaluations) �
 unfolding has-room finishes
 roomy p c e h = ap (λ (p : Phase). has-room p c) e ∙ ap (λ (b : Bool). b && true) h
 
-pub goes : (r : Record) (c : Counters) (area d : List Float) (g : Staging) (left : List Float)
-    → known (r .family) ≡ true → sized (r .n) ≡ true → (whole-area (r .family) (r .n) area && as-long (r .n) d) ≡ true → r .phase ≡ P.Stage
-    → good-stage (r .family) (r .staging .stages) (r .staging .stage) ≡ true → room (c .evaluations) ≡ true → all-finite d ≡ true
+pub goes : (r : Record) (c : Counters) (area d : List Float) (g : Staging) (left : List Float) → Passed r c area d
     → length left ≡ vector-count (family-of (r .family)) * r .n → Steps (take-stage r (unpack (r .n) area) d) (asked-at g r) (unpack (r .n) left)
     → Meets (reply (holding r c area) d) (asked-at g r .answer) (asked-at g r .«record») (one-more c) left
 unfolding reply replied counted
-goes r c area d g left k n l p s m f h t =
-    beyond _ _ k
-    (beyond _ _ n
-    (beyond _ _ l
-    (beyond _ _ (awaits r p s)
-    (beyond _ _ (roomy (r .phase) c p m)
-    (settles _ (family-of (r .family)) (r .n) left f h (as-step (sym (ap (λ (q : Phase). replied q r (unpack (r .n) area) d) p)) t) refl)))))
+goes r c area d g left p h t =
+    beyond _ _ (p .family)
+    (beyond _ _ (p .size)
+    (beyond _ _ (p .lengths)
+    (beyond _ _ (awaits r (p .phase) (p .place))
+    (beyond _ _ (roomy (r .phase) c (p .phase) (p .more))
+    (settles _ (family-of (r .family)) (r .n) left (p .finite) h (as-step (sym (ap (λ (q : Phase). replied q r (unpack (r .n) area) d) (p .phase))) t) refl)))))

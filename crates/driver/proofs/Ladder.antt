@@ -1,5 +1,5 @@
 -- Tests in a row: what a conjunction, and a chain of checks, is where the code has found its tests to hold or to fail.
-use mathlib.Core.Path.{_≡_, refl, sym, ap, subst, _∙_}
+use mathlib.Core.Path.{_≡_, refl, sym, ap, ap₂, subst, _∙_}
 use mathlib.Core.Bool.{Bool, true, false, not, _&&_, _||_}
 use mathlib.Core.List.{List}
 use Prim.Native.Nat.{ℕ}
@@ -46,6 +46,13 @@ spared b e = sym (ap (λ (x : Bool). not x || b) e)
 -- an arm of a match: what holds of the arm's own case, said of the value as it came
 pub arm : {A : Type 0} {p q : A} {b : Bool} (test : A → Bool) → q ≡ p → b ≡ test p → b ≡ test q
 arm test e h = h ∙ ap test (sym e)
+
+-- tests put all at once: as the code has them, and as the definition has them
+pub all-three : {a b c a′ b′ c′ : Bool} → a ≡ a′ → b ≡ b′ → c ≡ c′ → ((a && b) && c) ≡ ((a′ && b′) && c′)
+all-three e f g = ap₂ _&&_ (ap₂ _&&_ e f) g
+
+pub all-four : {a b c d a′ b′ c′ d′ : Bool} → a ≡ a′ → b ≡ b′ → c ≡ c′ → d ≡ d′ → (((a && b) && c) && d) ≡ (((a′ && b′) && c′) && d′)
+all-four e f g h = ap₂ _&&_ (all-three e f g) h
 
 -- ---- a call's tests
 

@@ -1,14 +1,17 @@
 -- The promises of the calls in code: answer, record, counters and area, each an equation with the definition, for every input.
 use Prim.Native.Nat.{ℕ}
 use mathlib.Core.Path.{_≡_}
-use mathlib.Core.Bool.{true, false}
+use mathlib.Core.Bool.{Bool, true, false, _&&_}
 use mathlib.Core.List.{List}
+use lib.Dec.{ltb}
 use lib.Ieee.{Float}
 use Rattle.ieee.specs.Double.{_⊕_, _⊗_, nought}
+use Rattle.family.specs.Family.{known}
 use Rattle.workspace.specs.declared.Arguments.{Arguments}
-use Rattle.workspace.specs.Vectors.{Vectors, number, previous-one}
+use Rattle.workspace.specs.Vectors.{Vectors, number, all-finite, previous-one}
 use Rattle.coefficients.specs.declared.Polynomials.{Polynomials}
 use Rattle.coefficients.specs.declared.Recurrence.{Recurrence}
+use Rattle.driver.specs.declared.Phase.{Phase}
 use Rattle.driver.specs.declared.Phase.the-variants as P
 use Rattle.driver.specs.declared.Iteration.{Iteration}
 use Rattle.driver.specs.declared.Staging.{Staging}
@@ -20,7 +23,7 @@ use Rattle.driver.specs.declared.Next.{Next}
 use Rattle.driver.specs.declared.Replied.{Replied}
 use Rattle.driver.specs.declared.Onward.{Onward}
 use Rattle.driver.specs.Answers.{Says}
-use Rattle.driver.specs.Calls.{Held, Called, Step, at-stage}
+use Rattle.driver.specs.Calls.{Held, Called, Step, at-stage, sized, whole-area, as-long, good-stage, room}
 
 -- what a call is handed
 abbrev pub holding : Record → Counters → List Float → Held
@@ -54,9 +57,35 @@ pub record Steps (promised : Step) (x : Next) (left : Vectors) : Type 0 where
 abbrev pub asked-at : Staging → Record → Next
 asked-at g r = record { answer = Evaluate (r .arguments .time ⊕ r .arguments .step ⊗ g .recurrence .«theta_previous») (number previous-one); «record» = at-stage (g .stages) (g .stage) (g .recurrence) r }
 
--- a reply that was tried: where it went on, it is the call's own, a stage being asked for; else the area stands
-pub record Goes-on (promised : Called) (r : Record) (c : Counters) (area : List Float) (x : Onward) (left : List Float) : Type 0 where
-  pub went : x .went ≡ true → Meets promised (Evaluate (x .time) (number previous-one)) (at-stage (x .staging .stages) (x .staging .stage) (x .staging .recurrence) r) (record { evaluations = x .evaluations; «finished_attempts» = c .«finished_attempts» }) left
+-- ---- a reply that is tried: does it pass every test and bring the derivative of a stage before the last?
+
+unfoldable pub in-stages : Phase → Bool
+in-stages P.Empty = false
+in-stages P.First = false
+in-stages P.Ready = false
+in-stages P.Pass = false
+in-stages P.Stage = true
+in-stages P.Candidate = false
+in-stages P.Finished = false
+in-stages P.Callback = false
+
+unfoldable pub goes-on : Record → Counters → List Float → List Float → Bool
+goes-on r c area d =
+    (((known (r .family) && sized (r .n)) && in-stages (r .phase)) && room (c .evaluations))
+    && ((((whole-area (r .family) (r .n) area && as-long (r .n) d) && good-stage (r .family) (r .staging .stages) (r .staging .stage))
+    && ltb (r .staging .stage) (r .staging .stages)) && all-finite d)
+
+-- handed back where it does not
+abbrev pub stays : Record → Counters → Onward
+stays r c = record { went = false; time = nought; evaluations = c .evaluations; staging = r .staging }
+
+-- where it does, what is handed back is the call's own outcome, the next stage being asked for; else nothing is written
+pub record Goes-on (promised : Called) (r : Record) (c : Counters) (area d : List Float) (x : Onward) (left : List Float) : Type 0 where
+  pub exactly : x .went ≡ goes-on r c area d
+  pub went : x .went ≡ true
+      → Meets promised (Evaluate (x .time) (number previous-one)) (at-stage (x .staging .stages) (x .staging .stage) (x .staging .recurrence) r)
+      (record { evaluations = x .evaluations; «finished_attempts» = c .«finished_attempts» }) left
+  pub stayed : x .went ≡ false → x ≡ stays r c
   pub stood : x .went ≡ false → left ≡ area
 
 -- ---- a record that was never started: it is refused by every call but start (its family is none)

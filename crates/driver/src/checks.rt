@@ -1,11 +1,10 @@
 // The tests that turn a call away, each the test of that name in the definition.
 ghost use mathlib.Core.Path.{_≡_};
-ghost use mathlib.Core.Bool.{true, _&&_};
-ghost use Prim.Native.Nat.{_≤_, _<_};
+ghost use mathlib.Core.Bool.{_&&_};
+ghost use Prim.Native.Nat.{_≤_};
 ghost use Rattle.family.specs.Family as families;
-ghost use Rattle.workspace.specs.Vectors.{all-finite};
-ghost use Rattle.driver.specs.declared.Phase.the-variants as P;
 ghost use Rattle.driver.specs.Calls as calls;
+ghost use Rattle.driver.specs.Promises.{in-stages, goes-on};
 use crate::Counters;
 use crate::Phase;
 use crate::Record;
@@ -209,7 +208,7 @@ pub fn has_room(phase: Phase, counters: Counters) -> bool
 
 // Whether a stage's evaluation is pending.
 fn in_stages(phase: Phase) -> bool
-    ensures { λ r. ⌜ (r ≡ true → phase ≡ P.Stage) ⌝ }
+    ensures { λ r. ⌜ r ≡ in-stages phase ⌝ }
 {
     match phase {
         Phase::Empty => false,
@@ -227,7 +226,7 @@ fn in_stages(phase: Phase) -> bool
 // branches between them: after one branch a test the compiler takes what follows to be rare, and calls it instead of
 // compiling it in place.
 pub fn goes_on(record: Record, counters: Counters, area: &[f64], derivative: &[f64]) -> bool
-    ensures { λ r. ⌜ (r ≡ true → (families.known («record» .family) ≡ true) × (calls.sized («record» .n) ≡ true) × ((calls.whole-area («record» .family) («record» .n) (now (area .entry)) && calls.as-long («record» .n) (now (derivative .entry))) ≡ true) × («record» .phase ≡ P.Stage) × (calls.good-stage («record» .family) («record» .staging .stages) («record» .staging .stage) ≡ true) × («record» .staging .stage < «record» .staging .stages) × (calls.room (counters .evaluations) ≡ true) × (all-finite (now (derivative .entry)) ≡ true)) ⌝ }
+    ensures { λ r. ⌜ r ≡ goes-on «record» counters (now (area .entry)) (now (derivative .entry)) ⌝ }
 {
     let phase = record.phase;
     let n = record.n;

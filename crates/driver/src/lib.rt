@@ -319,7 +319,7 @@ pub fn reply(record: Record, counters: Counters, area: &mut [f64], derivative: &
 // The commonest reply, for a caller to try before `reply`: the derivative of a stage before the last, where no test fails.
 // It hands back the parts that change, so that the record is not copied. Where it does not go on, nothing is written.
 pub fn stage_on(record: Record, counters: Counters, area: &mut [f64], derivative: &[f64]) -> Onward
-    ensures { λ r. ⌜ Goes-on (calls.reply (holding «record» counters (now (area .entry))) (now (derivative .entry))) «record» counters (now (area .entry)) r (now (area .exit)) ⌝ }
+    ensures { λ r. ⌜ Goes-on (calls.reply (holding «record» counters (now (area .entry))) (now (derivative .entry))) «record» counters (now (area .entry)) (now (derivative .entry)) r (now (area .exit)) ⌝ }
 {
     if !checks::goes_on(record, counters, area, derivative) {
         let staging = record.staging;

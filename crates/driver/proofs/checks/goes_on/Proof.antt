@@ -1,9 +1,10 @@
--- `goes_on` meets its contract: past both rounds each of their tests has passed, and the last is the answer.
-use mathlib.Core.Path.{sym, _∙_}
-use mathlib.Core.Bool.{false≢true}
+-- `goes_on` meets its contract: each round of tests says whether all of its tests pass, and the last test is the answer.
+use mathlib.Core.Path.{refl, sym, _∙_}
 use borrow.Author.Needs.{needs}
-use borrow.Author.Tests.{not-false, ltb-true}
-use Rattle.driver.proofs.Sizes.{most, three, four}
+use borrow.Author.Tests.{not-false}
+use Rattle.driver.specs.Promises.{goes-on}
+use Rattle.driver.proofs.Sizes.{most, four}
+use Rattle.driver.proofs.Ladder.{fails, passes, stop, go-on, all-three, all-four}
 use Rattle.driver.proofs.checks.goes_on.Statement.{statement}
 use Rattle.driver.proofs.checks.goes_on.Tie as tie
 
@@ -20,7 +21,9 @@ room-requires : tie.Need-room-requires
 room-requires c κs = search needs
 
 returns : tie.Need-returns
-returns c = λ e. absurd (false≢true e)
+unfolding goes-on
+returns c =
+    stop _ (fails (all-four (c .before .before .before .before .known .ensures) (c .before .before .before .sized .ensures) (c .before .before .in-stages .ensures) (c .before .room .ensures)) (c .if1 .taken))
 
 both-long-requires : tie.Need-both-long-requires
 both-long-requires c κs =
@@ -31,17 +34,21 @@ good-stage-requires : tie.Need-good-stage-requires
 good-stage-requires c κs = search needs
 
 returns-2 : tie.Need-returns-2
-returns-2 c = λ e. absurd (false≢true e)
+unfolding goes-on
+returns-2 c =
+    let d = c .before .before .before in
+    go-on (passes (all-four (d .before .before .before .before .known .ensures) (d .before .before .before .sized .ensures) (d .before .before .in-stages .ensures) (d .before .room .ensures)) (d .if1 .left))
+    (stop _ (fails (all-three (c .before .before .both-long .ensures) (c .before .good-stage .ensures) refl) (c .if2 .taken)))
 
 all-finite-requires : tie.Need-all-finite-requires
 all-finite-requires c κs = search needs
 
 returns-3 : tie.Need-returns-3
-returns-3 c = λ e.
-    let c₁ = c .before .before .before .before in
-    let f = four _ _ _ _ (not-false _ (c₁ .if1 .left)) in
-    let g = three _ _ _ (not-false _ (c .before .if2 .left)) in
-    (sym (c₁ .before .before .before .before .known .ensures) ∙ f .0, sym (c₁ .before .before .before .sized .ensures) ∙ f .1, sym (c .before .before .before .both-long .ensures) ∙ g .0, c₁ .before .before .in-stages .ensures (f .2), sym (c .before .before .good-stage .ensures) ∙ g .1, ltb-true _ _ (g .2), sym (c₁ .before .room .ensures) ∙ f .3, sym (c .all-finite .ensures) ∙ e)
+unfolding goes-on
+returns-3 c =
+    let d = c .before .before .before .before in
+    go-on (passes (all-four (d .before .before .before .before .known .ensures) (d .before .before .before .sized .ensures) (d .before .before .in-stages .ensures) (d .before .room .ensures)) (d .if1 .left))
+    (go-on (passes (all-three (c .before .before .before .both-long .ensures) (c .before .before .good-stage .ensures) refl) (c .before .if2 .left)) (c .all-finite .ensures))
 
 pub goes-on-spec : {M : Type 1} → statement M
 goes-on-spec =
