@@ -7,9 +7,9 @@
  * derivative, and the two counters overlap neither each other nor the area nor the derivative. Whatever else it is
  * handed, it answers, and a call that is turned away says so by its number (docs/REFUSALS.md).
  *
- * The results are those of the floating-point environment that a thread starts with: to nearest, ties to even, subnormals
- * kept, exceptions masked. In another one, such as a program linked with -ffast-math starts in, bits differ, and an
- * exception that is not masked stops the thread. stabilized_environment, below, tells; no call does.
+ * The results are those of IEEE 754's default environment: to nearest, ties to even, subnormals kept, exceptions masked.
+ * In another one, such as a program linked with -ffast-math starts in, bits differ, and an exception that is not masked
+ * stops the thread (docs/DIFFERENCES.md). No call tests it; stabilized_environment does, below.
  */
 #ifndef STABILIZED_H
 #define STABILIZED_H

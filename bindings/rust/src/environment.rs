@@ -1,4 +1,5 @@
-//! The floating-point environment that the engine is proved for: to nearest, ties to even, subnormals kept, exceptions masked.
+//! The floating-point environment that the engine is proved for, IEEE 754's default one: to nearest, ties to even, subnormals
+//! kept, exceptions masked.
 //!
 //! It belongs to a thread. Rust leaves it alone, but C code of the same process can change it, and a C program that is linked
 //! with `-ffast-math` starts in another. Bits of results differ then (docs/DIFFERENCES.md).

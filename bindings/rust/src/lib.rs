@@ -4,8 +4,8 @@
 //! [`Stepper`] drives the engine with a right-hand side given as a closure. It takes single steps: whether a step is
 //! accepted, and how long the next one is, its user decides. [`calls`] holds the six calls themselves.
 //!
-//! The results are those of the floating-point environment that a thread starts with; [`check_environment`] tells, and a
-//! [`Stepper`] asks it when it starts.
+//! The results are those of IEEE 754's default floating-point environment; [`check_environment`] tells whether it is the
+//! thread's, and a [`Stepper`] asks when it starts.
 //!
 //! ```
 //! use stabilized::{Attempt, Family, Stepper};

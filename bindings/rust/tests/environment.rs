@@ -1,5 +1,5 @@
-//! A stepper in the floating-point environment that a thread starts with, and its error by name in every other one. The
-//! environment is changed by the control register of x86-64, for which alone the engine is built.
+//! A stepper in the default floating-point environment, and its error by name in others. The environment is changed by the
+//! control register of x86-64, for which alone the engine is built.
 #![allow(deprecated)]
 use stabilized::{Attempt, Error, Family, Stepper, WrongEnvironment, check_environment};
 use std::arch::x86_64::{_mm_getcsr, _mm_setcsr};
