@@ -1,6 +1,6 @@
 /* Ten steps of a cooling rod of eight cells. Build and run:
  *   rt staticlib capi
- *   cc -std=c11 bindings/c/example.c target/staticlib/libcapi.a -o example && ./example
+ *   cc -std=c11 bindings/c/example.c target/staticlib/libcapi.a -o target/example && target/example
  */
 #include "stabilized.h"
 #include <stdio.h>
@@ -32,6 +32,11 @@ int main(void) {
   stabilized_record record = {0};
   uint64_t counters[2] = {0};
 
+  int environment = stabilized_environment();
+  if (environment != 0) {
+    printf("not the floating-point environment of the proofs: %d\n", environment);
+    return 1;
+  }
   stabilized_outcome outcome =
       stabilized_start(record, area, STABILIZED_VECTORS * N, STABILIZED_RKL2, N, state, N, time);
   outcome = run(outcome, counters, area);

@@ -5,11 +5,16 @@
  * precondition beyond these two: pointers are valid for the counts beside them, those to counters for one number each;
  * and what a call writes overlaps nothing else that it is handed, so the area overlaps neither the state nor the
  * derivative, and the two counters overlap neither each other nor the area nor the derivative. Whatever else it is
- * handed, it answers, and a call that is turned away says so by its number.
+ * handed, it answers, and a call that is turned away says so by its number (docs/REFUSALS.md).
+ *
+ * The results are those of IEEE 754's default environment: to nearest, ties to even, subnormals kept, exceptions masked.
+ * In another one, such as a program linked with -ffast-math starts in, bits differ, and an exception that is not masked
+ * stops the thread (docs/DIFFERENCES.md). No call tests it; stabilized_environment does, below.
  */
 #ifndef STABILIZED_H
 #define STABILIZED_H
 
+#include <float.h>
 #include <stddef.h>
 #include <stdint.h>
 
@@ -68,6 +73,12 @@ enum {
   STABILIZED_COUNTERS_FULL = 8,
   STABILIZED_BAD_DERIVATIVE = 9,
   STABILIZED_BAD_CANDIDATE = 10
+};
+
+/* What is wrong with a floating-point environment. */
+enum {
+  STABILIZED_ROUNDING = 1,  /* sums are not rounded to nearest, ties to even */
+  STABILIZED_SUBNORMALS = 2 /* subnormals are flushed to zero or taken as zero */
 };
 
 typedef struct {
@@ -151,6 +162,22 @@ stabilized_outcome stabilized_accept_with_callback(stabilized_record record, dou
 
 /* While an evaluation is pending: ends it uncounted. Then only start is allowed. */
 stabilized_outcome stabilized_abandon(stabilized_record record, const double *area, size_t area_length);
+
+/* Whether this thread's floating-point environment is the one that the engine is proved for: 0, or the sum of what is wrong.
+ * To be called before start, in the thread that makes the calls. A few operations tell, made with the unit that the caller is
+ * compiled for. Each stands between volatile reads and a volatile store, so that no compiler works it out beforehand, not even
+ * with -ffast-math. Exceptions that are not masked cannot be found in this way: the check itself would trap. */
+static inline int stabilized_environment(void) {
+  volatile double even = 1.0, odd = 1.0 + DBL_EPSILON, half = DBL_EPSILON / 2.0, least_normal = DBL_MIN;
+  /* Two sums halfway between doubles. The even one is below the first and above the second: upward rounding misses it at
+   * the first, downward and toward zero at the second. */
+  volatile double below = even + half, above = odd + half;
+  /* To a subnormal and back: lost if it is flushed when worked out, or taken as zero when used. */
+  volatile double subnormal = least_normal / 2.0;
+  volatile double back = subnormal * 2.0;
+  int nearest = below == 1.0 && above == 1.0 + 2.0 * DBL_EPSILON;
+  return (nearest ? 0 : STABILIZED_ROUNDING) + (back == DBL_MIN ? 0 : STABILIZED_SUBNORMALS);
+}
 
 #ifdef __cplusplus
 }

@@ -1,6 +1,6 @@
 //! A rod of 64 cells, hot in the middle and cooled at both ends, over one second. The step is halved when the error norm
 //! is above 1 and grows by half when it is small.
-use stabilized::{Attempt, Family, Refusal, Stepper};
+use stabilized::{Attempt, Error, Family, Stepper};
 
 const CELLS: usize = 64;
 const CONDUCTIVITY: f64 = 0.01;
@@ -14,7 +14,7 @@ fn heat_flow(derivative: &mut [f64], state: &[f64], _time: f64) {
     }
 }
 
-fn main() -> Result<(), Refusal> {
+fn main() -> Result<(), Error> {
     let mut state = [0.0; CELLS];
     state[CELLS / 4..3 * CELLS / 4].fill(100.0);
     let mut stepper = Stepper::start(Family::Rkl2, &state, 0.0, heat_flow)?;

@@ -4,7 +4,10 @@
 //! [`Stepper`] drives the engine with a right-hand side given as a closure. It takes single steps: whether a step is
 //! accepted, and how long the next one is, its user decides. [`calls`] holds the six calls themselves.
 //!
-//! ```no_run
+//! The results are those of IEEE 754's default floating-point environment; [`check_environment`] tells whether it is the
+//! thread's, and a [`Stepper`] asks when it starts.
+//!
+//! ```
 //! use stabilized::{Attempt, Family, Stepper};
 //!
 //! // A rod of eight cells, cooled at both ends.
@@ -20,12 +23,16 @@
 //! if norm <= 1.0 {
 //!     stepper.accept()?;
 //! }
-//! # Ok::<(), stabilized::Refusal>(())
+//! # Ok::<(), stabilized::Error>(())
 //! ```
 pub mod calls;
+mod environment;
+mod error;
 mod refusal;
 mod stepper;
 
 pub use calls::Counters;
+pub use environment::{WrongEnvironment, check_environment};
+pub use error::Error;
 pub use refusal::Refusal;
 pub use stepper::{Attempt, Family, Stepper};

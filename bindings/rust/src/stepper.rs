@@ -1,5 +1,5 @@
-use crate::Refusal;
 use crate::calls::{self, Counters, LARGEST, Outcome, Record, VECTORS, code, vector};
+use crate::{Error, Refusal, check_environment};
 
 /// The methods that the engine carries.
 #[derive(Clone, Copy, Debug, Eq, PartialEq)]
@@ -50,8 +50,9 @@ pub struct Stepper<F> {
 }
 
 impl<F: FnMut(&mut [f64], &[f64], f64)> Stepper<F> {
-    /// Begins at a state and time; evaluates the first derivative.
-    pub fn start(family: Family, state: &[f64], time: f64, rhs: F) -> Result<Self, Refusal> {
+    /// Begins at a state and time; evaluates the first derivative. The thread's floating-point environment is checked first.
+    /// A stepper that goes on in another thread, or after C code that changes it, has [`check_environment`] for that.
+    pub fn start(family: Family, state: &[f64], time: f64, rhs: F) -> Result<Self, Error> {
         let n = state.len();
         let held = if n > LARGEST { 0 } else { n };
         let mut stepper = Self {
@@ -65,8 +66,9 @@ impl<F: FnMut(&mut [f64], &[f64], f64)> Stepper<F> {
         Ok(stepper)
     }
 
-    /// Begins anew at another state of the same dimension, whatever went before. The counters go on.
-    pub fn restart(&mut self, family: Family, state: &[f64], time: f64) -> Result<(), Refusal> {
+    /// Begins anew at another state of the same dimension, whatever went before, with the same check. The counters go on.
+    pub fn restart(&mut self, family: Family, state: &[f64], time: f64) -> Result<(), Error> {
+        check_environment()?;
         let n = state.len() as u64;
         let outcome = calls::start(self.record, &mut self.area, family as u64, n, state, time);
         self.run(outcome)?;
