@@ -100,7 +100,7 @@ module _ (h : Held) (d : List Float) (q : taken (reply h d .answer) ≡ true) wh
       go (within (done (ready-with v))) e = absurd (differ (sym (idle (h .kept) P.Ready (e .0 .phase-is) refl) ∙ passed .awaits))
       go (within (done (tried o))) e = absurd (differ (sym (idle (h .kept) P.Finished (e .0 .phase-is) refl) ∙ passed .awaits))
       go (within (stopped i v)) e = absurd (differ (sym (idle (h .kept) P.Empty e refl) ∙ passed .awaits))
-      go (within (ask t p k)) e = let g = e .3 d (long ∙ e .0 .n-is) (passed .room-good) in
+      go (within (ask why t p k)) e = let g = e .3 d (long ∙ e .0 .n-is) (passed .room-good) in
           record { shown-is = g .0; counts-are = g .1 ∙ ap (counts-on (within (k d))) cs; does = g .2 }
 
   pub reply-area : length (reply h d .held .area) ≡ length (h .area)
