@@ -28,7 +28,7 @@ use Rattle.session.specs.Claim.{called-for}
 use Rattle.session.proofs.Lengths.{whole-pack}
 use Rattle.session.proofs.Follows.{Follows}
 
--- a reply that is not turned away
+-- a reply that is not turned away with 1 to 8
 module _ (r : Record) (c : Counters) (v : Vectors) (hk : known (r .family) ≡ true) (hs : sized (r .n) ≡ true) (hv : Long (r .n) v) where
   abbrev pub held-at : Held
   held-at = record { kept = r; counters = c; area = pack v }

@@ -23,7 +23,7 @@ refused-with-eight g = record { answer = Refused 8; held = g }
 pub pends : (h : Held) (a : Arguments) (e : ℕ) (x : Called) → Allowed h a → Waits h e x → Pending (x .held)
 pends h a e x p w = record { family-known = rw (w .family-is) (p .family-known); n-sized = rw (w .n-is) (p .n-sized); area-whole = rw (w .family-is, w .n-is) (w .area-whole); awaits = w .pending }
 
--- no room: turned away
+-- no room: turned away with 8
 pub refused-without-room : (g : Held) → Pending g → room-in g ≡ false → (d : List Float) → length d ≡ g .kept .n → reply g d ≡ refused-with-eight g
 unfolding reply check as-long
 refused-without-room g p full d hd = rw (p .family-known, p .n-sized, p .area-whole, eq-eqb (length d) (g .kept .n) hd, p .awaits, full)
@@ -115,7 +115,7 @@ module _ (h : Held) (a : Arguments) (d : ℕ → List Float) (long : (i : ℕ) �
       full : Waits h (0 + m) (after m d 0 (attempt h a)) → room-in (found m) ≡ false
       full w = rw (le-ltb (found m .counters .evaluations) (2 ^ 64 - 1) (let q = w .evaluations-are in omega arith))
 
-  -- room for all evaluations, and none for the finished attempt: the reply to the candidate's evaluation is turned away
+  -- room for all evaluations, and none for the finished attempt: the reply to the candidate's evaluation is turned away with 8
   pub attempts-lack : Allowed h a → (m : ℕ) → suc m ≡ replies-to h a d → reaches-candidate (in-one-piece h a) d 0 ≡ true → h .counters .evaluations + m < 2 ^ 64 → 2 ^ 64 - 1 ≤ h .counters .«finished_attempts» → Counters-full-at h a d m
   unfolding Room-for-first has-room room
   attempts-lack p m e r fit t = counters-full-at p m lt enough (full (along (in-one-piece h a) 0 0 m h (attempt h a) (attempt-follows h a p) enough lt .1))

@@ -52,7 +52,7 @@ area-stays h Accept q = accept-area h q
 area-stays h (Accept-with-callback y t) q = callback-area h y t q
 area-stays h Abandon q = abandon-area h q
 
--- a call that is not taken leaves everything
+-- a call that is not taken, turned away with 1 to 8, leaves everything
 pub left : (h : Held) (c : Call) → taken (made h c .answer) ≡ false → made h c .held ≡ h
 unfolding taken
 left h c e = go (made h c .answer) refl e
@@ -84,7 +84,8 @@ follow (c ∷ cs) size h σ l e does =
         ap₂ (λ (s : Seen) (ss : List Seen). s ∷ ss) (seen-alike (session-after σ c) (made h c) g) (on (made h c .held) (session-after σ c) (area-stays h c q ∙ l) (g .counts-are) (g .does))
     go on false q = subst (λ (k : Held). seen-of k cs ≡ session size σ cs) (sym (left h c q)) (on h σ l e does)
 
--- From any record, area and counters: a start that the session takes, and then any calls at all, show what the session shows.
+-- From any record, area and counters: a start that the session takes, and then any calls at all, show what the session shows. A stop with 10 shows the vectors
+-- besides the last derivative too; that one stands, by `leaves`.
 pub every-sequence : (h : Held) (f n : ℕ) (y : List Float) (t : Float) (cs : List Call) → takes (length (h .area)) (fresh (h .counters)) (Start f n y t) ≡ true
     → seen-of h (Start f n y t ∷ cs) ≡ session (length (h .area)) (fresh (h .counters)) (Start f n y t ∷ cs)
 unfolding seen-of session made takes whole-area fresh
