@@ -4,6 +4,7 @@ use mathlib.Core.Path.{_≡_, refl}
 use mathlib.Core.Bool.{true}
 use Prim.Native.Nat.{ℕ, _≤_}
 use lib.Ieee.{Float}
+use lib.Ieee.Bits.{is-true}
 use Rattle.family.specs.Family.{Family, stage-count, permitted}
 use Rattle.family.proofs.Range.{permitted-range}
 use Rattle.family.proofs.Counts.{stage-count-permitted}
@@ -11,7 +12,7 @@ use Rattle.driver.specs.declared.Need.{Need}
 use Rattle.driver.specs.declared.Need.the-variants.{Met, Unmet}
 use Rattle.driver.specs.Calls.{stage-need}
 use Rattle.session.specs.Refusals.{largest-number}
-use Rattle.session.proofs.Truth.{is-true, holds}
+use Rattle.session.proofs.Truth.{holds}
 
 abbrev pub Needed : Family → Need → Type 0
 Needed f (Met s) = permitted f s ≡ true

@@ -1,6 +1,6 @@
 -- Reply: taken exactly where the session takes it, shows what the session shows, and leaves the area as long as it was.
 use mathlib.Core.Path.{_≡_, refl, sym, ap, _∙_}
-use mathlib.Core.Bool.{Bool, true, false, cond, not, _&&_}
+use mathlib.Core.Bool.{Bool, true, false, cond, not, _&&_, and-assoc}
 use mathlib.Core.List.{List}
 use Prim.Native.Nat.{ℕ, _≤_}
 use native.Mathlib.Omega.{arith}
@@ -16,7 +16,7 @@ use Rattle.driver.specs.Calls.{Held, replied, as-long, pending, awaiting, has-r
 use Rattle.session.specs.Attempt.{done, stopped, ask}
 use Rattle.session.specs.Claim.{room-in}
 use Rattle.session.specs.Session.{ready-with, tried, Doing, none, within, Session, waiting, counts-on, doing-now, replied-with, session-after, waits, waits-with-room}
-use Rattle.session.proofs.Truth.{differ, and-left, and-right, and-none, and-assoc}
+use Rattle.session.proofs.Truth.{differ, and-left, and-right, and-none}
 use Rattle.session.proofs.Lengths.{long-area, pack-length, replied-long}
 use Rattle.session.proofs.Leaves.{replied-high}
 use Rattle.session.proofs.Shows.{Shows, Does, Good}

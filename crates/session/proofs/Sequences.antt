@@ -1,10 +1,10 @@
 -- From a start on, the calls over any list of them show what the session shows: demand 2 over its whole domain.
 use mathlib.Core.Path.{_≡_, refl, sym, ap, ap₂, _∙_, subst}
-use mathlib.Core.Bool.{Bool, true, false, cond, not, _&&_}
+use mathlib.Core.Bool.{Bool, true, false, cond, _&&_}
 use mathlib.Core.List.{List, [], _∷_}
 use Prim.Native.Nat.{ℕ}
 use lib.Dec.{leb}
-use borrow.Author.Tests.{leb-true}
+use borrow.Author.Tests.{leb-true, not-false}
 use lib.ListN.{length}
 use lib.Ieee.{Float}
 use Rattle.driver.specs.declared.Answer.{Answer}
@@ -57,15 +57,11 @@ pub left : (h : Held) (c : Call) → taken (made h c .answer) ≡ false → made
 unfolding taken
 left h c e = go (made h c .answer) refl e
   where
-    un-not : (b : Bool) → not b ≡ false → b ≡ true
-    un-not true e = refl
-    un-not false e = absurd (differ (sym e))
-
     go : (y : Answer) → made h c .answer ≡ y → taken y ≡ false → made h c .held ≡ h
     go (Evaluate t b) s e = absurd (differ (sym e))
     go (Finished x) s e = absurd (differ (sym e))
     go Ready s e = absurd (differ (sym e))
-    go (Refused i) s e = leaves h c i (record { same-case = ap case-number s; same-values = ap case-values s }) .all-stands (leb-true i 8 (and-right (leb 1 i) (leb i 8) (un-not (leb 1 i && leb i 8) e)))
+    go (Refused i) s e = leaves h c i (record { same-case = ap case-number s; same-values = ap case-values s }) .all-stands (leb-true i 8 (and-right (leb 1 i) (leb i 8) (not-false (leb 1 i && leb i 8) e)))
     go Empty s e = absurd (differ (sym e))
 
 -- ---- a list of calls

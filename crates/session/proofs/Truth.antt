@@ -6,10 +6,6 @@ use lib.Dec.{T}
 pub differ : false ≡ true → ⊥
 differ e = subst (λ (b : Bool). cond b ⊥ (Unit {0})) e tt
 
-pub is-true : (b : Bool) → T b → b ≡ true
-is-true true h = refl
-is-true false h = absurd h
-
 pub holds : (b : Bool) → b ≡ true → T b
 holds b e = subst T (sym e) tt
 
@@ -27,10 +23,6 @@ and-right false b e = absurd (differ e)
 pub and-none : (a b : Bool) → b ≡ false → a && b ≡ false
 and-none true b e = e
 and-none false b e = refl
-
-pub and-assoc : (a b c : Bool) → a && b && c ≡ a && (b && c)
-and-assoc true b c = refl
-and-assoc false b c = refl
 
 pub or-left : (a b : Bool) → a ≡ true → a || b ≡ true
 or-left true b e = refl
