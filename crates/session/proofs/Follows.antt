@@ -19,8 +19,8 @@ abbrev pub some-empty : List Evaluated → Type 0
 some-empty [] = Unit {0}
 some-empty (x ∷ xs) = ⊥
 
--- the candidate's evaluation is that of the phase Candidate, and after it there is none
-pub record Closes (φ : Phase) (why : Purpose) (k : List Float → Asking Finished-attempt) : Type 0 where
+-- the candidate's evaluation is that of the phase Candidate and of no other, and after it there is none
+pub record Tied (φ : Phase) (why : Purpose) (k : List Float → Asking Finished-attempt) : Type 0 where
   pub purpose-is : closes why ≡ finishes φ
   pub none-after : closes why ≡ true → (d : List Float) (s : ℕ → List Float) (i : ℕ) → length (evaluated (k d) s i) ≡ 0
 
@@ -32,7 +32,7 @@ Follows h a replies b (ask why t p k) x =
     Waits h replies x
     × (called-for (x .answer) (x .held) ≡ record { time = t; point = p } ∷ [])
     × ((d : List Float) → length d ≡ h .kept .n → room-in (x .held) ≡ true → Follows h a (suc replies) (x .held) (k d) (reply (x .held) d))
-    × Closes (x .held .kept .phase) why k
+    × Tied (x .held .kept .phase) why k
 
 pub room-for : (h : Held) (replies : ℕ) (x : Called) → Waits h replies x → h .counters .evaluations + suc replies < 2 ^ 64
     → (finishes (x .held .kept .phase) ≡ true → h .counters .«finished_attempts» + 1 < 2 ^ 64) → room-in (x .held) ≡ true

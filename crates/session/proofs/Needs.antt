@@ -1,4 +1,5 @@
--- What the theorems use of the need of stages: where it is met the count is permitted, and so at least 2; where it is refused the number is beyond 10 (today none is, since no number of the table is).
+-- What the theorems use of the need of stages: where it is met the count is permitted, and so at least 2; where it is refused the number is beyond 10 (an empty
+-- case today: no family's need is refused yet, and the table ends at 10).
 -- From `stage-need` alone, so that a change of it moves this file and no other.
 use mathlib.Core.Path.{_≡_, refl}
 use mathlib.Core.Bool.{true}

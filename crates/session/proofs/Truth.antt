@@ -1,10 +1,10 @@
 -- Truth values: what tests joined by `&&`, `||` and `not` come to.
 use mathlib.Core.Path.{_≡_, refl, sym, ap₂, subst}
-use mathlib.Core.Bool.{Bool, true, false, cond, _&&_, _||_}
+use mathlib.Core.Bool.{Bool, true, false, _&&_, _||_, false≢true}
 use lib.Dec.{T}
 
 pub differ : false ≡ true → ⊥
-differ e = subst (λ (b : Bool). cond b ⊥ (Unit {0})) e tt
+differ = false≢true
 
 pub holds : (b : Bool) → b ≡ true → T b
 holds b e = subst T (sym e) tt
