@@ -6,9 +6,9 @@ use native.Mathlib.Omega.{arith}
 use borrow.Author.Tests.{ltb-true, ltb-false, eqb-true}
 use lib.Dec.{T, ltb, eqb}
 use lib.Ieee.{add, mul, div, toUnsigned}
+use lib.Ieee.Bits.{is-true}
 use Rattle.ieee.specs.Double.{_⊘_, double}
 use Rattle.ieee.proofs.Every.{every, among}
-use Rattle.session.proofs.Truth.{is-true}
 use Rattle.sheet.specs.Text.{minutes-a-day}
 use Rattle.accounts.specs.Accounts.{minutes-of}
 

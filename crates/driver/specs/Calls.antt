@@ -60,7 +60,7 @@ unfoldable pub at-stage : ℕ → ℕ → Recurrence → Record → Record
 at-stage s j c r = let g : Staging = record { stages = s; stage = j; recurrence = c } in
     record { family = r .family; n = r .n; phase = P.Stage; arguments = r .arguments; iteration = r .iteration; staging = g }
 
--- ---- a reply that is not turned away: by the phase, what comes next
+-- ---- a reply that is not turned away with 1 to 9: by the phase, what comes next
 
 -- an answer, the record and the vectors
 pub record Step : Type 0 where
@@ -89,7 +89,8 @@ ask-stage r v = let a = r .arguments in
 unfoldable pub stage-need : Family → Float → Need
 stage-need f radius = Met (stage-count f radius)
 
--- the stages begin; or the need is refused: the iteration's work is kept, the phase is empty and all else stands
+-- the stages begin; or the need is refused: the iteration's work is kept, the phase is empty and all else stands (an empty branch today: no family's need is
+-- refused yet)
 unfoldable pub by-need : Need → Record → Vectors → Float → Step
 by-need (Met s) r v radius = let c = recurrence (family-of (r .family)) s in
     ask-stage (at-stage s 2 c (with-radius radius r)) (first-stage (r .n) (r .arguments .step) (c .«theta_previous») v)
@@ -350,7 +351,7 @@ made h Accept = accept h
 made h (Accept-with-callback y t) = accept-with-callback h y t
 made h Abandon = abandon h
 
--- turned away with 1 to 8, or not
+-- whether a call is taken: not turned away with 1 to 8. (A reply that is turned away with 9 or 10 is taken: it is counted, and the phase is then empty.)
 unfoldable pub taken : Answer → Bool
 taken (Evaluate t b) = true
 taken (Finished e) = true

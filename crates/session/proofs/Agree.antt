@@ -12,6 +12,7 @@ use Rattle.coefficients.specs.declared.Coefficients.{Coefficients}
 use Rattle.workspace.specs.declared.Arguments.{Arguments}
 use Rattle.workspace.specs.Vectors.{Vector, Vectors, _with_≔_, number, each, vector-norm, first-derivative, last-derivative, derivative, previous-two, previous-one, next-stage, eigenvector, perturbed-state, perturbed-derivative, state, candidate}
 use Rattle.workspace.specs.Kernel.{with-direction, perturbed-by, perturbed, turned, first-stage, orthogonal-entry, chebyshev-entry, entry, with-row, exchanged, with-candidate, with-last, error}
+use Rattle.session.specs.Attempt.{all-but-last}
 
 abbrev pub Agree : (Vector → Bool) → Vectors → Vectors → Type 0
 Agree on v w = (b : Vector) → on b ≡ true → v b ≡ w b
@@ -102,6 +103,22 @@ module _ (n : ℕ) where
   pub candidate-agrees : (v w : Vectors) → Agree nine v w → Agree ten (with-candidate v) (with-candidate w)
   unfolding with-candidate
   candidate-agrees v w p = agree-with nine candidate v w (v next-stage) (w next-stage) p (p next-stage refl)
+
+  -- all but the last derivative
+  pub ten-same : (v w : Vectors) → Agree ten v w → all-but-last v ≡ all-but-last w
+  ten-same v w p =
+      rw (
+        p first-derivative refl,
+        p derivative refl,
+        p previous-two refl,
+        p previous-one refl,
+        p next-stage refl,
+        p eigenvector refl,
+        p perturbed-state refl,
+        p perturbed-derivative refl,
+        p state refl,
+        p candidate refl,
+      ) refl
 
   -- all eleven
   pub last-same : (f : Family) (a : Arguments) (d : List Float) (v w : Vectors) → Agree ten v w → with-last f n a v d ≡ with-last f n a w d

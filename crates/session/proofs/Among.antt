@@ -1,4 +1,6 @@
--- Demand 2 with calls that are turned away before the attempt and between its replies: where the calls that are taken are an attempt and m replies, they show and leave what the attempt and m replies alone do (`among`), so `run` holds of them; and where the attempt finishes they show its evaluations in order and then finished. From `skipped`, `run` and `took`.
+-- Demand 2 with calls that are turned away with 1 to 8 before the attempt and between its replies: where the calls that are taken are an attempt and m replies,
+-- they show and leave what the attempt and m replies alone do (`among`), so `run` holds of them; and where the attempt finishes they show its evaluations in
+-- order and then finished. From `skipped`, `run` and `took`.
 use mathlib.Core.Path.{_≡_, refl, sym, ap, ap₂, _∙_, subst}
 use mathlib.Core.Bool.{Bool, true, false, cond}
 use mathlib.Core.List.{List, [], _∷_, _++_, map}

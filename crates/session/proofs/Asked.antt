@@ -23,12 +23,12 @@ use Rattle.driver.specs.declared.Record.{Record}
 use Rattle.driver.specs.declared.Counters.{Counters}
 use Rattle.driver.specs.declared.Answer.the-variants.{Evaluate}
 use Rattle.driver.specs.Calls.{Held, Called, step-to, in-phase, replied, sized, as-long, awaiting, finishes, has-room, check, going-on, counted, spoiled, settled, reply}
-use Rattle.session.specs.Attempt.{Asking, done, stopped, ask, Finished-attempt, evaluated, is-done}
+use Rattle.session.specs.Attempt.{Purpose, closes, Asking, done, stopped, ask, Finished-attempt, evaluated}
 use Rattle.session.specs.Claim.{called-for}
 use Rattle.session.proofs.Lengths.{whole-pack}
 use Rattle.session.proofs.Follows.{Follows}
 
--- a reply that is not turned away
+-- a reply that is not turned away with 1 to 8
 module _ (r : Record) (c : Counters) (v : Vectors) (hk : known (r .family) ≡ true) (hs : sized (r .n) ≡ true) (hv : Long (r .n) v) where
   abbrev pub held-at : Held
   held-at = record { kept = r; counters = c; area = pack v }
@@ -101,13 +101,13 @@ module _ (h : Held) (a : Arguments) where
     pending-at v c = record { kept = at φ i g; counters = c; area = pack v }
 
     -- an evaluation at the vector b
-    pub asked : (v : Vectors) (c : Counters) (e : ℕ) (t : Float) (b : Vector) (x : Held) (K : Asking (List Float) → Asking Finished-attempt)
+    pub asked : (v : Vectors) (c : Counters) (e : ℕ) (why : Purpose) (t : Float) (b : Vector) (x : Held) (K : Asking (List Float) → Asking Finished-attempt)
         → Intact h v → Counted h e c → awaiting (at φ i g) ≡ true → K (stopped 9 v) ≡ stopped 9 v
-        → ((d : List Float) → all-finite d ≡ true → is-done (K (done d)) ≡ finishes φ)
+        → closes why ≡ finishes φ → (closes why ≡ true → (d : List Float) (s : ℕ → List Float) (j : ℕ) → length (evaluated (K (done d)) s j) ≡ 0)
         → ((d : List Float) → length d ≡ h .kept .n → all-finite d ≡ true → Follows h a (suc e) (pending-at v c) (K (done d)) (settled c (replied φ (at φ i g) v d)))
-        → Follows h a e x (ask t (v b) (λ d. K (cond (all-finite d) (done d) (stopped 9 v)))) (going-on c (step-to (Evaluate t (number b)) (at φ i g) v))
+        → Follows h a e x (ask why t (v b) (λ d. K (cond (all-finite d) (done d) (stopped 9 v)))) (going-on c (step-to (Evaluate t (number b)) (at φ i g) v))
     unfolding Follows called-for going-on spoiled counted in-phase evaluated
-    asked v c e t b x K iv hc ha hK close on = (
+    asked v c e why t b x K iv hc ha hK mark none on = (
       record {
         family-is = refl;
         n-is = refl;
@@ -121,11 +121,15 @@ module _ (h : Held) (a : Arguments) where
       λ d hd hr. subst (λ (x : Called). Follows h a (suc e) (pending-at v c) (K (cond (all-finite d) (done d) (stopped 9 v))) x)
           (sym (reply-is (at φ i g) c v hk hs (iv .long) ha hr d hd)) (go d hd (all-finite d) refl),
       record {
-        finite-done = λ d fin. ap (λ (t : Bool). is-done (K (cond t (done d) (stopped 9 v)))) fin ∙ close d fin;
-        others-stop = λ d fin s i. ap (λ (t : Bool). length (evaluated (K (cond t (done d) (stopped 9 v))) s i)) fin ∙ ap (λ (m : Asking Finished-attempt). length (evaluated m s i)) hK;
+        purpose-is = mark;
+        none-after = λ c d s j. over c d s j (all-finite d);
       },
     )
       where
+        over : closes why ≡ true → (d : List Float) (s : ℕ → List Float) (j : ℕ) (t : Bool) → length (evaluated (K (cond t (done d) (stopped 9 v))) s j) ≡ 0
+        over c d s j true = none c d s j
+        over c d s j false = ap (λ (m : Asking Finished-attempt). length (evaluated m s j)) hK
+
         go : (d : List Float) → length d ≡ h .kept .n → (t : Bool) → all-finite d ≡ t
             → Follows h a (suc e) (pending-at v c) (K (cond t (done d) (stopped 9 v))) (cond t (settled c (replied φ (at φ i g) v d)) (spoiled (pending-at v c)))
         go d hd true fin = on d hd fin

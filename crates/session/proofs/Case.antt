@@ -12,11 +12,11 @@ use Rattle.ieee.specs.Whole.{abs, max, floor, ceil}
 use Rattle.family.specs.Family.{known, family-of, smallest-count, largest-count, odd-only, permitted, before-limits, odd-step, limited, stage-count}
 use Rattle.coefficients.specs.Rows.{omega-zero, omega-one-of, b-first, first-mu-tilde, first-polynomials, recurrence, with-theta, legendre-one, coefficients, next-polynomials, next}
 use Rattle.workspace.specs.declared.Arguments.{Arguments}
-use Rattle.workspace.specs.Vectors.{vector-count, each, sum-of-squares, root-of-squares, vector-norm, all-finite}
+use Rattle.workspace.specs.Vectors.{join, vector-count, each, sum-of-squares, root-of-squares, vector-norm, all-finite}
 use Rattle.workspace.specs.Kernel.{with-direction, perturbation-of, perturbed-by, perturbed, turned, radius-of, ended, scaled, first-stage, orthogonal-entry, entry, with-row, exchanged, with-candidate, error, with-last, divisor, scaled-error, scaled-error-norm, error-norm}
 use Rattle.driver.specs.declared.Counters.{Counters}
 use Rattle.driver.specs.Calls.{Held, stage-need, Call, Start, Attempt, Reply, Accept, Abandon, sized, as-long, good-times, good-tolerance, good-tolerances, room}
-use Rattle.session.specs.Attempt.{_>>=_, evaluate, stages-for, iterate, spectral-radius, stage-loop, run-recurrence, finished-attempt, close, attempt-step}
+use Rattle.session.specs.Attempt.{closes, _>>=_, evaluate, stages-for, iterate, spectral-radius, stage-loop, run-recurrence, finished-attempt, close, attempt-step}
 use Rattle.session.specs.Session.{Shown, evaluates, finished-with, ready-at, stops, nothing, Seen, seen-of, vectors-of, initialize, tries, accept-step, at-rest, after-attempt, waiting, finished-by, counts-on, doing-now, replied-with, session-after, doing-shown, session-seen, rests, has-tried, waits, waits-with-room, takes, session, fresh}
 use Rattle.session.proofs.Sequences.{every-sequence}
 
@@ -26,7 +26,7 @@ unfolding toBits add sub mul div neg le lt eq ofInt round toUnsigned sum units o
 doubles = tt
 
 unfoldable attempts : Unit {0}
-unfolding smallest-count largest-count odd-only before-limits odd-step limited stage-count omega-zero omega-one-of b-first first-mu-tilde first-polynomials recurrence with-theta legendre-one coefficients next-polynomials next each sum-of-squares root-of-squares vector-norm all-finite with-direction perturbation-of perturbed-by perturbed turned radius-of ended scaled first-stage orthogonal-entry entry with-row exchanged with-candidate error with-last divisor scaled-error scaled-error-norm error-norm stage-need _>>=_ evaluate stages-for iterate spectral-radius stage-loop run-recurrence finished-attempt close attempt-step
+unfolding smallest-count largest-count odd-only before-limits odd-step limited stage-count omega-zero omega-one-of b-first first-mu-tilde first-polynomials recurrence with-theta legendre-one coefficients next-polynomials next each sum-of-squares root-of-squares vector-norm all-finite with-direction perturbation-of perturbed-by perturbed turned radius-of ended scaled first-stage orthogonal-entry entry with-row exchanged with-candidate error with-last divisor scaled-error scaled-error-norm error-norm stage-need _>>=_ evaluate stages-for iterate spectral-radius stage-loop run-recurrence finished-attempt close attempt-step closes
 attempts = tt
 
 unfoldable sessions : Unit {0}
@@ -45,12 +45,12 @@ calls = Start 2 1 (one ∷ []) nought ∷ Attempt arguments ∷ Reply zeros ∷ 
 pub bits : Float → ℕ
 bits x = toBits binary64 x
 
--- 1 evaluate: time and point; 2 finished: norm, s, k, r, candidate; 3 ready: state and derivative; 4 stopped; 5 nothing
+-- 1 evaluate: time and point; 2 finished: norm, s, k, r, candidate; 3 ready: state and derivative; 4 stopped: number and vectors; 5 nothing
 pub kind : Shown → List ℕ
 kind (evaluates t p) = 1 ∷ bits t ∷ map bits p
 kind (finished-with e s k r p) = 2 ∷ bits e ∷ s ∷ k ∷ bits r ∷ map bits p
 kind (ready-at y d) = 3 ∷ map bits y ++ map bits d
-kind (stops i) = 4 ∷ i ∷ []
+kind (stops i vs) = 4 ∷ i ∷ map bits (join vs)
 kind nothing = 5 ∷ []
 
 -- and both counts before

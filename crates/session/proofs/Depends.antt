@@ -1,10 +1,12 @@
--- What an attempt asks for and how it ends depends only on the kept state, its derivative and the eigenvector.
+-- What an attempt asks for and how it ends depends only on the kept state, its derivative and the eigenvector: how it ends is the finished attempt with all
+-- its vectors, or the number, and with number 10 all vectors but the last derivative.
 use mathlib.Core.Path.{_≡_, refl, sym, ap, subst}
 use mathlib.Core.Bool.{Bool, true, false, cond}
 use mathlib.Core.List.{List}
 use Prim.Native.Nat.{ℕ, zero, suc, _+_, _-_, _≤_}
 use native.Mathlib.Omega.{arith}
 use lib.Dec.{ltb}
+use borrow.Author.Tests.{ne-eqb}
 use lib.Ieee.{Float}
 use Rattle.ieee.specs.Double.{_⊕_, _⊗_, nought}
 use Rattle.family.specs.Family.{Family}
@@ -16,12 +18,12 @@ use Rattle.workspace.specs.Kernel.{with-direction, perturbation-of, perturbed, 
 use Rattle.driver.specs.declared.Need.{Need}
 use Rattle.driver.specs.declared.Need.the-variants.{Met, Unmet}
 use Rattle.driver.specs.Calls.{stage-need}
-use Rattle.session.specs.Attempt.{Asking, done, stopped, _>>=_, evaluate, stages-for, Radius, Finished-attempt, iterate, spectral-radius, stage-loop, run-recurrence, finished-attempt, close, attempt-step, evaluated, end}
+use Rattle.session.specs.Attempt.{for-candidate, Asking, done, stopped, _>>=_, evaluate, stages-for, Radius, Finished-attempt, iterate, spectral-radius, stage-loop, run-recurrence, finished-attempt, close, attempt-step, evaluated, end, fixed-at}
 use Rattle.session.specs.Alike.{Alike, Same, Same-end, Same-start}
 use Rattle.session.proofs.Truth.{differ}
 use Rattle.session.proofs.Needs.{Needed, need-holds, two-from}
 use Rattle.session.proofs.Alikes.{bind-alike, evaluate-alike, same-evaluated, same-ending}
-use Rattle.session.proofs.Agree.{Agree, _or_, three, five, seven, nine, ten, direction-agrees, perturbed-agrees, turned-agrees, first-agrees, row-agrees, exchanged-agrees, candidate-agrees, last-same, five-three, nine-seven}
+use Rattle.session.proofs.Agree.{Agree, _or_, three, five, seven, nine, ten, direction-agrees, perturbed-agrees, turned-agrees, first-agrees, row-agrees, exchanged-agrees, candidate-agrees, ten-same, last-same, five-three, nine-seven}
 
 start-agrees : (v w : Vectors) → Same-start v w → Agree three v w
 start-agrees v w p state e = p .state-same
@@ -47,7 +49,7 @@ module _ (f : Family) (n : ℕ) (a : Arguments) where
       → ((ρ′ : Float) (v w : Vectors) → Agree five v w → Alike Radii (iterate f n a π m (k + 1) ρ′ v) (iterate f n a π m (k + 1) ρ′ w))
       → Alike Radii (iterate f n a π (suc m) k ρ v) (iterate f n a π (suc m) k ρ w)
   unfolding iterate radius-of
-  pass-alike π m k ρ v w p on = evaluate-alike Radii _ _ (perturbed n π v) (perturbed n π w) (a .time) (perturbed n π v perturbed-state) (perturbed n π w perturbed-state) (q perturbed-state refl)
+  pass-alike π m k ρ v w p on = evaluate-alike Radii _ _ _ (perturbed n π v) (perturbed n π w) (a .time) (perturbed n π v perturbed-state) (perturbed n π w perturbed-state) (q perturbed-state refl)
       (λ d. turn (turned n (perturbed n π v) d) (turned n (perturbed n π w) d) (turned-agrees n d (perturbed n π v) (perturbed n π w) q))
     where
       q : Agree (three or perturbed-state) (perturbed n π v) (perturbed n π w)
@@ -79,7 +81,7 @@ module _ (f : Family) (n : ℕ) (a : Arguments) where
       → ((c : Recurrence) (v w : Vectors) → Agree nine v w → Alike (Agree nine) (stage-loop f n a s m (j + 1) c v) (stage-loop f n a s m (j + 1) c w))
       → Alike (Agree nine) (stage-loop f n a s (suc m) j c v) (stage-loop f n a s (suc m) j c w)
   unfolding stage-loop
-  row-alike s m j c v w p on = evaluate-alike (Agree nine) _ _ v w (a .time ⊕ a .step ⊗ c .«theta_previous») (v previous-one) (w previous-one) (p previous-one refl)
+  row-alike s m j c v w p on = evaluate-alike (Agree nine) _ _ _ v w (a .time ⊕ a .step ⊗ c .«theta_previous») (v previous-one) (w previous-one) (p previous-one refl)
       (λ d. go (with-row f n (a .step) (coefficients f s j c) v d) (with-row f n (a .step) (coefficients f s j c) w d) (row-agrees n f (a .step) (coefficients f s j c) d v w p) (ltb j s))
     where
       go : (v w : Vectors) → Agree nine v w → (t : Bool) → Alike (Agree nine)
@@ -101,7 +103,7 @@ module _ (f : Family) (n : ℕ) (a : Arguments) where
       (row-alike s (s - 2) 2 c v′ w′ (first-agrees n h (c .«theta_previous») v w p) (rows-alike s (s - 2) 3))
 
   close-alike : (s k : ℕ) (r : Float) (v w : Vectors) → Agree nine v w → Alike Same (close f n a s k r v) (close f n a s k r w)
-  unfolding close
+  unfolding close fixed-at
   close-alike s k r v w p = subst (λ (t : Bool). Alike Same (closed t (with-candidate v)) (close f n a s k r w))
       (ap all-finite (sym (q candidate refl))) (go (all-finite (with-candidate w candidate)))
     where
@@ -109,20 +111,20 @@ module _ (f : Family) (n : ℕ) (a : Arguments) where
       q = candidate-agrees n v w p
 
       closed : Bool → Vectors → Asking Finished-attempt
-      closed t u = cond t (evaluate u (a .time ⊕ a .step) (u candidate) >>= λ d. done (finished-attempt f n a s k r (with-last f n a u d))) (stopped 10 u)
+      closed t u = cond t (evaluate for-candidate u (a .time ⊕ a .step) (u candidate) >>= λ d. done (finished-attempt f n a s k r (with-last f n a u d))) (stopped 10 u)
 
       go : (t : Bool) → Alike Same (closed t (with-candidate v)) (closed t (with-candidate w))
-      go true = evaluate-alike Same _ _ (with-candidate v) (with-candidate w) (a .time ⊕ a .step) (with-candidate v candidate) (with-candidate w candidate) (q candidate refl)
+      go true = evaluate-alike Same _ _ _ (with-candidate v) (with-candidate w) (a .time ⊕ a .step) (with-candidate v candidate) (with-candidate w candidate) (q candidate refl)
           (λ d. ap (finished-attempt f n a s k r) (last-same n f a d (with-candidate v) (with-candidate w) q))
-      go false = refl
+      go false = record { number-same = refl; vectors-same = ten-same n (with-candidate v) (with-candidate w) q }
 
   from-need : Need → ℕ → Float → Vectors → Asking Finished-attempt
   from-need need k r w = stages-for need w >>= λ s. run-recurrence f n a s w >>= close f n a s k r
 
   need-alike : (need : Need) (k : ℕ) (r : Float) (v w : Vectors) → Needed f need → Agree five v w → Alike Same (from-need need k r v) (from-need need k r w)
-  unfolding from-need stages-for _>>=_
+  unfolding from-need stages-for _>>=_ fixed-at
   need-alike (Met s) k r v w ok p = bind-alike (Agree nine) Same (close f n a s k r) (close f n a s k r) (run-recurrence f n a s v) (run-recurrence f n a s w) (recurrence-alike s v w (two-from f s ok) p) (λ v w. close-alike s k r v w)
-  need-alike (Unmet i) k r v w ok p = refl
+  need-alike (Unmet i) k r v w ok p = record { number-same = refl; vectors-same = rw (ne-eqb i 10 (let low = ok .0 in omega arith)) refl }
 
   from-radius : Radius → Asking Finished-attempt
   from-radius x = let r = scaled (a .step) (x .radius) in from-need (stage-need f r) (x .passes) r (x .vectors)
@@ -133,7 +135,8 @@ module _ (f : Family) (n : ℕ) (a : Arguments) where
       let go : Alike Same (from-need (stage-need f r) (y .passes) r (x .vectors)) (from-radius y) = need-alike (stage-need f r) (y .passes) r (x .vectors) (y .vectors) (need-holds f r) (h .2) in
       rw (h .0, h .1) go
 
-  -- alike, and where they are done with one and the same finished attempt, all eleven vectors of it
+  -- Alike: where they are done, with one and the same finished attempt, all eleven vectors of it; where they stop with 10, with the same vectors but for the
+  -- last derivative.
   pub attempt-alike : (v w : Vectors) → Same-start v w → Alike Same (attempt-step f n a v) (attempt-step f n a w)
   unfolding attempt-step from-radius from-need
   attempt-alike v w p = bind-alike Radii Same from-radius from-radius (spectral-radius f n a v) (spectral-radius f n a w) (radius-alike v w (start-agrees v w p)) from-alike

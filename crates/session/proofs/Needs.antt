@@ -1,9 +1,11 @@
--- What the theorems use of the need of stages: where it is met the count is permitted, and so at least 2; where it is refused the number is beyond 10.
+-- What the theorems use of the need of stages: where it is met the count is permitted, and so at least 2; where it is refused the number is beyond 10 (an empty
+-- case today: no family's need is refused yet, and the table ends at 10).
 -- From `stage-need` alone, so that a change of it moves this file and no other.
 use mathlib.Core.Path.{_≡_, refl}
 use mathlib.Core.Bool.{true}
 use Prim.Native.Nat.{ℕ, _≤_}
 use lib.Ieee.{Float}
+use lib.Ieee.Bits.{is-true}
 use Rattle.family.specs.Family.{Family, stage-count, permitted}
 use Rattle.family.proofs.Range.{permitted-range}
 use Rattle.family.proofs.Counts.{stage-count-permitted}
@@ -11,7 +13,7 @@ use Rattle.driver.specs.declared.Need.{Need}
 use Rattle.driver.specs.declared.Need.the-variants.{Met, Unmet}
 use Rattle.driver.specs.Calls.{stage-need}
 use Rattle.session.specs.Refusals.{largest-number}
-use Rattle.session.proofs.Truth.{is-true, holds}
+use Rattle.session.proofs.Truth.{holds}
 
 abbrev pub Needed : Family → Need → Type 0
 Needed f (Met s) = permitted f s ≡ true

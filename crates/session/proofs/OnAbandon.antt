@@ -49,7 +49,7 @@ abandon-good h σ cs does q = subst (λ (x : Called). Good (session-after σ Aba
     go (within (done (ready-with v))) e = absurd (differ (sym (idle (h .kept) P.Ready (e .0 .phase-is) refl) ∙ awaits))
     go (within (done (tried o))) e = absurd (differ (sym (idle (h .kept) P.Finished (e .0 .phase-is) refl) ∙ awaits))
     go (within (stopped i v)) e = absurd (differ (sym (idle (h .kept) P.Empty e refl) ∙ awaits))
-    go (within (ask t p k)) e = record { shown-is = refl; counts-are = cs; does = refl }
+    go (within (ask why t p k)) e = record { shown-is = refl; counts-are = cs; does = refl }
 
 pub abandon-area : (h : Held) → taken (abandon h .answer) ≡ true → length (abandon h .held .area) ≡ length (h .area)
 abandon-area h q = ap (λ (x : Called). length (x .held .area)) (abandoned h q .1)

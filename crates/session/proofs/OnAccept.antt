@@ -1,6 +1,6 @@
 -- Accept, without a callback and with one: taken exactly where the session takes it, shows what the session shows, and leaves the area as long as it was.
 use mathlib.Core.Path.{_≡_, refl, sym, ap, ap₂, _∙_, subst}
-use mathlib.Core.Bool.{Bool, true, false, _&&_}
+use mathlib.Core.Bool.{Bool, true, false, _&&_, and-assoc}
 use mathlib.Core.List.{List}
 use Prim.Native.Nat.{ℕ}
 use borrow.Author.Tests.{eqb-true}
@@ -14,7 +14,7 @@ use Rattle.driver.specs.declared.Phase.the-variants as P
 use Rattle.driver.specs.Calls.{Held, Called, in-phase, at-time, first-at, take-callback, replied, as-long, pending, in-range, awaiting, may-accept, finishes, check, going-on, accepted, accept, called-back, accept-with-callback, Accept, Accept-with-callback, taken}
 use Rattle.session.specs.Attempt.{_>>=_, evaluate}
 use Rattle.session.specs.Session.{evaluates, ready-at, answer-shown, accept-step, callback-step, Doing, within, Session, at-rest, after-attempt, doing-now, session-after, doing-shown, has-tried}
-use Rattle.session.proofs.Truth.{and-left, and-right, and-none, and-assoc}
+use Rattle.session.proofs.Truth.{and-left, and-right, and-none}
 use Rattle.session.proofs.Lengths.{whole-pack, long-area, pack-length}
 use Rattle.session.proofs.Shows.{Shows, Does, Good, once}
 use Rattle.session.proofs.Standing.{check-taken, check-tells, last-tells, all-pass, none-pass, K, N, W, standing, Place, inside, outside, place, Finished-at, finished-at, rested}

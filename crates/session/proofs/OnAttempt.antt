@@ -72,7 +72,7 @@ module _ (h : Held) (σ : Session) (cs : h .counters ≡ σ .counts) (a : Argume
       go p (within (done (tried o))) e =
           tries-good (o .vectors) P.Finished p (e .0) (record { state-same = ap (λ (w : Vectors). w state) (e .1); first-same = ap (λ (w : Vectors). w first-derivative) (e .1); eigenvector-same = ap (λ (w : Vectors). w eigenvector) (e .1) })
       go p (within (stopped i v)) e = absurd (differ (sym (ap may-attempt e) ∙ p .phase-allows))
-      go p (within (ask t q k)) e = absurd (differ (sym (waits-alone (h .kept) (e .1) .0) ∙ p .phase-allows))
+      go p (within (ask why t q k)) e = absurd (differ (sym (waits-alone (h .kept) (e .1) .0) ∙ p .phase-allows))
 
 pub attempt-area : (h : Held) (a : Arguments) → taken (attempt h a .answer) ≡ true → length (attempt h a .held .area) ≡ length (h .area)
 unfolding going-on attempted ask-pass at-pass

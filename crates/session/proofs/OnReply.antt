@@ -1,6 +1,6 @@
 -- Reply: taken exactly where the session takes it, shows what the session shows, and leaves the area as long as it was.
 use mathlib.Core.Path.{_≡_, refl, sym, ap, _∙_}
-use mathlib.Core.Bool.{Bool, true, false, cond, not, _&&_}
+use mathlib.Core.Bool.{Bool, true, false, cond, not, _&&_, and-assoc}
 use mathlib.Core.List.{List}
 use Prim.Native.Nat.{ℕ, _≤_}
 use native.Mathlib.Omega.{arith}
@@ -16,7 +16,7 @@ use Rattle.driver.specs.Calls.{Held, replied, as-long, pending, awaiting, has-r
 use Rattle.session.specs.Attempt.{done, stopped, ask}
 use Rattle.session.specs.Claim.{room-in}
 use Rattle.session.specs.Session.{ready-with, tried, Doing, none, within, Session, waiting, counts-on, doing-now, replied-with, session-after, waits, waits-with-room}
-use Rattle.session.proofs.Truth.{differ, and-left, and-right, and-none, and-assoc}
+use Rattle.session.proofs.Truth.{differ, and-left, and-right, and-none}
 use Rattle.session.proofs.Lengths.{long-area, pack-length, replied-long}
 use Rattle.session.proofs.Leaves.{replied-high}
 use Rattle.session.proofs.Shows.{Shows, Does, Good}
@@ -100,7 +100,7 @@ module _ (h : Held) (d : List Float) (q : taken (reply h d .answer) ≡ true) wh
       go (within (done (ready-with v))) e = absurd (differ (sym (idle (h .kept) P.Ready (e .0 .phase-is) refl) ∙ passed .awaits))
       go (within (done (tried o))) e = absurd (differ (sym (idle (h .kept) P.Finished (e .0 .phase-is) refl) ∙ passed .awaits))
       go (within (stopped i v)) e = absurd (differ (sym (idle (h .kept) P.Empty e refl) ∙ passed .awaits))
-      go (within (ask t p k)) e = let g = e .3 d (long ∙ e .0 .n-is) (passed .room-good) in
+      go (within (ask why t p k)) e = let g = e .3 d (long ∙ e .0 .n-is) (passed .room-good) in
           record { shown-is = g .0; counts-are = g .1 ∙ ap (counts-on (within (k d))) cs; does = g .2 }
 
   pub reply-area : length (reply h d .held .area) ≡ length (h .area)

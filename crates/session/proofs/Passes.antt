@@ -10,7 +10,6 @@ use lib.ListN.{length}
 use lib.Ieee.{Float, lt}
 use Rattle.ieee.specs.Double.{nought}
 use Rattle.family.specs.Family.{Family, known, family-of}
-use Rattle.coefficients.specs.declared.Recurrence.{Recurrence}
 use Rattle.coefficients.specs.Rows.{recurrence}
 use Rattle.workspace.specs.declared.Arguments.{Arguments}
 use Rattle.workspace.specs.Vectors.{Vectors, unpack, perturbed-state}
@@ -21,9 +20,9 @@ use Rattle.driver.specs.declared.Need.{Need}
 use Rattle.driver.specs.declared.Need.the-variants.{Met, Unmet}
 use Rattle.driver.specs.declared.Counters.{Counters}
 use Rattle.driver.specs.Calls.{Held, Called, in-phase, at-pass, with-radius, at-stage, ask-pass, ask-stage, stage-need, by-need, begin-stages, take-pass, replied, sized, pending, in-range, awaiting, finishes, check, attempted, going-on, attempt, counted, settled}
-use Rattle.session.specs.Attempt.{Asking, done, _>>=_, evaluate, stages-for, Radius, Finished-attempt, iterate, spectral-radius, stage-loop, run-recurrence, close, attempt-step, is-done}
+use Rattle.session.specs.Attempt.{closes, Asking, done, _>>=_, evaluate, stages-for, Radius, Finished-attempt, iterate, spectral-radius, stage-loop, run-recurrence, close, attempt-step}
 use Rattle.session.specs.Claim.{Allowed, in-one-piece}
-use Rattle.session.proofs.Truth.{both}
+use Rattle.session.proofs.Truth.{differ, both}
 use Rattle.session.proofs.Signs.{Plus, not-below, perturbation-plus, radius-plus, scaled-plus}
 use Rattle.session.proofs.Needs.{Needed, need-holds, two-from}
 use Rattle.session.proofs.Lengths.{long-area}
@@ -50,19 +49,6 @@ module _ (h : Held) (a : Arguments) (hk : known (h .kept .family) ≡ true) (hs 
       ≡ stage-loop F (h .kept .n) a s (suc (s - 2)) 2 c (first-stage (h .kept .n) (a .step) (c .«theta_previous») w) >>= close F (h .kept .n) a s k r
   unfolding run-recurrence
   recurrence-is s k r w 2≤s = let e : s - 1 ≡ suc (s - 2) = omega arith in rw e
-
-  stage-undone : (s m j : ℕ) (c : Recurrence) (v : Vectors) (K : Vectors → Asking Finished-attempt) → is-done (stage-loop F (h .kept .n) a s (suc m) j c v >>= K) ≡ false
-  unfolding stage-loop evaluate _>>=_ is-done
-  stage-undone s m j c v K = refl
-
-  need-undone : (need : Need) (k : ℕ) (r : Float) (w : Vectors) → Needed F need → is-done (from-need need k r w) ≡ false
-  unfolding stages-for _>>=_ is-done
-  need-undone (Met s) k r w ok = let c = recurrence F s in
-      rw (recurrence-is s k r w (two-from F s ok)) (stage-undone s (s - 2) 2 c (first-stage (h .kept .n) (a .step) (c .«theta_previous») w) (close F (h .kept .n) a s k r))
-  need-undone (Unmet i) k r w ok = refl
-
-  begun-undone : (found : Radius) → is-done (from-radius found) ≡ false
-  begun-undone found = let r = scaled (a .step) (found .radius) in need-undone (stage-need F r) (found .passes) r (found .vectors) (need-holds F r)
 
   -- after k passes at the scaled radius r
   need-follows : (need : Need) (k : ℕ) (π ρ r : Float) (g : Staging) (v w : Vectors) (c : Counters) (e : ℕ) → stage-need F r ≡ need → lt r nought ≡ false → Needed F need → k ≤ 12 → k ≡ suc e → Intact h w → Counted h e c
@@ -123,21 +109,15 @@ module _ (h : Held) (a : Arguments) (hk : known (h .kept .family) ≡ true) (hs 
         (begin-stages (at h a P.Pass (iteration-at (k + 1) π ρ nought) g) (turn v d) (scaled (a .step) (radius-at v d)))
         (ask-pass (at h a P.Pass (iteration-at (k + 1 + 1) π (radius-at v d) nought) g) (turn v d))))
 
-    pass-undone : (m k : ℕ) (v : Vectors) (d : List Float) (stop : Bool) → is-done (on-after m k v d stop >>= from-radius) ≡ false
-    unfolding iterate evaluate _>>=_ is-done
-    pass-undone m k v d true = begun-undone (record { radius = radius-at v d; passes = k + 1; vectors = turn v d })
-    pass-undone zero k v d false = begun-undone (record { radius = radius-at v d; passes = k + 1; vectors = turn v d })
-    pass-undone (suc m) k v d false = refl
-
     pass-follows : (m k : ℕ) (ρ : Float) (v : Vectors) (c : Counters) (x : Held) → suc k + m ≡ 12 → Intact h v → Counted h k c
         → ((d : List Float) → length d ≡ h .kept .n → (stop : Bool) → Onward m k ρ v c d stop)
         → Follows h a k x (iterate F (h .kept .n) a π (suc m) k ρ v >>= from-radius) (going-on c (ask-pass (at h a P.Pass (iteration-at (k + 1) π ρ nought) g) v))
-    unfolding iterate evaluate _>>=_ ask-pass pending in-range awaiting finishes replied take-pass at-pass
+    unfolding iterate evaluate _>>=_ ask-pass pending in-range awaiting finishes replied take-pass at-pass closes
     pass-follows m k ρ v c x k≡ hv hc on =
-        asked h a hk hs P.Pass (iteration-at (k + 1) π ρ nought) g (perturbed (h .kept .n) π v) c k (a .time) perturbed-state x
+        asked h a hk hs P.Pass (iteration-at (k + 1) π ρ nought) g (perturbed (h .kept .n) π v) c k _ (a .time) perturbed-state x
         (λ m′. (m′ >>= λ d. on-after m k v d (ends-at k ρ v d)) >>= from-radius)
         (intact-perturbed h π v hv) hc (both (le-leb 1 (k + 1) (omega arith)) (le-leb (k + 1) 12 (omega arith))) refl
-        (λ d fin. pass-undone m k v d (ends-at k ρ v d))
+        refl (λ c. absurd (differ c))
         (λ d hd fin. on d hd (ends-at k ρ v d))
 
     intact-turn : (v : Vectors) (d : List Float) → Intact h v → length d ≡ h .kept .n → Intact h (turn v d)

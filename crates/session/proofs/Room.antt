@@ -8,15 +8,13 @@ use native.Mathlib.Omega.{arith}
 use borrow.Author.Tests.{le-ltb, eq-eqb}
 use lib.ListN.{length, take}
 use lib.Ieee.{Float}
-use Rattle.workspace.specs.Vectors.{all-finite}
 use Rattle.workspace.specs.declared.Arguments.{Arguments}
-use Rattle.driver.specs.declared.Phase.{Phase}
 use Rattle.driver.specs.declared.Answer.the-variants.{Refused}
 use Rattle.driver.specs.Calls.{Held, Called, as-long, finishes, room, has-room, check, attempt, reply}
-use Rattle.session.specs.Attempt.{Asking, done, stopped, ask, Finished-attempt, Evaluated, evaluated, is-done, reaches-candidate}
+use Rattle.session.specs.Attempt.{closes, Asking, done, stopped, ask, Finished-attempt, Evaluated, evaluated, reaches-candidate}
 use Rattle.session.specs.Claim.{answers, after, Allowed, Pending, Waits, in-one-piece, room-in, replies-to, Room-for-first, Counters-full-at}
 use Rattle.session.proofs.Truth.{differ, and-none}
-use Rattle.session.proofs.Follows.{Closes, Follows, room-for}
+use Rattle.session.proofs.Follows.{Follows, room-for}
 use Rattle.session.proofs.Passes.{attempt-follows}
 
 abbrev pub refused-with-eight : Held → Called
@@ -25,7 +23,7 @@ refused-with-eight g = record { answer = Refused 8; held = g }
 pub pends : (h : Held) (a : Arguments) (e : ℕ) (x : Called) → Allowed h a → Waits h e x → Pending (x .held)
 pends h a e x p w = record { family-known = rw (w .family-is) (p .family-known); n-sized = rw (w .n-is) (p .n-sized); area-whole = rw (w .family-is, w .n-is) (w .area-whole); awaits = w .pending }
 
--- no room: turned away
+-- no room: turned away with 8
 pub refused-without-room : (g : Held) → Pending g → room-in g ≡ false → (d : List Float) → length d ≡ g .kept .n → reply g d ≡ refused-with-eight g
 unfolding reply check as-long
 refused-without-room g p full d hd = rw (p .family-known, p .n-sized, p .area-whole, eq-eqb (length d) (g .kept .n) hd, p .awaits, full)
@@ -35,25 +33,11 @@ unfolding after
 stays d g away zero m x e = ap (λ (k : Held). reply k (d m)) e ∙ away m
 stays d g away (suc i) m x e = stays d g away i (suc m) (reply (x .held) (d m)) (ap (λ (k : Held). reply k (d m) .held) e ∙ ap (λ (y : Called). y .held) (away m))
 
--- after the candidate's evaluation there is none
-done-none : (m : Asking Finished-attempt) (s : ℕ → List Float) (i : ℕ) → is-done m ≡ true → length (evaluated m s i) ≡ 0
-unfolding is-done evaluated
-done-none (done o) s i e = refl
-done-none (stopped n v) s i e = absurd (differ e)
-done-none (ask t p k) s i e = absurd (differ e)
-
-none-after : (φ : Phase) (k : List Float → Asking Finished-attempt) → Closes φ k → finishes φ ≡ true → (d : List Float) (s : ℕ → List Float) (i : ℕ) → length (evaluated (k d) s i) ≡ 0
-none-after φ k c e d s i = go (all-finite d) refl
-  where
-    go : (t : Bool) → all-finite d ≡ t → length (evaluated (k d) s i) ≡ 0
-    go true fin = done-none (k d) s i (c .finite-done d fin ∙ e)
-    go false fin = c .others-stop d fin s i
-
 pub none-reaches : (m : Asking Finished-attempt) (s : ℕ → List Float) (i : ℕ) → length (evaluated m s i) ≡ 0 → reaches-candidate m s i ≡ false
 unfolding evaluated reaches-candidate
 none-reaches (done o) s i e = refl
 none-reaches (stopped n v) s i e = refl
-none-reaches (ask t p k) s i e = absurd (omega arith)
+none-reaches (ask why t p k) s i e = absurd (omega arith)
 
 module _ (h : Held) (a : Arguments) (d : ℕ → List Float) (long : (i : ℕ) → length (d i) ≡ h .kept .n) where
   -- j replies that find room
@@ -62,8 +46,8 @@ module _ (h : Held) (a : Arguments) (d : ℕ → List Float) (long : (i : ℕ) �
   unfolding Follows evaluated answers after
   along (done o) replies i j b x f enough lt = absurd (not-suc-le-zero lt)
   along (stopped n v) replies i j b x f enough lt = absurd (not-suc-le-zero lt)
-  along (ask t p k) replies i zero b x f enough lt = (ap (λ (l : List Evaluated). l ++ []) (f .1), subst (λ (r : ℕ). Waits h r x) (omega arith) (f .0))
-  along (ask t p k) replies i (suc j) b x f enough lt =
+  along (ask why t p k) replies i zero b x f enough lt = (ap (λ (l : List Evaluated). l ++ []) (f .1), subst (λ (r : ℕ). Waits h r x) (omega arith) (f .0))
+  along (ask why t p k) replies i (suc j) b x f enough lt =
       let on = along (k (d i)) (suc replies) (suc i) j (x .held) (reply (x .held) (d i)) (f .2 (d i) (long i) (enough zero (omega arith))) (λ l l<. enough (suc l) (omega arith)) (omega arith) in
       (ap₂ _++_ (f .1) (on .0), subst (λ (r : ℕ). Waits h r (after j d (suc i) (reply (x .held) (d i)))) (omega arith) (on .1))
 
@@ -85,11 +69,11 @@ module _ (h : Held) (a : Arguments) (d : ℕ → List Float) (long : (i : ℕ) �
   unfolding Follows evaluated after
   finds (done o) replies i j b x f lt fit l l< = absurd (not-suc-le-zero lt)
   finds (stopped n v) replies i j b x f lt fit l l< = absurd (not-suc-le-zero lt)
-  finds (ask t p k) replies i zero b x f lt fit l l< = absurd (not-suc-le-zero l<)
-  finds (ask t p k) replies i (suc j) b x f lt fit l l< = go (finds (k (d i)) (suc replies) (suc i) j (x .held) (reply (x .held) (d i)) (f .2 (d i) (long i) here) (omega arith) (omega arith)) l l<
+  finds (ask why t p k) replies i zero b x f lt fit l l< = absurd (not-suc-le-zero l<)
+  finds (ask why t p k) replies i (suc j) b x f lt fit l l< = go (finds (k (d i)) (suc replies) (suc i) j (x .held) (reply (x .held) (d i)) (f .2 (d i) (long i) here) (omega arith) (omega arith)) l l<
     where
       here : room-in (x .held) ≡ true
-      here = room-for h replies x (f .0) (omega arith) (λ e. absurd (let z = none-after (x .held .kept .phase) k (f .3) e (d i) d (suc i) in omega arith))
+      here = room-for h replies x (f .0) (omega arith) (λ e. absurd (let z = f .3 .none-after (f .3 .purpose-is ∙ e) (d i) d (suc i) in omega arith))
 
       go : ((l : ℕ) → l < j → room-in (after l d (suc i) (reply (x .held) (d i)) .held) ≡ true) → (l : ℕ) → l < suc j → room-in (after l d i x .held) ≡ true
       go on zero l< = here
@@ -98,19 +82,19 @@ module _ (h : Held) (a : Arguments) (d : ℕ → List Float) (long : (i : ℕ) �
   -- the last evaluation is the candidate's, where that is reached
   last-is : (m : Asking Finished-attempt) (replies i j : ℕ) (b : Held) (x : Called) → Follows h a replies b m x → suc j ≡ length (evaluated m d i) → reaches-candidate m d i ≡ true
       → ((l : ℕ) → l < j → room-in (after l d i x .held) ≡ true) → finishes (after j d i x .held .kept .phase) ≡ true
-  unfolding Follows evaluated after reaches-candidate all-finite
+  unfolding Follows evaluated after reaches-candidate
   last-is (done o) replies i j b x f e r enough = absurd (omega arith)
   last-is (stopped n v) replies i j b x f e r enough = absurd (omega arith)
-  last-is (ask t p k) replies i zero b x f e r enough = sym (f .3 .finite-done [] refl) ∙ go (is-done (k [])) (reaches-candidate (k (d i)) d (suc i)) r (none-reaches (k (d i)) d (suc i) (omega arith))
+  last-is (ask why t p k) replies i zero b x f e r enough = sym (f .3 .purpose-is) ∙ go (closes why) (reaches-candidate (k (d i)) d (suc i)) r (none-reaches (k (d i)) d (suc i) (omega arith))
     where
       go : (p q : Bool) → p || q ≡ true → q ≡ false → p ≡ true
       go true q r e = refl
       go false q r e = absurd (differ (sym e ∙ r))
-  last-is (ask t p k) replies i (suc j) b x f e r enough =
-      last-is (k (d i)) (suc replies) (suc i) j (x .held) (reply (x .held) (d i)) (f .2 (d i) (long i) (enough zero (omega arith))) (omega arith) (go (is-done (k [])) (reaches-candidate (k (d i)) d (suc i)) r refl) (λ l l<. enough (suc l) (omega arith))
+  last-is (ask why t p k) replies i (suc j) b x f e r enough =
+      last-is (k (d i)) (suc replies) (suc i) j (x .held) (reply (x .held) (d i)) (f .2 (d i) (long i) (enough zero (omega arith))) (omega arith) (go (closes why) (reaches-candidate (k (d i)) d (suc i)) r refl) (λ l l<. enough (suc l) (omega arith))
     where
-      go : (p q : Bool) → p || q ≡ true → is-done (k []) ≡ p → q ≡ true
-      go true q r y = absurd (let z = none-after (x .held .kept .phase) k (f .3) (sym (f .3 .finite-done [] refl) ∙ y) (d i) d (suc i) in omega arith)
+      go : (p q : Bool) → p || q ≡ true → closes why ≡ p → q ≡ true
+      go true q r y = absurd (let z = f .3 .none-after y (d i) d (suc i) in omega arith)
       go false q r y = r
 
   abbrev found : ℕ → Held
@@ -131,7 +115,7 @@ module _ (h : Held) (a : Arguments) (d : ℕ → List Float) (long : (i : ℕ) �
       full : Waits h (0 + m) (after m d 0 (attempt h a)) → room-in (found m) ≡ false
       full w = rw (le-ltb (found m .counters .evaluations) (2 ^ 64 - 1) (let q = w .evaluations-are in omega arith))
 
-  -- room for all evaluations, and none for the finished attempt: the reply to the candidate's evaluation is turned away
+  -- room for all evaluations, and none for the finished attempt: the reply to the candidate's evaluation is turned away with 8
   pub attempts-lack : Allowed h a → (m : ℕ) → suc m ≡ replies-to h a d → reaches-candidate (in-one-piece h a) d 0 ≡ true → h .counters .evaluations + m < 2 ^ 64 → 2 ^ 64 - 1 ≤ h .counters .«finished_attempts» → Counters-full-at h a d m
   unfolding Room-for-first has-room room
   attempts-lack p m e r fit t = counters-full-at p m lt enough (full (along (in-one-piece h a) 0 0 m h (attempt h a) (attempt-follows h a p) enough lt .1))

@@ -1,10 +1,10 @@
 -- From a start on, the calls over any list of them show what the session shows: demand 2 over its whole domain.
 use mathlib.Core.Path.{_≡_, refl, sym, ap, ap₂, _∙_, subst}
-use mathlib.Core.Bool.{Bool, true, false, cond, not, _&&_}
+use mathlib.Core.Bool.{Bool, true, false, cond, _&&_}
 use mathlib.Core.List.{List, [], _∷_}
 use Prim.Native.Nat.{ℕ}
 use lib.Dec.{leb}
-use borrow.Author.Tests.{leb-true}
+use borrow.Author.Tests.{leb-true, not-false}
 use lib.ListN.{length}
 use lib.Ieee.{Float}
 use Rattle.driver.specs.declared.Answer.{Answer}
@@ -52,20 +52,16 @@ area-stays h Accept q = accept-area h q
 area-stays h (Accept-with-callback y t) q = callback-area h y t q
 area-stays h Abandon q = abandon-area h q
 
--- a call that is not taken leaves everything
+-- a call that is not taken, turned away with 1 to 8, leaves everything
 pub left : (h : Held) (c : Call) → taken (made h c .answer) ≡ false → made h c .held ≡ h
 unfolding taken
 left h c e = go (made h c .answer) refl e
   where
-    un-not : (b : Bool) → not b ≡ false → b ≡ true
-    un-not true e = refl
-    un-not false e = absurd (differ (sym e))
-
     go : (y : Answer) → made h c .answer ≡ y → taken y ≡ false → made h c .held ≡ h
     go (Evaluate t b) s e = absurd (differ (sym e))
     go (Finished x) s e = absurd (differ (sym e))
     go Ready s e = absurd (differ (sym e))
-    go (Refused i) s e = leaves h c i (record { same-case = ap case-number s; same-values = ap case-values s }) .all-stands (leb-true i 8 (and-right (leb 1 i) (leb i 8) (un-not (leb 1 i && leb i 8) e)))
+    go (Refused i) s e = leaves h c i (record { same-case = ap case-number s; same-values = ap case-values s }) .all-stands (leb-true i 8 (and-right (leb 1 i) (leb i 8) (not-false (leb 1 i && leb i 8) e)))
     go Empty s e = absurd (differ (sym e))
 
 -- ---- a list of calls
@@ -84,7 +80,8 @@ follow (c ∷ cs) size h σ l e does =
         ap₂ (λ (s : Seen) (ss : List Seen). s ∷ ss) (seen-alike (session-after σ c) (made h c) g) (on (made h c .held) (session-after σ c) (area-stays h c q ∙ l) (g .counts-are) (g .does))
     go on false q = subst (λ (k : Held). seen-of k cs ≡ session size σ cs) (sym (left h c q)) (on h σ l e does)
 
--- From any record, area and counters: a start that the session takes, and then any calls at all, show what the session shows.
+-- From any record, area and counters: a start that the session takes, and then any calls at all, show what the session shows. A stop with 10 shows the vectors
+-- besides the last derivative too; that one stands, by `leaves`.
 pub every-sequence : (h : Held) (f n : ℕ) (y : List Float) (t : Float) (cs : List Call) → takes (length (h .area)) (fresh (h .counters)) (Start f n y t) ≡ true
     → seen-of h (Start f n y t ∷ cs) ≡ session (length (h .area)) (fresh (h .counters)) (Start f n y t ∷ cs)
 unfolding seen-of session made takes whole-area fresh

@@ -17,10 +17,10 @@ use Rattle.driver.specs.declared.Counters.{Counters}
 use Rattle.driver.specs.declared.Answer.{Answer}
 use Rattle.driver.specs.declared.Answer.the-variants.{Evaluate, Finished, Ready, Refused, Empty}
 use Rattle.driver.specs.Calls.{Held, Called, step-to, in-phase, replied, sized, whole-area, awaiting, finishes, going-on, counted, spoiled, settled, reply}
-use Rattle.session.specs.Attempt.{Asking, done, stopped, ask, _>>=_, evaluate, Finished-attempt, Evaluated, is-done}
+use Rattle.session.specs.Attempt.{for-another, closes, Asking, done, stopped, ask, _>>=_, evaluate, Finished-attempt, Evaluated, fixed-at}
 use Rattle.session.specs.Claim.{called-for, Allowed, room-in}
 use Rattle.session.specs.Alike.{Alike, Same, Same-start}
-use Rattle.session.specs.Session.{Shown, evaluates, ready-at, stops, nothing, Seen, answer-shown, call-seen, Resting, ready-with, tried, Doing, none, within, Session, finished-by, counts-on, doing-shown, session-seen, has-tried}
+use Rattle.session.specs.Session.{Shown, evaluates, ready-at, stops, nothing, Seen, answer-shown, call-seen, Resting, ready-with, tried, Doing, none, within, Session, finished-by, counts-on, doing-shown, session-seen}
 use Rattle.session.proofs.Lengths.{whole-pack}
 use Rattle.session.proofs.Follows.{some-empty, Follows}
 use Rattle.session.proofs.Asked.{reply-is}
@@ -39,8 +39,8 @@ unfoldable pub Shows : ℕ → ℕ → Asking Resting → Held → Type 0
 Shows f n (done (ready-with v)) h = At f n P.Ready h × Same-start (unpack (h .kept .n) (h .area)) v
 Shows f n (done (tried o)) h = At f n P.Finished h × (unpack (h .kept .n) (h .area) ≡ o .vectors)
 Shows f n (stopped i v) h = h .kept .phase ≡ P.Empty
-Shows f n (ask t p k) h =
-    At f n (h .kept .phase) h × (awaiting (h .kept) ≡ true) × (finishes (h .kept .phase) ≡ has-tried (within (k [])))
+Shows f n (ask why t p k) h =
+    At f n (h .kept .phase) h × (awaiting (h .kept) ≡ true) × (finishes (h .kept .phase) ≡ closes why)
     × ((d : List Float) → length d ≡ n → room-in h ≡ true
     → (answer-shown (reply h d .answer) (reply h d .held) ≡ doing-shown (within (k d)))
     × (reply h d .held .counters ≡ counts-on (within (k d)) (h .counters))
@@ -70,8 +70,8 @@ module _ (r : Record) (c : Counters) (v : Vectors) (hk : known (r .family) ≡ t
       → ((d : List Float) → length d ≡ r .n → Long (r .n) (to d))
       → ((d : List Float) → replied (r .phase) r v d ≡ step-to Ready (in-phase P.Ready r) (to d))
       → ((d : List Float) → Same-start (to d) (from d))
-      → Shows (r .family) (r .n) (evaluate u t y >>= λ d. done (ready-with (from d))) (record { kept = r; counters = c; area = pack v })
-  unfolding Shows evaluate _>>=_ answer-shown doing-shown finished-by counts-on settled going-on counted spoiled in-phase has-tried all-finite
+      → Shows (r .family) (r .n) (evaluate for-another u t y >>= λ d. done (ready-with (from d))) (record { kept = r; counters = c; area = pack v })
+  unfolding Shows evaluate _>>=_ answer-shown doing-shown finished-by counts-on settled going-on counted spoiled in-phase closes fixed-at
   once u t y from to ha hc long will same = (
     record { family-is = refl; n-is = refl; phase-is = refl; family-known = hk; n-sized = hs; area-whole = whole-pack (r .family) (r .n) v hv },
     ha,
@@ -117,18 +117,6 @@ tell t p Empty h e = absurd (subst some-empty e tt)
 abbrev on : Asking Finished-attempt → Asking Resting
 on m = m >>= λ o. done (tried o)
 
-alike-done : (m m′ : Asking Finished-attempt) → Alike Same m m′ → has-tried (within (on m′)) ≡ is-done m
-unfolding _>>=_ has-tried is-done
-alike-done (done o) (done o′) s = refl
-alike-done (done o) (stopped j w) s = absurd s
-alike-done (done o) (ask u q l) s = absurd s
-alike-done (stopped i v) (done o′) s = absurd s
-alike-done (stopped i v) (stopped j w) s = refl
-alike-done (stopped i v) (ask u q l) s = absurd s
-alike-done (ask t p k) (done o′) s = absurd s
-alike-done (ask t p k) (stopped j w) s = absurd s
-alike-done (ask t p k) (ask u q l) s = refl
-
 module _ (h : Held) (a : Arguments) (ok : Allowed h a) where
   -- the counters c stood one reply before
   record Before (e : ℕ) (c : Counters) : Type 0 where
@@ -142,7 +130,7 @@ module _ (h : Held) (a : Arguments) (ok : Allowed h a) where
 
   -- calls that follow one attempt show a session's that is alike
   pub goes : (m m′ : Asking Finished-attempt) (e : ℕ) (b : Held) (x : Called) → Follows h a e b m x → Alike Same m m′ → Goes e (on m′) x
-  unfolding Follows Shows _>>=_ answer-shown doing-shown finished-by counts-on in-phase all-finite
+  unfolding Follows Shows _>>=_ answer-shown doing-shown finished-by counts-on in-phase
   goes (done o) (done o′) e b x f s = subst (λ (z : Finished-attempt). Goes e (done (tried z)) x) s (record {
     shown-is = rw (f .answer-is, f .stages-are, f .passes-are, f .radius-is, f .n-is, f .area-is, unpack-pack (h .kept .n) (o .vectors) (f .vectors-long));
     counts-are = λ c w. same-counters (x .held .counters) _ (let q = f .evaluations-are in let q′ = w .evaluations-were in omega arith) (let q = f .attempts-are in let q′ = w .attempts-were in omega arith);
@@ -159,18 +147,18 @@ module _ (h : Held) (a : Arguments) (ok : Allowed h a) where
     );
   })
   goes (done o) (stopped j w) e b x f s = absurd s
-  goes (done o) (ask u q l) e b x f s = absurd s
+  goes (done o) (ask why′ u q l) e b x f s = absurd s
   goes (stopped i v) (done o′) e b x f s = absurd s
   goes (stopped i v) (stopped j w) e b x f s = record {
-    shown-is = rw (f .answer-is) (ap stops s);
+    shown-is = rw (f .answer-is, f .n-is, f .area-is, unpack-pack (h .kept .n) v (f .vectors-long)) (ap₂ stops (s .number-same) (s .vectors-same));
     counts-are = λ c w. same-counters (x .held .counters) _ (let q = f .evaluations-are in let q′ = w .evaluations-were in omega arith) (let q = f .attempts-are in let q′ = w .attempts-were in omega arith);
     shows = ap (λ (r : Record). r .phase) (f .record-is);
   }
-  goes (stopped i v) (ask u q l) e b x f s = absurd s
-  goes (ask t p k) (done o′) e b x f s = absurd s
-  goes (ask t p k) (stopped j w) e b x f s = absurd s
-  goes (ask t p k) (ask u q l) e b x f s = record {
-    shown-is = tell t p (x .answer) (x .held) (f .1) ∙ ap₂ evaluates (s .0) (s .1);
+  goes (stopped i v) (ask why′ u q l) e b x f s = absurd s
+  goes (ask why t p k) (done o′) e b x f s = absurd s
+  goes (ask why t p k) (stopped j w) e b x f s = absurd s
+  goes (ask why t p k) (ask why′ u q l) e b x f s = record {
+    shown-is = tell t p (x .answer) (x .held) (f .1) ∙ ap₂ evaluates (s .1) (s .2);
     counts-are = λ c w. same-counters (x .held .counters) _ (let q = f .0 .evaluations-are in let q′ = w .evaluations-were in omega arith) (let q = f .0 .attempts-are in let q′ = w .attempts-were in omega arith);
     shows = (
       record {
@@ -182,9 +170,9 @@ module _ (h : Held) (a : Arguments) (ok : Allowed h a) where
         area-whole = pends h a e x ok (f .0) .area-whole;
       },
       f .0 .pending,
-      sym (f .3 .finite-done [] refl) ∙ sym (alike-done (k []) (l []) (s .2 [])),
+      sym (f .3 .purpose-is) ∙ ap closes (s .0),
       λ d hd hr.
-          let g = goes (k d) (l d) (suc e) (x .held) (reply (x .held) d) (f .2 d hd hr) (s .2 d) in
+          let g = goes (k d) (l d) (suc e) (x .held) (reply (x .held) d) (f .2 d hd hr) (s .3 d) in
           (g .shown-is, g .counts-are (x .held .counters) (record { evaluations-were = (let q = f .0 .evaluations-are in omega arith); attempts-were = f .0 .attempts-are }), g .shows),
     );
   }

@@ -1,4 +1,5 @@
--- Calls that are turned away may be left out of any list of calls: the others show the same and leave the same. So what is proved of an attempt and its replies holds with calls that are turned away among them.
+-- Calls that are turned away with 1 to 8 may be left out of any list of calls: the others show the same and leave the same. So what is proved of an attempt and
+-- its replies holds with such calls among them.
 use mathlib.Core.Path.{_≡_, refl, sym, ap, _∙_}
 use mathlib.Core.Bool.{Bool, true, false, cond}
 use mathlib.Core.List.{List, [], _∷_}

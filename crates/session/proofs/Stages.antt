@@ -22,8 +22,8 @@ use Rattle.driver.specs.declared.Need.the-variants.{Met}
 use Rattle.driver.specs.declared.Counters.{Counters}
 use Rattle.driver.specs.declared.Answer.the-variants.{Evaluate, Refused}
 use Rattle.driver.specs.Calls.{Held, step-to, in-phase, at-stage, ask-stage, stage-need, ask-candidate, take-stage, take-candidate, replied, sized, pending, in-range, awaiting, finishes, going-on, counted, settled}
-use Rattle.session.specs.Attempt.{Asking, done, stopped, _>>=_, evaluate, stage-loop, finished-attempt, close, is-done}
-use Rattle.session.proofs.Truth.{both}
+use Rattle.session.specs.Attempt.{for-candidate, closes, Asking, done, stopped, _>>=_, evaluate, stage-loop, finished-attempt, close, evaluated}
+use Rattle.session.proofs.Truth.{differ, both}
 use Rattle.session.proofs.Follows.{Follows}
 use Rattle.session.proofs.Asked.{Counted, one-more, counted-on, Intact, intact-row, intact-exchanged, intact-candidate, at, pending-at, asked}
 
@@ -33,17 +33,9 @@ staging-at s j c = record { stages = s; stage = j; recurrence = c }
 abbrev pub iteration-at : ℕ → Float → Float → Float → Iteration
 iteration-at k π ρ r = record { pass = k; perturbation = π; «previous_radius» = ρ; «scaled_radius» = r }
 
-both-undone : {A : Type 0} (t : Bool) (m n : Asking A) → is-done m ≡ false → is-done n ≡ false → is-done (cond t m n) ≡ false
-both-undone true m n p q = p
-both-undone false m n p q = q
-
 module _ (h : Held) (a : Arguments) (hk : known (h .kept .family) ≡ true) (hs : sized (h .kept .n) ≡ true) where
   abbrev F : Family
   F = family-of (h .kept .family)
-
-  close-undone : (s k : ℕ) (r : Float) (v : Vectors) → is-done (close F (h .kept .n) a s k r v) ≡ false
-  unfolding close evaluate _>>=_ is-done
-  close-undone s k r v = both-undone (all-finite (with-candidate v candidate)) _ _ refl refl
 
   -- s stages after k passes, at the scaled radius r
   module _ (s k : ℕ) (r π ρ : Float) (hs′ : permitted F s ≡ true) (hr : stage-need F r ≡ Met s) (hn : lt r nought ≡ false) (1≤k : 1 ≤ k) (k≤ : k ≤ 12) where
@@ -54,7 +46,7 @@ module _ (h : Held) (a : Arguments) (hk : known (h .kept .family) ≡ true) (hs 
 
     candidate-follows : (j : ℕ) (rc : Recurrence) (v w : Vectors) (c : Counters) (e : ℕ) → Intact h w → Counted h e c → e + 2 ≡ k + s
         → Follows h a (suc e) (pending-at h a hk hs P.Stage I (staging-at s j rc) v c) (close F (h .kept .n) a s k r w) (settled c (ask-candidate (at h a P.Stage I (staging-at s j rc)) (with-candidate w)))
-    unfolding Follows close finished-attempt evaluate _>>=_ ask-candidate settled going-on counted in-phase pending in-range awaiting finishes replied take-candidate with-last is-done
+    unfolding Follows close finished-attempt evaluate _>>=_ ask-candidate settled going-on counted in-phase pending in-range awaiting finishes replied take-candidate with-last closes evaluated
     candidate-follows j rc v w c e hw hc e≡ = go (all-finite (with-candidate w candidate)) refl
       where
         last-stands : (d : List Float) (b : Vector) → eqb 1 (number b) ≡ false → eqb 2 (number b) ≡ false → with-last F (h .kept .n) a (with-candidate w) d b ≡ with-candidate w b
@@ -73,15 +65,15 @@ module _ (h : Held) (a : Arguments) (hk : known (h .kept .family) ≡ true) (hs 
 
         go : (t : Bool) → all-finite (with-candidate w candidate) ≡ t → Follows h a (suc e) (pending-at h a hk hs P.Stage I (staging-at s j rc) v c)
             (cond t
-            (evaluate (with-candidate w) (a .time ⊕ a .step) (with-candidate w candidate) >>= λ d. done (finished-attempt F (h .kept .n) a s k r (with-last F (h .kept .n) a (with-candidate w) d)))
+            (evaluate for-candidate (with-candidate w) (a .time ⊕ a .step) (with-candidate w candidate) >>= λ d. done (finished-attempt F (h .kept .n) a s k r (with-last F (h .kept .n) a (with-candidate w) d)))
             (stopped 10 (with-candidate w)))
             (settled c (cond t
             (step-to (Evaluate (a .time ⊕ a .step) (number candidate)) (at h a P.Candidate I (staging-at s j rc)) (with-candidate w))
             (step-to (Refused 10) (at h a P.Empty I (staging-at s j rc)) (with-candidate w))))
         go true finite =
-            asked h a hk hs P.Candidate I (staging-at s j rc) (with-candidate w) (one-more h c) (suc e) (a .time ⊕ a .step) candidate (pending-at h a hk hs P.Stage I (staging-at s j rc) v c)
+            asked h a hk hs P.Candidate I (staging-at s j rc) (with-candidate w) (one-more h c) (suc e) _ (a .time ⊕ a .step) candidate (pending-at h a hk hs P.Stage I (staging-at s j rc) v c)
             (λ m. m >>= λ d. done (finished-attempt F (h .kept .n) a s k r (with-last F (h .kept .n) a (with-candidate w) d)))
-            (intact-candidate h w hw) (counted-on h hc) hs′ refl (λ d fin. refl)
+            (intact-candidate h w hw) (counted-on h hc) hs′ refl refl (λ c d s j. refl)
             (λ d hd fin. record {
               answer-is = refl;
               area-is = refl;
@@ -130,18 +122,18 @@ module _ (h : Held) (a : Arguments) (hk : known (h .kept .family) ≡ true) (hs 
 
     pub stages-follow : (m j : ℕ) (rc : Recurrence) (v : Vectors) (c : Counters) (e : ℕ) (x : Held) → j + m ≡ s → 2 ≤ j → e + 2 ≡ k + j → Intact h v → Counted h e c
         → Follows h a e x (stage-loop F (h .kept .n) a s (suc m) j rc v >>= close F (h .kept .n) a s k r) (going-on c (ask-stage (at h a P.Stage (iteration-at k π ρ r) (staging-at s j rc)) v))
-    unfolding stage-loop evaluate _>>=_ ask-stage pending in-range awaiting finishes replied take-stage at-stage settled counted is-done
+    unfolding stage-loop evaluate _>>=_ ask-stage pending in-range awaiting finishes replied take-stage at-stage settled counted closes
     stages-follow zero j rc v c e x j≡ 2≤j e≡ hv hc =
-        asked h a hk hs P.Stage I (staging-at s j rc) v c e (a .time ⊕ a .step ⊗ rc .«theta_previous») previous-one x
+        asked h a hk hs P.Stage I (staging-at s j rc) v c e _ (a .time ⊕ a .step ⊗ rc .«theta_previous») previous-one x
         (λ m. (m >>= on-from zero j rc v) >>= close F (h .kept .n) a s k r)
         hv hc (both hs′ (both (le-leb 2 j 2≤j) (le-leb j s (omega arith)))) refl
-        (λ d fin. rw (le-ltb j s (omega arith)) (close-undone s k r _))
+        refl (λ c. absurd (differ c))
         (λ d hd fin. rw (le-ltb j s (omega arith)) (candidate-follows j rc v (taken j rc v d) c e (intact-row h F (a .step) (coefficients F s j rc) v d hv hd) hc (omega arith)))
     stages-follow (suc m) j rc v c e x j≡ 2≤j e≡ hv hc =
-        asked h a hk hs P.Stage I (staging-at s j rc) v c e (a .time ⊕ a .step ⊗ rc .«theta_previous») previous-one x
+        asked h a hk hs P.Stage I (staging-at s j rc) v c e _ (a .time ⊕ a .step ⊗ rc .«theta_previous») previous-one x
         (λ m′. (m′ >>= on-from (suc m) j rc v) >>= close F (h .kept .n) a s k r)
         hv hc (both hs′ (both (le-leb 2 j 2≤j) (le-leb j s (omega arith)))) refl
-        (λ d fin. rw (lt-ltb j s (omega arith)))
+        refl (λ c. absurd (differ c))
         (λ d hd fin. rw (lt-ltb j s (omega arith))
         (stages-follow m (j + 1) (next F s rc (coefficients F s j rc)) (exchanged (taken j rc v d)) (one-more h c) (suc e) (pending-at h a hk hs P.Stage I (staging-at s j rc) v c) (omega arith) (omega arith) (omega arith)
         (intact-exchanged h (taken j rc v d) (intact-row h F (a .step) (coefficients F s j rc) v d hv hd)) (counted-on h hc)))

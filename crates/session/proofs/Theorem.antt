@@ -42,10 +42,10 @@ each-calls : (h : Held) (a : Arguments) (d : ℕ → List Float) (long : (i : �
 unfolding Follows evaluated after
 each-calls h a d long total fits (done o) replies i b x l f j lt = absurd (not-suc-le-zero lt)
 each-calls h a d long total fits (stopped n v) replies i b x l f j lt = absurd (not-suc-le-zero lt)
-each-calls h a d long total fits (ask t p k) replies i b x l f zero lt = calls (x .answer) (x .held) _ (f .1)
-each-calls h a d long total fits (ask t p k) replies i b x l f (suc j) lt =
-    each-calls h a d long total fits (k (d i)) (suc replies) (suc i) (x .held) (reply (x .held) (d i)) (ahead-on h a d long total fits t p k replies i l)
-    (f .2 (d i) (long i) (ahead-room h a d long total fits t p k replies i b x l f)) j (omega arith)
+each-calls h a d long total fits (ask why t p k) replies i b x l f zero lt = calls (x .answer) (x .held) _ (f .1)
+each-calls h a d long total fits (ask why t p k) replies i b x l f (suc j) lt =
+    each-calls h a d long total fits (k (d i)) (suc replies) (suc i) (x .held) (reply (x .held) (d i)) (ahead-on h a d long total fits why t p k replies i l)
+    (f .2 (d i) (long i) (ahead-room h a d long total fits why t p k replies i b x l f)) j (omega arith)
 
 same-says : (x y : Answer) → x ≡ y → Says x y
 same-says x y e = record { same-case = ap case-number e; same-values = ap case-values e }

@@ -1,36 +1,28 @@
--- Truth values: what tests joined by `&&`, `||` and `not` come to.
-use mathlib.Core.Path.{_≡_, refl, sym, ap₂, subst}
-use mathlib.Core.Bool.{Bool, true, false, cond, _&&_, _||_}
+-- Truth values: what tests joined by `&&`, `||` and `not` come to. What a layer below or the library has is cited.
+use mathlib.Core.Path.{_≡_, refl, ap₂}
+use mathlib.Core.Bool.{Bool, true, false, _&&_, _||_, false≢true}
 use lib.Dec.{T}
+use Rattle.ieee.proofs.Cases.{yes}
+use Rattle.driver.proofs.Sizes as Sizes
 
 pub differ : false ≡ true → ⊥
-differ e = subst (λ (b : Bool). cond b ⊥ (Unit {0})) e tt
-
-pub is-true : (b : Bool) → T b → b ≡ true
-is-true true h = refl
-is-true false h = absurd h
+differ = false≢true
 
 pub holds : (b : Bool) → b ≡ true → T b
-holds b e = subst T (sym e) tt
+holds b e = yes e
 
 pub both : {a b : Bool} → a ≡ true → b ≡ true → a && b ≡ true
 both p q = ap₂ _&&_ p q
 
 pub and-left : (a b : Bool) → a && b ≡ true → a ≡ true
-and-left true b e = refl
-and-left false b e = e
+and-left a b e = Sizes.both a b e .0
 
 pub and-right : (a b : Bool) → a && b ≡ true → b ≡ true
-and-right true b e = e
-and-right false b e = absurd (differ e)
+and-right a b e = Sizes.both a b e .1
 
 pub and-none : (a b : Bool) → b ≡ false → a && b ≡ false
 and-none true b e = e
 and-none false b e = refl
-
-pub and-assoc : (a b c : Bool) → a && b && c ≡ a && (b && c)
-and-assoc true b c = refl
-and-assoc false b c = refl
 
 pub or-left : (a b : Bool) → a ≡ true → a || b ≡ true
 or-left true b e = refl

@@ -1,16 +1,17 @@
--- An attempt in one piece, as the Rust has it: `attempt_step`, `spectral_radius`, `run_orthogonal_polynomial` and `run_rkc`, with `?` where the Rust has `?`. Document 01, "driver.rs: the calls".
+-- An attempt in one piece, as the Rust has it: `attempt_step`, `spectral_radius`, `run_orthogonal_polynomial` and `run_rkc`, with `?` where the Rust has `?`.
+-- Document 01, "driver.rs: the calls". Where the port differs, as docs/DIFFERENCES.md lists, so does this: see `evaluate` and `close`.
 -- The right-hand side is whoever answers `ask`. The vectors, which the Rust changes in place, go from line to line.
 use Prim.Native.Nat.{ℕ, zero, suc, _+_, _-_}
 use mathlib.Core.Bool.{Bool, true, false, cond, _||_}
 use mathlib.Core.List.{List, [], _∷_}
-use lib.Dec.{ltb}
+use lib.Dec.{ltb, eqb}
 use lib.Ieee.{Float}
 use Rattle.ieee.specs.Double.{_⊕_, _⊗_, nought}
 use Rattle.family.specs.Family.{Family}
 use Rattle.coefficients.specs.declared.Recurrence.{Recurrence}
 use Rattle.coefficients.specs.Rows.{recurrence, coefficients, next}
 use Rattle.workspace.specs.declared.Arguments.{Arguments}
-use Rattle.workspace.specs.Vectors.{Vectors, all-finite, previous-one, perturbed-state, candidate}
+use Rattle.workspace.specs.Vectors.{Vectors, all-finite, first-derivative, derivative, previous-two, previous-one, next-stage, eigenvector, perturbed-state, perturbed-derivative, state, candidate}
 use Rattle.workspace.specs.Kernel.{with-direction, perturbation-of, perturbed, turned, radius-of, ended, scaled, first-stage, with-row, exchanged, with-candidate, with-last, error-norm}
 use Rattle.driver.specs.declared.Need.{Need}
 use Rattle.driver.specs.declared.Need.the-variants.{Met, Unmet}
@@ -18,23 +19,34 @@ use Rattle.driver.specs.Calls.{stage-need}
 
 -- ---- a computation that asks for derivatives
 
--- It is done, or stopped by a refusal with the vectors as they are then, or asks for the derivative at a time and a point and goes on with the reply.
+-- What an evaluation is for: the candidate's, whose finite reply finishes the attempt (`close` alone asks for it), or another.
+pub data Purpose : Type 0 where
+  for-candidate : Purpose
+  for-another : Purpose
+
+unfoldable pub closes : Purpose → Bool
+closes for-candidate = true
+closes for-another = false
+
+-- It is done, or stopped by a refusal with the vectors as they are then, or asks for the derivative at a time and a point, saying what for, and goes on
+-- with the reply.
 pub data Asking (A : Type 0) : Type 0 where
   done : A → Asking A
   stopped : ℕ → Vectors → Asking A
-  ask : Float → List Float → (List Float → Asking A) → Asking A
+  ask : Purpose → Float → List Float → (List Float → Asking A) → Asking A
 
 infixl 20 _>>=_
 unfoldable pub _>>=_ : {A B : Type 0} → Asking A → (A → Asking B) → Asking B
 done a >>= f = f a
 stopped i v >>= f = stopped i v
-ask t p k >>= f = ask t p (λ d. k d >>= f)
+ask why t p k >>= f = ask why t p (λ d. k d >>= f)
 
--- `evaluate`: a derivative that is not finite stops the attempt
-unfoldable pub evaluate : Vectors → Float → List Float → Asking (List Float)
-evaluate v t p = ask t p (λ d. cond (all-finite d) (done d) (stopped 9 v))
+-- `evaluate`: a derivative that is not finite stops the attempt before it is written. The Rust writes it and then stops: a listed difference
+-- (document 01, number 9).
+unfoldable pub evaluate : Purpose → Vectors → Float → List Float → Asking (List Float)
+evaluate why v t p = ask why t p (λ d. cond (all-finite d) (done d) (stopped 9 v))
 
--- a need that is refused stops it too
+-- a need that is refused stops it too (an empty branch today: no family's need is refused yet)
 unfoldable pub stages-for : Need → Vectors → Asking ℕ
 stages-for (Met s) v = done s
 stages-for (Unmet i) v = stopped i v
@@ -60,7 +72,7 @@ module _ (f : Family) (n : ℕ) (a : Arguments) where
   iterate perturbation zero k radius v = done (record { radius = radius; passes = k; vectors = v })
   iterate perturbation (suc m) k previous v = do
     let v = perturbed n perturbation v
-    d ← evaluate v (a .time) (v perturbed-state)
+    d ← evaluate for-another v (a .time) (v perturbed-state)
     let v = turned n v d
     let radius = radius-of perturbation v
     cond (ended (k + 1) previous radius)
@@ -75,7 +87,7 @@ module _ (f : Family) (n : ℕ) (a : Arguments) where
   stage-loop s zero j c v = done v
   stage-loop s (suc m) j c v = do
     let row = coefficients f s j c
-    d ← evaluate v (a .time ⊕ a .step ⊗ c .«theta_previous») (v previous-one)
+    d ← evaluate for-another v (a .time ⊕ a .step ⊗ c .«theta_previous») (v previous-one)
     let v = with-row f n (a .step) row v d
     cond (ltb j s)
         (stage-loop s m (j + 1) (next f s c row) (exchanged v))
@@ -88,12 +100,13 @@ module _ (f : Family) (n : ℕ) (a : Arguments) where
   unfoldable pub finished-attempt : ℕ → ℕ → Float → Vectors → Finished-attempt
   finished-attempt s k r v = record { norm = error-norm f n s a v; stages = s; passes = k; scaled-radius = r; vectors = v }
 
-  -- `finite(candidate)?`, then the evaluation at the candidate and the error
+  -- `finite(candidate)?`, then the evaluation at the candidate and the error. (The Rust reports a candidate that is not finite as a derivative; here it has
+  -- a number of its own: a listed difference.)
   unfoldable pub close : ℕ → ℕ → Float → Vectors → Asking Finished-attempt
   close s k r v = let v = with-candidate v in
       cond (all-finite (v candidate))
       (do
-        d ← evaluate v (a .time ⊕ a .step) (v candidate)
+        d ← evaluate for-candidate v (a .time ⊕ a .step) (v candidate)
         done (finished-attempt s k r (with-last f n a v d)))
       (stopped 10 v)
 
@@ -114,7 +127,7 @@ pub record Evaluated : Type 0 where
 unfoldable pub evaluated : {A : Type 0} → Asking A → (ℕ → List Float) → ℕ → List Evaluated
 evaluated (done x) d i = []
 evaluated (stopped j v) d i = []
-evaluated (ask t p k) d i = record { time = t; point = p } ∷ evaluated (k (d i)) d (suc i)
+evaluated (ask why t p k) d i = record { time = t; point = p } ∷ evaluated (k (d i)) d (suc i)
 
 pub data End (A : Type 0) : Type 0 where
   reached : A → End A
@@ -123,15 +136,23 @@ pub data End (A : Type 0) : Type 0 where
 unfoldable pub end : {A : Type 0} → Asking A → (ℕ → List Float) → ℕ → End A
 end (done x) d i = reached x
 end (stopped j v) d i = refused j v
-end (ask t p k) d i = end (k (d i)) d (suc i)
+end (ask why t p k) d i = end (k (d i)) d (suc i)
 
--- The candidate's evaluation is the one that a finite reply finishes (the empty list is one). Whether it is asked for:
-unfoldable pub is-done : {A : Type 0} → Asking A → Bool
-is-done (done x) = true
-is-done (stopped j v) = false
-is-done (ask t p k) = false
-
+-- whether the candidate's evaluation is asked for
 unfoldable pub reaches-candidate : {A : Type 0} → Asking A → (ℕ → List Float) → ℕ → Bool
 reaches-candidate (done x) d i = false
 reaches-candidate (stopped j v) d i = false
-reaches-candidate (ask t p k) d i = is-done (k []) || reaches-candidate (k (d i)) d (suc i)
+reaches-candidate (ask why t p k) d i = closes why || reaches-candidate (k (d i)) d (suc i)
+
+-- ---- what a stop fixes of the vectors, by its number
+
+-- all but the last derivative, in the area's order
+abbrev pub all-but-last : Vectors → List (List Float)
+all-but-last v =
+    v first-derivative ∷ v derivative ∷ v previous-two ∷ v previous-one ∷ v next-stage
+    ∷ v eigenvector ∷ v perturbed-state ∷ v perturbed-derivative ∷ v state ∷ v candidate ∷ []
+
+-- With 10 "area as the Rust's vectors are when its test of the candidate fails, but the last derivative stands" (document 01's table): these ten; that the
+-- last derivative stands is `leaves` (proofs/Leaves.antt). With 9 nothing: the area stands, whatever it held.
+unfoldable pub fixed-at : ℕ → Vectors → List (List Float)
+fixed-at i v = cond (eqb i 10) (all-but-last v) []

@@ -69,7 +69,7 @@ attempt-tests h a = let r = h .kept in
     ∷ 7 ∶ good-tolerances a
     ∷ []
 
--- a reply that ends the power iteration has the need of stages tested
+-- a reply that ends the power iteration has the need of stages tested (no family's need is refused yet: `Unmet` is empty today)
 unfoldable pub need-tests : Need → List Test
 need-tests (Met s) = []
 need-tests (Unmet i) = i ∶ false ∷ []

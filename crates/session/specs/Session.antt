@@ -14,16 +14,17 @@ use Rattle.driver.specs.declared.Counters.{Counters}
 use Rattle.driver.specs.declared.Answer.{Answer}
 use Rattle.driver.specs.declared.Answer.the-variants.{Evaluate, Finished, Ready, Refused, Empty}
 use Rattle.driver.specs.Calls.{Held, Called, reply, Call, Start, Attempt, Reply, Accept, Accept-with-callback, Abandon, made, taken, sized, as-long, good-times, good-tolerances, room}
-use Rattle.session.specs.Attempt.{Asking, done, stopped, ask, _>>=_, evaluate, Finished-attempt, Evaluated, attempt-step}
+use Rattle.session.specs.Attempt.{for-another, closes, Asking, done, stopped, ask, _>>=_, evaluate, Finished-attempt, Evaluated, fixed-at, attempt-step}
 
 -- ---- the calls over a list of them
 
--- what can be seen of an answer: the time and point to evaluate; norm, s, k, r and candidate; state and derivative; the number
+-- what can be seen of an answer: the time and point to evaluate; norm, s, k, r and candidate; state and derivative; the number, and what a stop with it fixes
+-- of the vectors (`fixed-at`)
 pub data Shown : Type 0 where
   evaluates : Float → List Float → Shown
   finished-with : Float → ℕ → ℕ → Float → List Float → Shown
   ready-at : List Float → List Float → Shown
-  stops : ℕ → Shown
+  stops : ℕ → List (List Float) → Shown
   nothing : Shown
 
 pub record Seen : Type 0 where
@@ -42,13 +43,13 @@ answer-shown (Evaluate t b) h = evaluates t (unpack (h .kept .n) (h .area) (name
 answer-shown (Finished e) h = let i = h .kept .iteration in
     finished-with e (h .kept .staging .stages) (i .pass) (i .«scaled_radius») (unpack (h .kept .n) (h .area) candidate)
 answer-shown Ready h = ready-at (unpack (h .kept .n) (h .area) state) (unpack (h .kept .n) (h .area) first-derivative)
-answer-shown (Refused i) h = stops i
+answer-shown (Refused i) h = stops i (fixed-at i (unpack (h .kept .n) (h .area)))
 answer-shown Empty h = nothing
 
 unfoldable pub call-seen : Called → Seen
 call-seen x = record { shown = answer-shown (x .answer) (x .held); counts = x .held .counters }
 
--- what is seen of those that are taken
+-- what is seen of those that are taken, that is, not turned away with 1 to 8
 unfoldable pub seen-of : Held → List Call → List Seen
 seen-of h [] = []
 seen-of h (c ∷ cs) = let rest = seen-of (made h c .held) cs in cond (taken (made h c .answer)) (call-seen (made h c) ∷ rest) rest
@@ -82,7 +83,7 @@ vectors-of (tried o) = o .vectors
 unfoldable pub initialize : ℕ → List Float → Float → Asking Resting
 initialize n y t = do
   let v = (λ b. replicate n nought) with state ≔ y
-  d ← evaluate v t y
+  d ← evaluate for-another v t y
   done (ready-with (v with first-derivative ≔ d))
 
 unfoldable pub tries : ℕ → ℕ → Arguments → Vectors → Asking Resting
@@ -97,7 +98,7 @@ accept-step v = done (ready-with (v with first-derivative ≔ v last-derivative 
 unfoldable pub callback-step : ℕ → List Float → Float → Vectors → Asking Resting
 callback-step n y t v = do
   let v = v with state ≔ y
-  d ← evaluate v t y
+  d ← evaluate for-another v t y
   done (ready-with (v with first-derivative ≔ d with eigenvector ≔ replicate n nought))
 
 -- ---- a session
@@ -118,7 +119,7 @@ unfoldable pub at-rest : (Resting → Doing) → Doing → Doing
 at-rest go none = none
 at-rest go (within (done r)) = go r
 at-rest go (within (stopped i v)) = within (stopped i v)
-at-rest go (within (ask t p k)) = within (ask t p k)
+at-rest go (within (ask why t p k)) = within (ask why t p k)
 
 unfoldable pub after-attempt : (Vectors → Doing) → Resting → Doing
 after-attempt go (ready-with v) = within (done (ready-with v))
@@ -128,7 +129,7 @@ unfoldable pub waiting : ((List Float → Asking Resting) → Doing) → Doing �
 waiting go none = none
 waiting go (within (done r)) = within (done r)
 waiting go (within (stopped i v)) = within (stopped i v)
-waiting go (within (ask t p k)) = go k
+waiting go (within (ask why t p k)) = go k
 
 -- a reply is an evaluation; it finishes an attempt where the function is then done with one
 unfoldable pub finished-by : Doing → ℕ
@@ -136,7 +137,7 @@ finished-by none = 0
 finished-by (within (done (ready-with v))) = 0
 finished-by (within (done (tried o))) = 1
 finished-by (within (stopped i v)) = 0
-finished-by (within (ask t p k)) = 0
+finished-by (within (ask why t p k)) = 0
 
 unfoldable pub counts-on : Doing → Counters → Counters
 counts-on δ c = record { evaluations = c .evaluations + 1; «finished_attempts» = c .«finished_attempts» + finished-by δ }
@@ -160,8 +161,8 @@ unfoldable pub doing-shown : Doing → Shown
 doing-shown none = nothing
 doing-shown (within (done (ready-with v))) = ready-at (v state) (v first-derivative)
 doing-shown (within (done (tried o))) = finished-shown o
-doing-shown (within (stopped i v)) = stops i
-doing-shown (within (ask t p k)) = evaluates t p
+doing-shown (within (stopped i v)) = stops i (fixed-at i v)
+doing-shown (within (ask why t p k)) = evaluates t p
 
 unfoldable pub session-seen : Session → Seen
 session-seen σ = record { shown = doing-shown (σ .doing); counts = σ .counts }
@@ -172,27 +173,28 @@ unfoldable pub rests : Doing → Bool
 rests none = false
 rests (within (done r)) = true
 rests (within (stopped i v)) = false
-rests (within (ask t p k)) = false
+rests (within (ask why t p k)) = false
 
 unfoldable pub has-tried : Doing → Bool
 has-tried none = false
 has-tried (within (done (ready-with v))) = false
 has-tried (within (done (tried o))) = true
 has-tried (within (stopped i v)) = false
-has-tried (within (ask t p k)) = false
+has-tried (within (ask why t p k)) = false
 
 unfoldable pub waits : Doing → Bool
 waits none = false
 waits (within (done r)) = false
 waits (within (stopped i v)) = false
-waits (within (ask t p k)) = true
+waits (within (ask why t p k)) = true
 
--- Waits for a derivative, and has room to count it. The evaluation that a finite reply, as the empty list is, ends an attempt with also needs room for a finished attempt: it is that of the phase Candidate and no other (`Closes` in proofs/Follows.antt, `Shows` in proofs/Shows.antt).
+-- Waits for a derivative, and has room to count it; at the candidate's evaluation also room for a finished attempt. (It is that of the phase Candidate:
+-- `Shows` in proofs/Shows.antt.)
 unfoldable pub waits-with-room : Doing → Counters → Bool
 waits-with-room none c = false
 waits-with-room (within (done r)) c = false
 waits-with-room (within (stopped i v)) c = false
-waits-with-room (within (ask t p k)) c = room (c .evaluations) && (not (has-tried (within (k []))) || room (c .«finished_attempts»))
+waits-with-room (within (ask why t p k)) c = room (c .evaluations) && (not (closes why) || room (c .«finished_attempts»))
 
 -- with an area of so many doubles
 unfoldable pub takes : ℕ → Session → Call → Bool
