@@ -28,3 +28,6 @@ pub mod Sequences
 pub mod Skipped
 pub mod Among
 pub mod Case
+pub mod Later
+pub mod Underway
+pub mod Finishing
