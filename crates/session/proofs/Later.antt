@@ -48,7 +48,7 @@ no-start-append (c ∷ cs) ds = go (not (is-start c)) (no-start-append cs ds)
 -- ---- one more call
 
 -- it is the last of them
-pub last : (h : Held) (calls : List Call) (c : Call) → taken (made (held-after h calls) c .answer) ≡ true → Taken-among h (calls ++ c ∷ []) c
+abbrev pub last : (h : Held) (calls : List Call) (c : Call) → taken (made (held-after h calls) c .answer) ≡ true → Taken-among h (calls ++ c ∷ []) c
 last h calls c q = record { before = calls; since = []; calls-are = refl; is-taken = q }
 
 module _ (h : Held) (calls : List Call) (b : Call) (m : Taken-among h calls b) (c : Call) where

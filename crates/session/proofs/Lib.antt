@@ -31,3 +31,5 @@ pub mod Case
 pub mod Later
 pub mod Underway
 pub mod Finishing
+pub mod Systems
+pub mod Concluded

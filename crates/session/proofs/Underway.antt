@@ -96,15 +96,18 @@ pub record Goes (g : Held) (a : Arguments) (m : ℕ) (x : Called) : Type 0 where
 
 -- ---- an attempt begins it
 
-pub attempt-begins : (g : Held) (a : Arguments) → taken (attempt g a .answer) ≡ true → Underway g a 0 (attempt g a .held)
-unfolding attempt going-on attempted ask-pass at-pass taken
+pub attempt-begins : (g : Held) (a : Arguments) → taken (attempt g a .answer) ≡ true → Underway g a 0 (attempt g a .held) × (pending (attempt g a .held .kept .phase) ≡ true)
+unfolding attempt going-on attempted ask-pass at-pass taken pending
 attempt-begins g a q =
-    let Then : Called → Type 0 = λ x. Underway g a 0 (x .held) in
-    passed Then g 1 _ _ refl q (λ _ q. passed Then g 2 _ _ refl q (λ _ q. passed Then g 3 _ _ refl q (λ _ q. passed Then g 4 _ _ refl q (λ _ q. passed Then g 6 _ _ refl q (λ _ q. passed Then g 7 _ _ refl q (λ _ q. record {
-      arguments-are = refl;
-      evaluations-are = omega arith;
-      position = record { pass-is = refl; unsigned = perturbation-plus (unpack (g .kept .n) (g .area)); attempts-are = refl };
-    }))))))
+    let Then : Called → Type 0 = λ x. Underway g a 0 (x .held) × (pending (x .held .kept .phase) ≡ true) in
+    passed Then g 1 _ _ refl q (λ _ q. passed Then g 2 _ _ refl q (λ _ q. passed Then g 3 _ _ refl q (λ _ q. passed Then g 4 _ _ refl q (λ _ q. passed Then g 6 _ _ refl q (λ _ q. passed Then g 7 _ _ refl q (λ _ q. (
+      record {
+        arguments-are = refl;
+        evaluations-are = omega arith;
+        position = record { pass-is = refl; unsigned = perturbation-plus (unpack (g .kept .n) (g .area)); attempts-are = refl };
+      },
+      refl,
+    )))))))
 
 -- ---- a reply goes on with it
 
