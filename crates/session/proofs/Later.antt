@@ -1,10 +1,10 @@
--- A list of calls with one more call at its end: what is held, which calls are taken and how they are answered, and where a call among them stands then. From the definitions, and `left` (a call that is not taken leaves everything).
+-- A list of calls with one more call at its end: what is held, which calls are taken and how they are answered, and where a call among them stands then. From the definitions alone.
 use mathlib.Core.Path.{_≡_, refl, sym, ap, _∙_}
 use mathlib.Core.Bool.{Bool, true, false, cond, not, _&&_}
 use mathlib.Core.List.{List, [], _∷_, _++_, append-assoc, append-nil}
 use Prim.Native.Nat.{ℕ}
 use Rattle.driver.specs.Answers.{case-number}
-use Rattle.driver.specs.Calls.{Held, Call, made, taken}
+use Rattle.driver.specs.Calls.{Held, Called, Call, made, taken}
 use Rattle.session.specs.Session.{taken-of, held-after}
 use Rattle.session.specs.Concluded.{Taken-among, found, taken-since, cases-of, cases-since, is-start, no-start}
 
@@ -66,14 +66,17 @@ module _ (h : Held) (calls : List Call) (b : Call) (m : Taken-among h calls b) (
   unfolding held-after
   held-since = sym (ap (held-after h) (m .calls-are) ∙ held-append h (m .before) (b ∷ m .since))
 
-  pub taken-further : taken-since further ≡ taken-since m ++ cond (taken (made (held-after h calls) c .answer)) (c ∷ []) []
-  unfolding taken-of
-  taken-further =
-      taken-append (made (found m) b .held) (m .since) (c ∷ [])
-      ∙ ap (λ (g : Held). taken-since m ++ taken-of g (c ∷ [])) held-since
+  module _ (x : Called) (is : made (held-after h calls) c ≡ x) where
+    pub taken-further : taken-since further ≡ taken-since m ++ cond (taken (x .answer)) (c ∷ []) []
+    unfolding taken-of
+    taken-further =
+        taken-append (made (found m) b .held) (m .since) (c ∷ [])
+        ∙ ap (λ (g : Held). taken-since m ++ taken-of g (c ∷ [])) held-since
+        ∙ ap (λ (x : Called). taken-since m ++ cond (taken (x .answer)) (c ∷ []) []) is
 
-  pub cases-further : cases-since further ≡ cases-since m ++ cond (taken (made (held-after h calls) c .answer)) (case-number (made (held-after h calls) c .answer) ∷ []) []
-  unfolding cases-of
-  cases-further =
-      cases-append (made (found m) b .held) (m .since) (c ∷ [])
-      ∙ ap (λ (g : Held). cases-since m ++ cases-of g (c ∷ [])) held-since
+    pub cases-further : cases-since further ≡ cases-since m ++ cond (taken (x .answer)) (case-number (x .answer) ∷ []) []
+    unfolding cases-of
+    cases-further =
+        cases-append (made (found m) b .held) (m .since) (c ∷ [])
+        ∙ ap (λ (g : Held). cases-since m ++ cases-of g (c ∷ [])) held-since
+        ∙ ap (λ (x : Called). cases-since m ++ cond (taken (x .answer)) (case-number (x .answer) ∷ []) []) is

@@ -29,7 +29,8 @@ pub mod Skipped
 pub mod Among
 pub mod Case
 pub mod Later
+pub mod Outcomes
 pub mod Underway
-pub mod Finishing
-pub mod Systems
+pub mod Latest
+pub mod Trails
 pub mod Concluded

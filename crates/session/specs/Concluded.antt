@@ -18,10 +18,13 @@ use Rattle.coefficients.specs.Rows.{recurrence, coefficients}
 use Rattle.coefficients.specs.Closeness.{Close-row}
 use Rattle.coefficients.specs.Multiplier.{Stable}
 use Rattle.workspace.specs.declared.Arguments.{Arguments}
+use Rattle.workspace.specs.Vectors.{unpack}
+use Rattle.workspace.specs.Kernel.{error-norm}
 use Rattle.driver.specs.declared.Phase.the-variants as P
 use Rattle.driver.specs.declared.Record.{Record}
+use Rattle.driver.specs.declared.Answer.the-variants.{Finished}
 use Rattle.driver.specs.Answers.{case-number}
-use Rattle.driver.specs.Calls.{Held, Call, Start, Attempt, Reply, Accept, Accept-with-callback, Abandon, made, taken}
+use Rattle.driver.specs.Calls.{Held, Called, Call, Start, Attempt, Reply, Accept, Accept-with-callback, Abandon, made, taken}
 use Rattle.session.specs.Session.{taken-of, held-after}
 
 -- ---- one call of a list
@@ -90,24 +93,25 @@ pub record Demand-three (g : Orthogonal) (r : Float) (s : ℕ) : Type 0 where
   pub rows-close : (j : ℕ) → 2 ≤ j → j ≤ s → (c : Recurrence) → Close-row g s j (coefficients (made-of g) s j c)
   pub stable : Stable g s
 
--- The last of these calls from h on is answered "finished", and x is what it leaves. An attempt was taken; the calls taken since are s + k replies and no other call, answered by evaluations and at last by finished; counters, arguments, s, k and r are so.
-pub record Concluded (h : Held) (calls : List Call) (x : Held) : Type 0 where
+-- The last of these calls from h on is answered "finished"; x is its answer and what it leaves. An attempt was taken, and the calls taken since are s + k replies and no other call, answered by evaluations and at last by finished.
+pub record Concluded (h : Held) (calls : List Call) (x : Called) : Type 0 where
   pub start : Latest-start h calls
-  pub family-is : x .kept .family ≡ start .family
-  pub n-is : x .kept .n ≡ start .n
+  pub family-is : x .held .kept .family ≡ start .family
+  pub n-is : x .held .kept .n ≡ start .n
   pub arguments : Arguments
   pub attempt : Taken-among h calls (Attempt arguments)
-  pub arguments-are : x .kept .arguments ≡ arguments
+  pub arguments-are : x .held .kept .arguments ≡ arguments
   pub replies : List (List Float)
   pub only-replies : taken-since attempt ≡ map Reply replies
-  pub replies-are : length replies ≡ stages-of (x .kept) + passes-of (x .kept)
+  pub replies-are : length replies ≡ stages-of (x .held .kept) + passes-of (x .held .kept)
   pub answers-are : cases-since attempt ≡ replicate (length replies - 1) 1 ++ 2 ∷ []
-  pub one-pass : 1 ≤ passes-of (x .kept)
-  pub twelve-passes : passes-of (x .kept) ≤ 12
-  pub stages-are : stages-of (x .kept) ≡ stage-count (family-of (start .family)) (scaled-radius-of (x .kept))
-  pub phase-is : x .kept .phase ≡ P.Finished
-  pub evaluations-are : x .counters .evaluations ≡ found attempt .counters .evaluations + (stages-of (x .kept) + passes-of (x .kept))
-  pub attempts-are : x .counters .«finished_attempts» ≡ found attempt .counters .«finished_attempts» + 1
-  pub not-negative : lt (scaled-radius-of (x .kept)) nought ≡ false
-  pub largest-at-infinity : scaled-radius-of (x .kept) ≡ inf false → stages-of (x .kept) ≡ largest-count (family-of (start .family))
-  pub demand-three : (g : Orthogonal) → family-of (start .family) ≡ made-of g → Demand-three g (scaled-radius-of (x .kept)) (stages-of (x .kept))
+  pub norm-is : x .answer ≡ Finished (error-norm (family-of (start .family)) (start .n) (stages-of (x .held .kept)) arguments (unpack (start .n) (x .held .area)))
+  pub one-pass : 1 ≤ passes-of (x .held .kept)
+  pub twelve-passes : passes-of (x .held .kept) ≤ 12
+  pub stages-are : stages-of (x .held .kept) ≡ stage-count (family-of (start .family)) (scaled-radius-of (x .held .kept))
+  pub phase-is : x .held .kept .phase ≡ P.Finished
+  pub evaluations-are : x .held .counters .evaluations ≡ found attempt .counters .evaluations + (stages-of (x .held .kept) + passes-of (x .held .kept))
+  pub attempts-are : x .held .counters .«finished_attempts» ≡ found attempt .counters .«finished_attempts» + 1
+  pub not-negative : lt (scaled-radius-of (x .held .kept)) nought ≡ false
+  pub largest-at-infinity : scaled-radius-of (x .held .kept) ≡ inf false → stages-of (x .held .kept) ≡ largest-count (family-of (start .family))
+  pub demand-three : (g : Orthogonal) → family-of (start .family) ≡ made-of g → Demand-three g (scaled-radius-of (x .held .kept)) (stages-of (x .held .kept))
