@@ -1,7 +1,8 @@
--- A list of calls with one more call at its end: what is held, which calls are taken and how they are answered, and where a call among them stands then. From the definitions alone.
+-- A list of calls with one more at its end: what is held, which calls are taken and how they are answered, and where a call among them stands then.
+-- From the definitions alone.
 use mathlib.Core.Path.{_≡_, refl, sym, ap, _∙_}
 use mathlib.Core.Bool.{Bool, true, false, cond, not, _&&_}
-use mathlib.Core.List.{List, [], _∷_, _++_, append-assoc, append-nil}
+use mathlib.Core.List.{List, [], _∷_, _++_, append-assoc}
 use Prim.Native.Nat.{ℕ}
 use Rattle.driver.specs.Answers.{case-number}
 use Rattle.driver.specs.Calls.{Held, Called, Call, made, taken}
@@ -45,28 +46,28 @@ no-start-append (c ∷ cs) ds = go (not (is-start c)) (no-start-append cs ds)
     go true e = e
     go false e = refl
 
--- ---- one more call
+-- ---- one more call, of which x is the answer and what it leaves
 
--- it is the last of them
-abbrev pub last : (h : Held) (calls : List Call) (c : Call) → taken (made (held-after h calls) c .answer) ≡ true → Taken-among h (calls ++ c ∷ []) c
-last h calls c q = record { before = calls; since = []; calls-are = refl; is-taken = q }
+module _ (h : Held) (calls : List Call) (c : Call) (x : Called) (is : made (held-after h calls) c ≡ x) where
+  -- it is the last of them
+  abbrev pub last : taken (x .answer) ≡ true → Taken-among h (calls ++ c ∷ []) c
+  last q = record { before = calls; since = []; calls-are = refl; is-taken = ap (λ (x : Called). taken (x .answer)) is ∙ q }
 
-module _ (h : Held) (calls : List Call) (b : Call) (m : Taken-among h calls b) (c : Call) where
-  -- one that was among them is so still
-  abbrev pub further : Taken-among h (calls ++ c ∷ []) b
-  further = record {
-    before = m .before;
-    since = m .since ++ c ∷ [];
-    calls-are = ap (λ (cs : List Call). cs ++ c ∷ []) (m .calls-are) ∙ append-assoc (m .before) (b ∷ m .since) (c ∷ []);
-    is-taken = m .is-taken;
-  }
+  module _ (b : Call) (m : Taken-among h calls b) where
+    -- one that was among them is so still
+    abbrev pub further : Taken-among h (calls ++ c ∷ []) b
+    further = record {
+      before = m .before;
+      since = m .since ++ c ∷ [];
+      calls-are = ap (λ (cs : List Call). cs ++ c ∷ []) (m .calls-are) ∙ append-assoc (m .before) (b ∷ m .since) (c ∷ []);
+      is-taken = m .is-taken;
+    }
 
-  -- what the calls since leave is what all of them leave
-  held-since : held-after (made (found m) b .held) (m .since) ≡ held-after h calls
-  unfolding held-after
-  held-since = sym (ap (held-after h) (m .calls-are) ∙ held-append h (m .before) (b ∷ m .since))
+    -- what the calls since leave is what all of them leave
+    held-since : held-after (made (found m) b .held) (m .since) ≡ held-after h calls
+    unfolding held-after
+    held-since = sym (ap (held-after h) (m .calls-are) ∙ held-append h (m .before) (b ∷ m .since))
 
-  module _ (x : Called) (is : made (held-after h calls) c ≡ x) where
     pub taken-further : taken-since further ≡ taken-since m ++ cond (taken (x .answer)) (c ∷ []) []
     unfolding taken-of
     taken-further =

@@ -1,6 +1,7 @@
--- After any calls, where the phase is one of an attempt: the attempt that was taken, the replies that were taken since and no other call, how they were answered, and where the attempt stands. From the outcomes of a call, and how each goes on.
+-- After any calls, where the phase is one of an attempt: the attempt that was taken, the replies taken since and no other call, how they were answered, and
+-- where the attempt stands. From the outcomes of a call, and how each goes on with an attempt under way.
 use mathlib.Core.Path.{_≡_, refl, sym, ap, ap₂, _∙_, subst}
-use mathlib.Core.Bool.{Bool, true, false}
+use mathlib.Core.Bool.{true, false, _&&_}
 use mathlib.Core.List.{List, [], _∷_, _++_, map, append-nil}
 use Prim.Native.Nat.{ℕ, _+_, _-_}
 use native.Mathlib.Omega.{arith}
@@ -12,9 +13,10 @@ use Rattle.driver.specs.declared.Phase.the-variants as P
 use Rattle.driver.specs.Calls.{Held, Called, in-phase, first-at, pending, Call, Attempt, Reply, made, taken}
 use Rattle.session.specs.Session.{taken-of, held-after}
 use Rattle.session.specs.Concluded.{Taken-among, found, taken-since, cases-of, cases-since}
-use Rattle.session.proofs.Truth.{differ}
+use Rattle.session.proofs.Truth.{differ, and-left, and-right}
 use Rattle.session.proofs.Later.{last, further, taken-further, cases-further}
-use Rattle.session.proofs.Outcomes.{Outcome, away, starts, attempts, spoils, readies, iterates, begins, goes-on, asks-candidate, finishes, accepts, calls-back, abandons}
+use Rattle.session.proofs.Outcomes.{Outcome, away, starts, attempts, spoils, readies, iterates, begins, goes-on, asks-candidate, finishes}
+use Rattle.session.proofs.Outcomes.{accepts, calls-back, abandons}
 use Rattle.session.proofs.Underway.{active, case-at, Underway, attempt-begins, reply-goes}
 
 -- how m replies were answered: by evaluations, the last by finished once the phase says so
@@ -62,6 +64,7 @@ replies-append : (ds es : List (List Float)) → map Reply ds ++ map Reply es �
 replies-append [] es = refl
 replies-append (d ∷ ds) es = ap (λ (cs : List Call). Reply d ∷ cs) (replies-append ds es)
 
+-- one more call, of which x is the answer and what it leaves
 module _ (h : Held) (calls : List Call) where
   abbrev g : Held
   g = held-after h calls
@@ -70,19 +73,20 @@ module _ (h : Held) (calls : List Call) where
   passes-by : (c : Call) (x : Called) → made g c ≡ x → taken (x .answer) ≡ false → x .held ≡ g → Trail h calls g → Trail h (calls ++ c ∷ []) (x .held)
   passes-by c x is q same t = let b = Attempt (t .arguments) in record {
     arguments = t .arguments;
-    attempt = further h calls b (t .attempt) c;
+    attempt = further h calls c x is b (t .attempt);
     replies = t .replies;
-    only-replies = taken-further h calls b (t .attempt) c x is ∙ rw (q, append-nil) (t .only-replies);
-    answers-are = cases-further h calls b (t .attempt) c x is ∙ rw (q, append-nil, same) (t .answers-are);
+    only-replies = taken-further h calls c x is b (t .attempt) ∙ rw (q, append-nil) (t .only-replies);
+    answers-are = cases-further h calls c x is b (t .attempt) ∙ rw (q, append-nil, same) (t .answers-are);
     underway = rw same (t .underway);
   }
 
   -- an attempt
-  begins-at : (a : Arguments) (x : Called) → made g (Attempt a) ≡ x → taken (x .answer) ≡ true → Outcome g (Attempt a) x → Trail h (calls ++ Attempt a ∷ []) (x .held)
+  attempts-now : (a : Arguments) (x : Called) → made g (Attempt a) ≡ x → Outcome g (Attempt a) x → taken (x .answer) ≡ true
+      → Trail h (calls ++ Attempt a ∷ []) (x .held)
   unfolding taken-of cases-of
-  begins-at a x is q o = let begins = attempt-begins g a x o q in record {
+  attempts-now a x is o q = let begins = attempt-begins g a x o q in record {
     arguments = a;
-    attempt = last h calls (Attempt a) (ap (λ (x : Called). taken (x .answer)) is ∙ q);
+    attempt = last h calls (Attempt a) x is q;
     replies = [];
     only-replies = refl;
     answers-are = sym (waiting (x .held .kept .phase) 0 (begins .1));
@@ -90,36 +94,44 @@ module _ (h : Held) (calls : List Call) where
   }
 
   -- a reply
-  replies-on : (d : List Float) (x : Called) → made g (Reply d) ≡ x → taken (x .answer) ≡ true → active (x .held .kept .phase) ≡ true → Outcome g (Reply d) x → pending (g .kept .phase) ≡ true → Trail h calls g
-      → Trail h (calls ++ Reply d ∷ []) (x .held)
-  replies-on d x is q on o waits t =
+  replies-on : (d : List Float) (x : Called) → made g (Reply d) ≡ x → Outcome g (Reply d) x → taken (x .answer) ≡ true
+      → active (x .held .kept .phase) ≡ true → pending (g .kept .phase) ≡ true → Trail h calls g → Trail h (calls ++ Reply d ∷ []) (x .held)
+  replies-on d x is o q on waits t =
       let b = Attempt (t .arguments) in
       let m = length (t .replies) in
-      let goes = reply-goes (found (t .attempt)) (t .arguments) m g d x (t .underway) o q on in
-      let more : length (t .replies ++ d ∷ []) ≡ m + 1 = length-append (t .replies) (d ∷ []) in record {
+      let φ = x .held .kept .phase in
+      let goes = reply-goes (found (t .attempt)) (t .arguments) m g (t .underway) d x o q on in
+      let more : length (t .replies ++ d ∷ []) ≡ m + 1 = length-append (t .replies) (d ∷ []) in
+      let calls-on = ap (λ (cs : List Call). cs ++ Reply d ∷ []) (t .only-replies) ∙ replies-append (t .replies) (d ∷ []) in
+      let cases-on = ap₂ (λ (ks : List ℕ) (k : ℕ). ks ++ k ∷ []) (t .answers-are ∙ waiting (g .kept .phase) m waits) (goes .answered) in record {
         arguments = t .arguments;
-        attempt = further h calls b (t .attempt) (Reply d);
+        attempt = further h calls (Reply d) x is b (t .attempt);
         replies = t .replies ++ d ∷ [];
-        only-replies = taken-further h calls b (t .attempt) (Reply d) x is ∙ rw q (ap (λ (cs : List Call). cs ++ Reply d ∷ []) (t .only-replies) ∙ replies-append (t .replies) (d ∷ []));
-        answers-are =
-            cases-further h calls b (t .attempt) (Reply d) x is
-            ∙ rw q (ap₂ (λ (ks : List ℕ) (k : ℕ). ks ++ k ∷ []) (t .answers-are ∙ waiting (g .kept .phase) m waits) (goes .answered)
-            ∙ one-more (x .held .kept .phase) m ∙ ap (cases-at (x .held .kept .phase)) (sym more));
+        only-replies = taken-further h calls (Reply d) x is b (t .attempt) ∙ rw q calls-on;
+        answers-are = cases-further h calls (Reply d) x is b (t .attempt) ∙ rw q (cases-on ∙ one-more φ m ∙ ap (cases-at φ) (sym more));
         underway = subst (λ (i : ℕ). Underway (found (t .attempt)) (t .arguments) i (x .held)) (sym more) (goes .underway);
       }
 
-  pub trail-on : (active (g .kept .phase) ≡ true → Trail h calls g) → (c : Call) (x : Called) → made g c ≡ x → Outcome g c x → active (x .held .kept .phase) ≡ true → Trail h (calls ++ c ∷ []) (x .held)
+  -- a reply that found this phase of an attempt
+  from-phase : (φ : Phase) → active φ && pending φ ≡ true → (active (g .kept .phase) ≡ true → Trail h calls g) → g .kept .phase ≡ φ
+      → (d : List Float) (x : Called) → made g (Reply d) ≡ x → Outcome g (Reply d) x → taken (x .answer) ≡ true → active (x .held .kept .phase) ≡ true
+      → Trail h (calls ++ Reply d ∷ []) (x .held)
+  from-phase φ both t p d x is o q on =
+      replies-on d x is o q on (ap pending p ∙ and-right (active φ) (pending φ) both) (t (ap active p ∙ and-left (active φ) (pending φ) both))
+
+  pub trail-on : (active (g .kept .phase) ≡ true → Trail h calls g) → (c : Call) (x : Called) → made g c ≡ x → Outcome g c x
+      → active (x .held .kept .phase) ≡ true → Trail h (calls ++ c ∷ []) (x .held)
   unfolding taken in-phase first-at active pending
   trail-on t c x is (away i e) on = passes-by c x is e refl (t on)
   trail-on t c x is (starts area) on = absurd (differ on)
-  trail-on t (Attempt a) x is (attempts v s b area) on = begins-at a x is refl (attempts v s b area)
+  trail-on t (Attempt a) x is (attempts v s b area) on = attempts-now a x is (attempts v s b area) refl
   trail-on t c x is (spoils i area) on = absurd (differ on)
   trail-on t c x is (readies area) on = absurd (differ on)
-  trail-on t (Reply d) x is (iterates s radius b area p) on = replies-on d x is refl on (iterates s radius b area p) (ap pending p) (t (ap active p))
-  trail-on t (Reply d) x is (begins w s b r area p twelve) on = replies-on d x is refl on (begins w s b r area p twelve) (ap pending p) (t (ap active p))
-  trail-on t (Reply d) x is (goes-on s b r area p below) on = replies-on d x is refl on (goes-on s b r area p below) (ap pending p) (t (ap active p))
-  trail-on t (Reply d) x is (asks-candidate s b area p at) on = replies-on d x is refl on (asks-candidate s b area p at) (ap pending p) (t (ap active p))
-  trail-on t (Reply d) x is (finishes w p long) on = replies-on d x is refl on (finishes w p long) (ap pending p) (t (ap active p))
+  trail-on t (Reply d) x is (iterates s radius b area p) on = from-phase P.Pass refl t p d x is (iterates s radius b area p) refl on
+  trail-on t (Reply d) x is (begins w s b r area p twelve) on = from-phase P.Pass refl t p d x is (begins w s b r area p twelve) refl on
+  trail-on t (Reply d) x is (goes-on s b r area p below) on = from-phase P.Stage refl t p d x is (goes-on s b r area p below) refl on
+  trail-on t (Reply d) x is (asks-candidate s b area p at) on = from-phase P.Stage refl t p d x is (asks-candidate s b area p at) refl on
+  trail-on t (Reply d) x is (finishes w p long) on = from-phase P.Candidate refl t p d x is (finishes w p long) refl on
   trail-on t c x is (accepts area) on = absurd (differ on)
   trail-on t c x is (calls-back area) on = absurd (differ on)
   trail-on t c x is abandons on = absurd (differ on)

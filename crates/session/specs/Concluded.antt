@@ -1,5 +1,7 @@
--- What an answer "finished" stands for, wherever it comes in a sequence of calls: the attempt, the replies since it, the counters, and s, k and r of the record.
--- Document 01: demand 2's domain is "every call that the last table does not turn away, in a sequence from a start that it does not turn away either"; "The evaluations of one finished attempt are s + k, with k from 1 to 12, each one reply"; demand 3 "holds also of the s that a finished attempt ran, for its own r where that is finite".
+-- What an answer "finished" stands for, wherever it comes in a sequence of calls: the attempt, the replies since, the counters, and s, k and r of the record.
+-- Document 01: demand 2's domain is "every call that the last table does not turn away, in a sequence from a start that it does not turn away either";
+-- "The evaluations of one finished attempt are s + k, with k from 1 to 12, each one reply"; demand 3 "holds also of the s that a finished attempt ran, for
+-- its own r where that is finite".
 use Prim.Native.Nat.{ℕ, _+_, _-_, _≤_}
 use mathlib.Core.Path.{_≡_}
 use mathlib.Core.Bool.{Bool, true, false, cond, not, _&&_}
@@ -21,7 +23,6 @@ use Rattle.workspace.specs.declared.Arguments.{Arguments}
 use Rattle.workspace.specs.Vectors.{unpack}
 use Rattle.workspace.specs.Kernel.{error-norm}
 use Rattle.driver.specs.declared.Phase.the-variants as P
-use Rattle.driver.specs.declared.Record.{Record}
 use Rattle.driver.specs.declared.Answer.the-variants.{Finished}
 use Rattle.driver.specs.Answers.{case-number}
 use Rattle.driver.specs.Calls.{Held, Called, Call, Start, Attempt, Reply, Accept, Accept-with-callback, Abandon, made, taken}
@@ -47,7 +48,8 @@ taken-since {h} {c = c} m = taken-of (made (held-after h (m .before)) c .held) (
 -- the cases of the answers to those of a list that are taken
 unfoldable pub cases-of : Held → List Call → List ℕ
 cases-of h [] = []
-cases-of h (c ∷ cs) = let rest = cases-of (made h c .held) cs in cond (taken (made h c .answer)) (case-number (made h c .answer) ∷ rest) rest
+cases-of h (c ∷ cs) = let rest = cases-of (made h c .held) cs in
+    cond (taken (made h c .answer)) (case-number (made h c .answer) ∷ rest) rest
 
 abbrev pub cases-since : {h : Held} {calls : List Call} {c : Call} → Taken-among h calls c → List ℕ
 cases-since {h} {c = c} m = cases-of (made (held-after h (m .before)) c .held) (m .since)
@@ -76,15 +78,15 @@ pub record Latest-start (h : Held) (calls : List Call) : Type 0 where
 
 -- ---- the statement
 
--- s, k and r, as a record holds them
-abbrev pub stages-of : Record → ℕ
-stages-of r = r .staging .stages
+-- s, k and r, as the record holds them
+abbrev pub stages-of : Held → ℕ
+stages-of x = x .kept .staging .stages
 
-abbrev pub passes-of : Record → ℕ
-passes-of r = r .iteration .pass
+abbrev pub passes-of : Held → ℕ
+passes-of x = x .kept .iteration .pass
 
-abbrev pub scaled-radius-of : Record → Float
-scaled-radius-of r = r .iteration .«scaled_radius»
+abbrev pub scaled-radius-of : Held → Float
+scaled-radius-of x = x .kept .iteration .«scaled_radius»
 
 -- demand 3 of an attempt of s stages for the scaled radius r: RKL1, RKL2, RKG1, RKG2
 pub record Demand-three (g : Orthogonal) (r : Float) (s : ℕ) : Type 0 where
@@ -93,7 +95,8 @@ pub record Demand-three (g : Orthogonal) (r : Float) (s : ℕ) : Type 0 where
   pub rows-close : (j : ℕ) → 2 ≤ j → j ≤ s → (c : Recurrence) → Close-row g s j (coefficients (made-of g) s j c)
   pub stable : Stable g s
 
--- The last of these calls from h on is answered "finished"; x is its answer and what it leaves. An attempt was taken, and the calls taken since are s + k replies and no other call, answered by evaluations and at last by finished.
+-- The last of these calls from h on is answered "finished"; x is its answer and what it leaves. An attempt was taken, and the calls taken since are s + k
+-- replies and no other call, answered by evaluations and at last by finished, with the norm of the vectors that are left.
 pub record Concluded (h : Held) (calls : List Call) (x : Called) : Type 0 where
   pub start : Latest-start h calls
   pub family-is : x .held .kept .family ≡ start .family
@@ -101,17 +104,17 @@ pub record Concluded (h : Held) (calls : List Call) (x : Called) : Type 0 where
   pub arguments : Arguments
   pub attempt : Taken-among h calls (Attempt arguments)
   pub arguments-are : x .held .kept .arguments ≡ arguments
+  pub phase-is : x .held .kept .phase ≡ P.Finished
   pub replies : List (List Float)
   pub only-replies : taken-since attempt ≡ map Reply replies
-  pub replies-are : length replies ≡ stages-of (x .held .kept) + passes-of (x .held .kept)
+  pub replies-are : length replies ≡ stages-of (x .held) + passes-of (x .held)
   pub answers-are : cases-since attempt ≡ replicate (length replies - 1) 1 ++ 2 ∷ []
-  pub norm-is : x .answer ≡ Finished (error-norm (family-of (start .family)) (start .n) (stages-of (x .held .kept)) arguments (unpack (start .n) (x .held .area)))
-  pub one-pass : 1 ≤ passes-of (x .held .kept)
-  pub twelve-passes : passes-of (x .held .kept) ≤ 12
-  pub stages-are : stages-of (x .held .kept) ≡ stage-count (family-of (start .family)) (scaled-radius-of (x .held .kept))
-  pub phase-is : x .held .kept .phase ≡ P.Finished
-  pub evaluations-are : x .held .counters .evaluations ≡ found attempt .counters .evaluations + (stages-of (x .held .kept) + passes-of (x .held .kept))
+  pub norm-is : x .answer ≡ Finished (error-norm (family-of (start .family)) (start .n) (stages-of (x .held)) arguments (unpack (start .n) (x .held .area)))
+  pub one-pass : 1 ≤ passes-of (x .held)
+  pub twelve-passes : passes-of (x .held) ≤ 12
+  pub evaluations-are : x .held .counters .evaluations ≡ found attempt .counters .evaluations + (stages-of (x .held) + passes-of (x .held))
   pub attempts-are : x .held .counters .«finished_attempts» ≡ found attempt .counters .«finished_attempts» + 1
-  pub not-negative : lt (scaled-radius-of (x .held .kept)) nought ≡ false
-  pub largest-at-infinity : scaled-radius-of (x .held .kept) ≡ inf false → stages-of (x .held .kept) ≡ largest-count (family-of (start .family))
-  pub demand-three : (g : Orthogonal) → family-of (start .family) ≡ made-of g → Demand-three g (scaled-radius-of (x .held .kept)) (stages-of (x .held .kept))
+  pub stages-are : stages-of (x .held) ≡ stage-count (family-of (start .family)) (scaled-radius-of (x .held))
+  pub not-negative : lt (scaled-radius-of (x .held)) nought ≡ false
+  pub largest-at-infinity : scaled-radius-of (x .held) ≡ inf false → stages-of (x .held) ≡ largest-count (family-of (start .family))
+  pub demand-three : (g : Orthogonal) → family-of (start .family) ≡ made-of g → Demand-three g (scaled-radius-of (x .held)) (stages-of (x .held))
