@@ -28,3 +28,9 @@ pub mod Sequences
 pub mod Skipped
 pub mod Among
 pub mod Case
+pub mod Later
+pub mod Outcomes
+pub mod Underway
+pub mod Latest
+pub mod Trails
+pub mod Concluded

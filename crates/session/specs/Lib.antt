@@ -3,3 +3,4 @@ pub mod Claim
 pub mod Refusals
 pub mod Alike
 pub mod Session
+pub mod Concluded

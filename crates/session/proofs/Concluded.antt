@@ -1,0 +1,114 @@
+-- The theorem over sequences: in any calls from a start that is taken, an answer "finished" is that of an attempt that was taken, by the s + k-th reply
+-- since, and the record holds its s, k and r. By an invariant over the calls, one after another (Latest, Trails), and the laws of family and coefficients.
+use mathlib.Core.Path.{_≡_, refl, sym, ap, _∙_, subst}
+use mathlib.Core.Bool.{true, false}
+use mathlib.Core.List.{List, [], _∷_, _++_, append-assoc, append-nil}
+use Prim.Native.Nat.{ℕ}
+use native.Mathlib.Omega.{arith}
+use lib.Dec.{T}
+use lib.ListN.{length}
+use lib.Ieee.{Float, lt}
+use Rattle.ieee.specs.Double.{nought}
+use Rattle.family.specs.Family.{Family, Orthogonal, made-of, family-of, permitted, stage-count}
+use Rattle.family.specs.Reach.{Serves}
+use Rattle.family.proofs.Counts.{stage-count-permitted, serves}
+use Rattle.family.proofs.Special.{infinite-count}
+use Rattle.coefficients.specs.Rows.{recurrence}
+use Rattle.coefficients.proofs.CloseRows.{close-row, close-first}
+use Rattle.coefficients.proofs.Stable.{stable}
+use Rattle.driver.specs.declared.Phase.{Phase}
+use Rattle.driver.specs.Answers.{case-number}
+use Rattle.driver.specs.Calls.{Held, Called, first-at, start, Call, Start, made, taken}
+use Rattle.session.specs.Session.{held-after}
+use Rattle.session.specs.Concluded.{found, stages-of, scaled-radius-of, Demand-three, Concluded}
+use Rattle.session.proofs.Truth.{differ}
+use Rattle.session.proofs.Later.{held-append}
+use Rattle.session.proofs.Outcomes.{Outcome, away, starts, outcome}
+use Rattle.session.proofs.Underway.{active, In-stages, Position, Left-finished, leaves-finished}
+use Rattle.session.proofs.Latest.{Started, starts-now, started-on}
+use Rattle.session.proofs.Trails.{cases-at, Trail, trail-on}
+
+-- ---- after any calls
+
+record Holds (h : Held) (calls : List Call) (x : Held) : Type 0 where
+  started : Started h calls x
+  trail : active (x .kept .phase) ≡ true → Trail h calls x
+
+holds-on : (h : Held) (calls : List Call) (c : Call) → Holds h calls (held-after h calls) → Holds h (calls ++ c ∷ []) (made (held-after h calls) c .held)
+holds-on h calls c i = let x = made (held-after h calls) c in
+    let o = outcome (held-after h calls) c in
+    record { started = started-on h calls (i .started) c x refl o; trail = trail-on h calls (i .trail) c x refl o }
+
+holds-along : (h : Held) (calls cs : List Call) → Holds h calls (held-after h calls) → Holds h (calls ++ cs) (held-after h (calls ++ cs))
+unfolding held-after
+holds-along h calls [] i = rw append-nil i
+holds-along h calls (c ∷ cs) i =
+    subst (λ (ds : List Call). Holds h ds (held-after h ds)) (append-assoc calls (c ∷ []) cs)
+    (holds-along h (calls ++ c ∷ []) cs (subst (Holds h (calls ++ c ∷ [])) (sym (held-append h calls (c ∷ []))) (holds-on h calls c i)))
+
+module _ (h : Held) (f n : ℕ) (y : List Float) (t : Float) where
+  begun : (x : Called) → made h (Start f n y t) ≡ x → Outcome h (Start f n y t) x → taken (x .answer) ≡ true → Holds h (Start f n y t ∷ []) (x .held)
+  unfolding held-after first-at active
+  begun x is (away i e) q = absurd (differ (sym e ∙ q))
+  begun x is (starts area) q = record { started = starts-now h [] f n y t x is (starts area) q; trail = λ on. absurd (differ on) }
+
+  holds : (cs : List Call) → taken (start h f n y t .answer) ≡ true → Holds h (Start f n y t ∷ cs) (held-after h (Start f n y t ∷ cs))
+  unfolding held-after made
+  holds cs q = holds-along h (Start f n y t ∷ []) cs (begun (start h f n y t) refl (outcome h (Start f n y t)) q)
+
+-- ---- an answer "finished"
+
+demanded : (g : Orthogonal) (r : Float) (s : ℕ) → lt r nought ≡ false → s ≡ stage-count (made-of g) r → Demand-three g r s
+unfolding recurrence
+demanded g r s positive e =
+    let permits : T (permitted (made-of g) s) = subst (λ (i : ℕ). T (permitted (made-of g) i)) (sym e) (stage-count-permitted (made-of g) r) in record {
+      serves = λ fin. subst (Serves g r) (sym e) (serves g r fin positive);
+      first-close = close-first g s permits;
+      rows-close = λ j from to c. close-row g s j permits from to c;
+      stable = stable g s permits;
+    }
+
+concludes : (h : Held) (calls : List Call) (x : Called) → Started h calls (x .held) → Trail h calls (x .held) → Left-finished x → Concluded h calls x
+unfolding cases-at
+concludes h calls x s t z =
+    let m = length (t .replies) in
+    let g = found (t .attempt) in
+    let f = family-of (s .latest .family) in
+    let r = scaled-radius-of (x .held) in
+    let p : In-stages g m 0 1 (x .held) = subst (Position g m (x .held)) (z .phase-is) (t .underway .position) in
+    let stages : stages-of (x .held) ≡ stage-count f r = p .suits .stages-are ∙ ap (λ (i : ℕ). stage-count (family-of i) r) (s .family-is) in record {
+      start = s .latest;
+      family-is = s .family-is;
+      n-is = s .n-is;
+      arguments = t .arguments;
+      attempt = t .attempt;
+      arguments-are = t .underway .arguments-are;
+      phase-is = z .phase-is;
+      replies = t .replies;
+      only-replies = t .only-replies;
+      replies-are = (let e = p .replies-are in omega arith);
+      answers-are = t .answers-are ∙ ap (λ (φ : Phase). cases-at φ m) (z .phase-is);
+      norm-is = z .norm-is ∙ rw (s .family-is, s .n-is, t .underway .arguments-are) refl;
+      one-pass = p .suits .one-pass;
+      twelve-passes = p .suits .twelve-passes;
+      evaluations-are = (let e = t .underway .evaluations-are in let e′ = p .replies-are in omega arith);
+      attempts-are = p .attempts-are;
+      stages-are = stages;
+      not-negative = p .suits .not-negative;
+      largest-at-infinity = λ e. stages ∙ ap (stage-count f) e ∙ infinite-count f;
+      demand-three = λ g is. demanded g r (stages-of (x .held)) (p .suits .not-negative) (stages ∙ ap (λ (f : Family). stage-count f r) is);
+    }
+
+-- From any record, area and counters: a start that is taken, then any calls at all. Whenever the next call is answered "finished", `Concluded` holds of the
+-- calls up to and with it.
+pub concluded : (h : Held) (f n : ℕ) (y : List Float) (t : Float) (cs : List Call) (c : Call)
+    → taken (start h f n y t .answer) ≡ true
+    → case-number (made (held-after h (Start f n y t ∷ cs)) c .answer) ≡ 2
+    → Concluded h (Start f n y t ∷ cs ++ c ∷ []) (made (held-after h (Start f n y t ∷ cs)) c)
+unfolding active
+concluded h f n y t cs c q e =
+    let calls = Start f n y t ∷ cs in
+    let g = held-after h calls in
+    let z = leaves-finished g c (made g c) (outcome g c) e in
+    let i = holds-on h calls c (holds h f n y t cs q) in
+    concludes h (calls ++ c ∷ []) (made g c) (i .started) (i .trail (ap active (z .phase-is))) z

@@ -1,0 +1,193 @@
+-- What a call can come to, each way on a line of its own: the answer, and the record, counters and area it leaves. From the definition of the calls alone.
+use mathlib.Core.Path.{_≡_, refl}
+use mathlib.Core.Bool.{Bool, true, false, cond, _&&_, _||_}
+use mathlib.Core.List.{List}
+use Prim.Native.Nat.{ℕ, _+_, _≤_, _<_}
+use native.Mathlib.Omega.{arith}
+use lib.Dec.{leb, ltb, eqb}
+use borrow.Author.Tests.{eqb-true, leb-true, ltb-true, ltb-false}
+use lib.ListN.{length}
+use lib.Ieee.{Float}
+use Rattle.ieee.specs.Double.{_⊕_, nought}
+use Rattle.family.specs.Family.{Family, family-of, permitted, stage-count}
+use Rattle.coefficients.specs.declared.Coefficients.{Coefficients}
+use Rattle.coefficients.specs.declared.Recurrence.{Recurrence}
+use Rattle.coefficients.specs.Rows.{coefficients, next}
+use Rattle.workspace.specs.declared.Arguments.{Arguments}
+use Rattle.workspace.specs.Vectors.{Vectors, number, unpack, pack, all-finite, state, candidate}
+use Rattle.workspace.specs.Kernel.{perturbation-of, turned, radius-of, ended, scaled, with-row, exchanged, with-candidate, with-last, error-norm}
+use Rattle.workspace.proofs.Areas.{Long, long-last}
+use Rattle.driver.specs.declared.Phase.{Phase}
+use Rattle.driver.specs.declared.Phase.the-variants as P
+use Rattle.driver.specs.declared.Record.{Record}
+use Rattle.driver.specs.declared.Counters.{Counters}
+use Rattle.driver.specs.declared.Answer.{Answer}
+use Rattle.driver.specs.declared.Answer.the-variants.{Evaluate, Finished, Ready, Refused, Empty}
+use Rattle.driver.specs.Calls.{Held, Called, step-to, in-phase, first-at, at-pass, with-radius, at-stage, check, taken}
+use Rattle.driver.specs.Calls.{take-first, take-callback, ask-pass, ask-stage, by-need, begin-stages, take-pass, ask-candidate, take-stage, take-candidate}
+use Rattle.driver.specs.Calls.{replied, whole-area, as-long, pending, in-range, awaiting, good-stage, one-more, counted, spoiled, settled, going-on}
+use Rattle.driver.specs.Calls.{start, attempted, attempt, reply, accepted, accept, called-back, accept-with-callback, abandon, made}
+use Rattle.driver.specs.Calls.{Call, Start, Attempt, Reply, Accept, Accept-with-callback, Abandon}
+use Rattle.session.proofs.Truth.{and-left, and-right}
+use Rattle.session.proofs.Needs.{need-is}
+use Rattle.session.proofs.Lengths.{long-area}
+
+abbrev pub leaving : Answer → Record → Counters → List Float → Called
+leaving y r c area = record { answer = y; held = record { kept = r; counters = c; area = area } }
+
+-- the scaled radius after a pass that left the vectors w, and its count of stages
+abbrev pub radius-after : Record → Vectors → Float
+radius-after r w = scaled (r .arguments .step) (radius-of (r .iteration .perturbation) w)
+
+abbrev pub count-after : Record → Vectors → ℕ
+count-after r w = stage-count (family-of (r .family)) (radius-after r w)
+
+-- the norm of a finished attempt that left the vectors w
+abbrev pub norm-after : Record → Vectors → Float
+norm-after r w = error-norm (family-of (r .family)) (r .n) (r .staging .stages) (r .arguments) w
+
+-- an evaluation more, and a finished attempt
+abbrev pub one-more-each : Counters → Counters
+one-more-each c = record { evaluations = c .evaluations + 1; «finished_attempts» = c .«finished_attempts» + 1 }
+
+module _ (h : Held) where
+  abbrev r : Record
+  r = h .kept
+
+  abbrev c : Counters
+  c = h .counters
+
+  abbrev s : ℕ
+  s = h .kept .staging .stages
+
+  abbrev j : ℕ
+  j = h .kept .staging .stage
+
+  pub data Outcome : Call → Called → Type 0 where
+    away : {q : Call} (i : ℕ) → taken (Refused i) ≡ false → Outcome q (leaving (Refused i) r c (h .area))
+    starts : {f n : ℕ} {y : List Float} {t : Float} (area : List Float)
+        → Outcome (Start f n y t) (leaving (Evaluate t (number state)) (first-at P.First f n t r) c area)
+    attempts : {a : Arguments} (v : Vectors) (t : Float) (b : ℕ) (area : List Float)
+        → Outcome (Attempt a) (leaving (Evaluate t b) (at-pass a 1 (perturbation-of v) nought r) c area)
+    spoils : {d : List Float} (i : ℕ) (area : List Float) → Outcome (Reply d) (leaving (Refused i) (in-phase P.Empty r) (one-more c) area)
+    readies : {d : List Float} (area : List Float) → Outcome (Reply d) (leaving Ready (in-phase P.Ready r) (one-more c) area)
+    iterates : {d : List Float} (t radius : Float) (b : ℕ) (area : List Float) → r .phase ≡ P.Pass
+        → Outcome (Reply d) (leaving (Evaluate t b) (at-pass (r .arguments) (r .iteration .pass + 1) (r .iteration .perturbation) radius r) (one-more c) area)
+    begins : {d : List Float} (w : Vectors) (t : Float) (b : ℕ) (x : Recurrence) (area : List Float) → r .phase ≡ P.Pass → r .iteration .pass ≤ 12
+        → Outcome (Reply d) (leaving (Evaluate t b) (at-stage (count-after r w) 2 x (with-radius (radius-after r w) r)) (one-more c) area)
+    goes-on : {d : List Float} (t : Float) (b : ℕ) (x : Recurrence) (area : List Float) → r .phase ≡ P.Stage → j < s
+        → Outcome (Reply d) (leaving (Evaluate t b) (at-stage s (j + 1) x r) (one-more c) area)
+    asks-candidate : {d : List Float} (t : Float) (b : ℕ) (area : List Float) → r .phase ≡ P.Stage → j ≡ s
+        → Outcome (Reply d) (leaving (Evaluate t b) (in-phase P.Candidate r) (one-more c) area)
+    finishes : {d : List Float} (w : Vectors) → r .phase ≡ P.Candidate → Long (r .n) w
+        → Outcome (Reply d) (leaving (Finished (norm-after r w)) (in-phase P.Finished r) (one-more-each c) (pack w))
+    accepts : (area : List Float) → Outcome Accept (leaving Ready (in-phase P.Ready r) c area)
+    calls-back : {y : List Float} {t : Float} (area : List Float)
+        → Outcome (Accept-with-callback y t) (leaving (Evaluate t (number state)) (first-at P.Callback (r .family) (r .n) t r) c area)
+    abandons : Outcome Abandon (leaving Empty (in-phase P.Empty r) c (h .area))
+
+  tested : {q : Call} (k : ℕ) (test : Bool) (go : Called) → taken (Refused k) ≡ false → (test ≡ true → Outcome q go) → Outcome q (check h k test go)
+  unfolding check
+  tested k true go e on = on refl
+  tested k false go e on = away k e
+
+  -- the first three tests, and what follows them
+  three : {q : Call} (a b w : Bool) (go : Called) → (a ≡ true → b ≡ true → w ≡ true → Outcome q go) → Outcome q (check h 1 a (check h 2 b (check h 3 w go)))
+  unfolding taken
+  three a b w go on = tested 1 _ _ refl (λ p. tested 2 _ _ refl (λ q. tested 3 _ _ refl (λ u. on p q u)))
+
+  -- ---- a reply that passed its tests
+
+  module _ (d : List Float) where
+    abbrev Comes : Called → Type 0
+    Comes x = Outcome (Reply d) x
+
+    -- another pass
+    abbrev again : Float → Record
+    again radius = at-pass (r .arguments) (r .iteration .pass + 1) (r .iteration .perturbation) radius r
+
+    on-pass : (t : Bool) (w : Vectors) (radius : Float) → r .phase ≡ P.Pass → r .iteration .pass ≤ 12
+        → Comes (settled c (cond t (begin-stages r w (radius-after r w)) (ask-pass (again radius) w)))
+    unfolding settled going-on counted begin-stages by-need ask-stage ask-pass at-pass
+    on-pass true w radius p twelve = rw (need-is (family-of (r .family)) (radius-after r w)) (begins w _ _ _ _ p twelve)
+    on-pass false w radius p twelve = iterates _ radius _ _ p
+
+    on-last-stage : (w : Vectors) → r .phase ≡ P.Stage → j ≡ s → Comes (settled c (ask-candidate r w))
+    unfolding settled going-on counted ask-candidate
+    on-last-stage w p e = go (all-finite (w candidate))
+      where
+        asked : Answer
+        asked = Evaluate (r .arguments .time ⊕ r .arguments .step) (number candidate)
+
+        go : (t : Bool) → Comes (settled c (cond t (step-to asked (in-phase P.Candidate r) w) (step-to (Refused 10) (in-phase P.Empty r) w)))
+        go true = asks-candidate _ _ _ p e
+        go false = spoils 10 _
+
+    on-stage : (v : Vectors) → r .phase ≡ P.Stage → good-stage (r .family) s j ≡ true → Comes (settled c (take-stage r v d))
+    unfolding settled going-on counted take-stage ask-stage at-stage
+    on-stage v p good = go (ltb j s) refl
+      where
+        f : Family
+        f = family-of (r .family)
+
+        to : j ≤ s
+        to = leb-true j s (and-right (leb 2 j) (leb j s) (and-right (permitted f s) (leb 2 j && leb j s) good))
+
+        row : Coefficients
+        row = coefficients f s j (r .staging .recurrence)
+
+        w : Vectors
+        w = with-row f (r .n) (r .arguments .step) row v d
+
+        on : Record
+        on = at-stage s (j + 1) (next f s (r .staging .recurrence) row) r
+
+        go : (t : Bool) → ltb j s ≡ t → Comes (settled c (cond t (ask-stage on (exchanged w)) (ask-candidate r (with-candidate w))))
+        go true e = goes-on _ _ _ _ p (ltb-true j s e)
+        go false e = on-last-stage (with-candidate w) p (let l = ltb-false j s e in omega (arith, to))
+
+    by-phase : (φ : Phase) (v : Vectors) → r .phase ≡ φ → pending φ && in-range φ r ≡ true → Long (r .n) v → length d ≡ r .n
+        → Comes (settled c (replied φ r v d))
+    unfolding replied pending in-range take-first take-callback take-pass take-candidate settled going-on counted
+    by-phase P.Empty v p good lv ld = readies _
+    by-phase P.First v p good lv ld = readies _
+    by-phase P.Ready v p good lv ld = readies _
+    by-phase P.Pass v p good lv ld = let i = r .iteration in
+        let w = turned (r .n) v d in
+        let radius = radius-of (i .perturbation) w in
+        on-pass (ended (i .pass) (i .«previous_radius») radius || eqb (i .pass) 12) w radius p
+        (leb-true (i .pass) 12 (and-right (leb 1 (i .pass)) (leb (i .pass) 12) good))
+    by-phase P.Stage v p good lv ld = on-stage v p good
+    by-phase P.Candidate v p good lv ld = let f = family-of (r .family) in
+        finishes (with-last f (r .n) (r .arguments) v d) p (long-last (r .n) f (r .arguments) v d lv ld)
+    by-phase P.Finished v p good lv ld = readies _
+    by-phase P.Callback v p good lv ld = readies _
+
+    on-reply : Comes (reply h d)
+    unfolding reply taken spoiled counted awaiting as-long
+    on-reply = three _ _ _ _ (λ _ _ lengths. tested 4 _ _ refl (λ good. tested 8 _ _ refl (λ _. go lengths good (all-finite d))))
+      where
+        v : Vectors
+        v = unpack (r .n) (h .area)
+
+        W : Bool
+        W = whole-area (r .family) (r .n) (h .area)
+
+        go : W && as-long (r .n) d ≡ true → awaiting r ≡ true → (t : Bool) → Comes (cond t (settled c (replied (r .phase) r v d)) (spoiled h))
+        go lengths good true =
+            by-phase (r .phase) v refl good (long-area (r .family) (r .n) (h .area) (and-left W (as-long (r .n) d) lengths))
+            (eqb-true (length d) (r .n) (and-right W (as-long (r .n) d) lengths))
+        go lengths good false = spoils 9 (h .area)
+
+  -- ---- every call
+
+  pub outcome : (q : Call) → Outcome q (made h q)
+  unfolding made start attempt going-on attempted ask-pass accept accepted accept-with-callback called-back abandon taken
+  outcome (Start f n y t) = three _ _ _ _ (λ _ _ _. tested 5 _ _ refl (λ _. tested 6 _ _ refl (λ _. starts _)))
+  outcome (Attempt a) =
+      three _ _ _ _ (λ _ _ _. tested 4 _ _ refl (λ _. tested 6 _ _ refl (λ _. tested 7 _ _ refl (λ _. attempts (unpack (r .n) (h .area)) _ _ _))))
+  outcome (Reply d) = on-reply d
+  outcome Accept = three _ _ _ _ (λ _ _ _. tested 4 _ _ refl (λ _. accepts _))
+  outcome (Accept-with-callback y t) =
+      three _ _ _ _ (λ _ _ _. tested 4 _ _ refl (λ _. tested 5 _ _ refl (λ _. tested 6 _ _ refl (λ _. calls-back _))))
+  outcome Abandon = three _ _ _ _ (λ _ _ _. tested 4 _ _ refl (λ _. abandons))
