@@ -1,5 +1,5 @@
 pub mod Numbers
-mod Arms
+mod Bits
 mod Small
 mod Doubles
 mod RowTable
