@@ -24,12 +24,12 @@ use Rattle.fractions.proofs.Ring.{var, _:*_}
 use Rattle.ieee.specs.Double.{nought}
 use Rattle.coefficients.specs.declared.Recurrence.{Recurrence}
 use Rattle.coefficients.specs.declared.Coefficients.{Coefficients}
-use Rattle.coefficients.specs.Rows.{coefficients, omega-one-of, first-mu-tilde, legendre-one, legendre-two, gegenbauer-one, gegenbauer-two, with-theta}
+use Rattle.coefficients.specs.Rows.{coefficients, recurrence, omega-one-of, legendre-one, legendre-two, gegenbauer-one, gegenbauer-two, with-theta}
 use Rattle.coefficients.specs.Closeness.{Close-row, Same-row}
 use Rattle.ieee.specs.Close.{signed, sign, value, Close}
 use Rattle.ieee.proofs.Fit.{Fit, fit-same, fit-neg, fit-times, fit-close, num-pos, times-signed, natAbs-signed}
 use Rattle.coefficients.proofs.Doubles.{b-of, mu-with, nu-with, a-with, mu-of, nu-of, a-of}
-use Rattle.coefficients.proofs.RowTable.{Both-zero, mu-fit, nu-fit, a-fit, omega-fit, first-fit}
+use Rattle.coefficients.proofs.RowTable.{Both-zero, mu-fit, nu-fit, a-fit, omega-fit, stage-one-of, first-fit}
 
 -- ---- mu_tilde is mu · omega_one
 mu-tilde-fit : (f : Orthogonal) (s j : ℕ) → 2 ≤ s → s ≤ 200 → 2 ≤ j → j ≤ 200 → Fit 201 17 false (mul binary64 (mu-of f j) (omega-one-of (made-of f) s)) (mu-tilde f s j)
@@ -139,8 +139,9 @@ same-row Legendre2 s j c c' = record { same-mu = refl; same-nu = refl; same-mu-t
 same-row Gegenbauer1 s j c c' = record { same-mu = refl; same-nu = refl; same-mu-tilde = refl; same-gamma-tilde = refl }
 same-row Gegenbauer2 s j c c' = record { same-mu = refl; same-nu = refl; same-mu-tilde = refl; same-gamma-tilde = refl }
 
-pub close-first : (f : Orthogonal) (s : ℕ) → T (permitted (made-of f) s) → Close 48 (first-mu-tilde (made-of f) s) (Paper.first-mu-tilde f s)
-close-first f s t = let r = permitted-range (made-of f) s t in fit-close 100 8 false (first-mu-tilde (made-of f) s) (Paper.first-mu-tilde f s) (lit≤ tt) (first-fit f s (r .0) (r .1))
+-- stage 1 takes its coefficient from the recurrence, as the calls do: theta before stage 2 is `first_mu_tilde`
+pub close-first : (f : Orthogonal) (s : ℕ) → T (permitted (made-of f) s) → Close 48 (recurrence (made-of f) s .«theta_previous») (Paper.first-mu-tilde f s)
+close-first f s t = let r = permitted-range (made-of f) s t in fit-close 100 8 false (stage-one-of f s) (Paper.first-mu-tilde f s) (lit≤ tt) (first-fit f s (r .0) (r .1))
 
 -- where the fraction is 0 the double is
 pub zero-where : (n : ℕ) (x : Float) (q : Frac) → Close n x q → q .num ≡ pos 0 → num x ≡ 0
