@@ -1,6 +1,6 @@
 // `run_rkc` of chebyshev.rs: omega_zero, omega_one, and the recurrence of the Chebyshev polynomials.
 ghost use mathlib.Core.Path.{_≡_};
-ghost use Prim.Native.Nat.{_-_, _≤_, _<_, _^_, min};
+ghost use Prim.Native.Nat.{_-_, min};
 ghost use Rattle.coefficients.specs.Rows as rows;
 ghost use Rattle.coefficients.specs.Table.{omega};
 use crate::Coefficients;
@@ -231,7 +231,6 @@ pub fn omega_one(s: u64) -> f64
 }
 
 pub fn omega_zero(s: u64) -> f64
-    requires { ⌜ s < 2 ^ 16 ⌝ }
     ensures { λ r. ⌜ r ≡ rows.omega-zero s ⌝ }
 {
     let x = ieee::double_of(s);
@@ -239,7 +238,6 @@ pub fn omega_zero(s: u64) -> f64
 }
 
 pub fn first_b(s: u64) -> f64
-    requires { ⌜ s < 2 ^ 16 ⌝ }
     ensures { λ r. ⌜ r ≡ rows.b-first s ⌝ }
 {
     let x = 2.0 * omega_zero(s);
@@ -247,7 +245,6 @@ pub fn first_b(s: u64) -> f64
 }
 
 pub fn first_polynomials(omega: f64, s: u64) -> Polynomials
-    requires { ⌜ s < 2 ^ 16 ⌝ }
     ensures { λ r. ⌜ r ≡ rows.first-polynomials omega s ⌝ }
 {
     let w = omega_zero(s);
@@ -287,7 +284,6 @@ pub fn next_polynomials(w: f64, p: Polynomials) -> Polynomials
 
 // The row, from the count s and what is carried.
 pub fn row(s: u64, c: Recurrence) -> Coefficients
-    requires { ⌜ s < 2 ^ 16 ⌝ }
     ensures { λ r. ⌜ r ≡ rows.chebyshev s c ⌝ }
 {
     let w = omega_zero(s);

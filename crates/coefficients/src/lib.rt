@@ -1,6 +1,6 @@
 // The coefficients of a stage's row: orthogonal.rs, and `run_rkc` of chebyshev.rs. A family is given by its number.
 ghost use mathlib.Core.Path.{_≡_};
-ghost use Prim.Native.Nat.{_≤_, _<_, _^_};
+ghost use Prim.Native.Nat.{_+_, _≤_, _<_, _^_};
 ghost use Rattle.family.specs.Family.{family-of};
 ghost use Rattle.coefficients.specs.Rows as rows;
 
@@ -41,7 +41,6 @@ pub struct Recurrence {
 }
 
 pub fn omega_one(family: u64, s: u64) -> f64
-    requires { ⌜ s < 2 ^ 16 ⌝ }
     ensures { λ r. ⌜ r ≡ rows.omega-one-of (family-of family) s ⌝ }
 {
     let x = ieee::double_of(s);
@@ -56,7 +55,6 @@ pub fn omega_one(family: u64, s: u64) -> f64
 
 // From omega_one, here `w`.
 fn first_from(family: u64, s: u64, w: f64) -> f64
-    requires { ⌜ s < 2 ^ 16 ⌝ }
     requires { ⌜ w ≡ rows.omega-one-of (family-of family) s ⌝ }
     ensures { λ r. ⌜ r ≡ rows.first-mu-tilde (family-of family) s ⌝ }
 {
@@ -70,7 +68,6 @@ fn first_from(family: u64, s: u64, w: f64) -> f64
 }
 
 pub fn first_mu_tilde(family: u64, s: u64) -> f64
-    requires { ⌜ s < 2 ^ 16 ⌝ }
     ensures { λ r. ⌜ r ≡ rows.first-mu-tilde (family-of family) s ⌝ }
 {
     let w = omega_one(family, s);
@@ -79,7 +76,6 @@ pub fn first_mu_tilde(family: u64, s: u64) -> f64
 
 // What is carried into stage 2.
 pub fn first_recurrence(family: u64, s: u64) -> Recurrence
-    requires { ⌜ s < 2 ^ 16 ⌝ }
     ensures { λ r. ⌜ r ≡ rows.recurrence (family-of family) s ⌝ }
 {
     let w = omega_one(family, s);
@@ -92,10 +88,9 @@ pub fn first_recurrence(family: u64, s: u64) -> Recurrence
     }
 }
 
-// The row of stage j.
+// The row of stage j, below 2^32 - 1 so that the products in RKG's b are numbers of 64 bits.
 pub fn row_coefficients(family: u64, s: u64, j: u64, c: Recurrence) -> Coefficients
-    requires { ⌜ (2 ≤ j) × (j ≤ s) ⌝ }
-    requires { ⌜ s < 2 ^ 16 ⌝ }
+    requires { ⌜ (2 ≤ j) × (j + 1 < 2 ^ 32) ⌝ }
     ensures { λ r. ⌜ r ≡ rows.coefficients (family-of family) s j c ⌝ }
 {
     match family {
@@ -109,7 +104,6 @@ pub fn row_coefficients(family: u64, s: u64, j: u64, c: Recurrence) -> Coefficie
 
 // What is carried on from a stage with this row.
 pub fn next_recurrence(family: u64, s: u64, c: Recurrence, row: Coefficients) -> Recurrence
-    requires { ⌜ s < 2 ^ 16 ⌝ }
     ensures { λ r. ⌜ r ≡ rows.next (family-of family) s c row ⌝ }
 {
     let polynomials = c.polynomials;
