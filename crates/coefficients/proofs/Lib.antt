@@ -4,6 +4,7 @@ mod Small
 mod Doubles
 mod RowTable
 pub mod CloseRows
+pub mod Zeros
 pub mod CloseTable
 mod Normalized
 mod PaperValues

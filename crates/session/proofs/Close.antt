@@ -48,7 +48,8 @@ module _ (h : Held) (a : Arguments) (o : Finished-attempt) (replies : ℕ) (x : 
 
   -- what `by-need` hands to `first-stage`
   pub first-close : Close 48 (recurrence (family-of (h .kept .family)) (o .stages) .«theta_previous») (Paper.first-mu-tilde g (o .stages))
-  first-close = subst (λ (f : Family). Close 48 (recurrence f (o .stages) .«theta_previous») (Paper.first-mu-tilde g (o .stages))) (sym is) (close-first g (o .stages) may-run)
+  first-close = subst (λ (f : Family). Close 48 (recurrence f (o .stages) .«theta_previous») (Paper.first-mu-tilde g (o .stages))) (sym is)
+      (close-first g (o .stages) may-run)
 
   pub rows-close : (j : ℕ) → 2 ≤ j → j ≤ o .stages → (c : Recurrence) → Close-row g (o .stages) j (coefficients (made-of g) (o .stages) j c)
   rows-close j from to c = close-row g (o .stages) j may-run from to c
