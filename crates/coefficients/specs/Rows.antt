@@ -149,3 +149,8 @@ next-polynomials RKG2 s p = p
 
 unfoldable pub next : Family → ℕ → Recurrence → Coefficients → Recurrence
 next f s c row = record { «theta_previous» = row .theta; «theta_previous_two» = c .«theta_previous»; polynomials = next-polynomials f s (c .polynomials) }
+
+-- what an attempt of s stages carries into stage i + 2
+unfoldable pub carried : Family → ℕ → ℕ → Recurrence
+carried f s zero = recurrence f s
+carried f s (suc i) = let c = carried f s i in next f s c (coefficients f s (i + 2) c)
