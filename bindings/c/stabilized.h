@@ -97,6 +97,7 @@ typedef struct {
 } stabilized_iteration;
 
 typedef struct {
+  double omega_one;
   double b_previous;
   double b_previous_two;
   double value_previous;

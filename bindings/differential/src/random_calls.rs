@@ -107,6 +107,7 @@ fn recurrence(random: &mut Random) -> Recurrence {
         theta_previous: double(random),
         theta_previous_two: double(random),
         polynomials: Polynomials {
+            omega_one: double(random),
             b_previous: double(random),
             b_previous_two: double(random),
             value_previous: double(random),

@@ -139,7 +139,7 @@ pub struct Given<'a> {
     pub area: &'a [f64],
 }
 
-fn words(record: &Record) -> [f64; 24] {
+fn words(record: &Record) -> [f64; 25] {
     let Record {
         arguments,
         iteration,
@@ -167,6 +167,7 @@ fn words(record: &Record) -> [f64; 24] {
         iteration.scaled_radius,
         recurrence.theta_previous,
         recurrence.theta_previous_two,
+        polynomials.omega_one,
         polynomials.b_previous,
         polynomials.b_previous_two,
         polynomials.value_previous,
@@ -176,7 +177,7 @@ fn words(record: &Record) -> [f64; 24] {
         polynomials.second_previous,
         polynomials.second_previous_two,
     ];
-    let mut all = [0.0; 24];
+    let mut all = [0.0; 25];
     for (to, from) in all.iter_mut().zip(numbers) {
         *to = f64::from_bits(from);
     }

@@ -37,10 +37,11 @@ pub struct Iteration {
     pub scaled_radius: f64,
 }
 
-/// RKC's polynomials at the two stages before.
+/// RKC's `omega_one`, and its polynomials at the two stages before.
 #[repr(C)]
 #[derive(Clone, Copy, Debug, Default, PartialEq)]
 pub struct Polynomials {
+    pub omega_one: f64,
     pub b_previous: f64,
     pub b_previous_two: f64,
     pub value_previous: f64,

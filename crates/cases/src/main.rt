@@ -58,9 +58,7 @@ fn near(x: f64, y: f64, parts: f64) -> bool {
 
 // Sommeijer, Shampine and Verwer, "RKC: an explicit solver for parabolic PDEs", J. Comput. Appl. Math. 88 (1998): the real
 // stability interval is (omega_zero + 1) / omega_one, close to 2/3 (s^2 - 1) (1 - 2/15 eps) with eps = 2/13.
-fn interval_agrees(s: u64) -> bool
-    requires { ⌜ s < 2 ^ 16 ⌝ }
-{
+fn interval_agrees(s: u64) -> bool {
     let c = coefficients::first_recurrence(1, s);
     let p = c.polynomials;
     let x = ieee::double_of(s);
@@ -83,9 +81,7 @@ fn intervals() -> Tally {
 }
 
 // The same paper: the time of stage j is close to (j^2 - 1) / (s^2 - 1) of the step, and that of stage s is the whole step.
-fn time_agrees(s: u64, j: u64, theta: f64) -> bool
-    requires { ⌜ (s < 2 ^ 16) × (j < 2 ^ 16) ⌝ }
-{
+fn time_agrees(s: u64, j: u64, theta: f64) -> bool {
     let x = ieee::double_of(s);
     let y = ieee::double_of(j);
     let share = (y * y - 1.0) / (x * x - 1.0);
@@ -123,9 +119,7 @@ fn times() -> Tally {
 // Meyer, Balsara and Aslam, "A stabilized Runge-Kutta-Legendre method for explicit super-time-stepping of parabolic and mixed
 // equations", J. Comput. Phys. 257 (2014): RKL1 is stable for a step of (s^2 + s) / 2 explicit ones, RKL2 for
 // (s^2 + s - 2) / 4, an explicit one being 2 over the spectral radius. So 2 / omega_one is s^2 + s and (s^2 + s - 2) / 2.
-fn reach_agrees(s: u64) -> bool
-    requires { ⌜ s < 2 ^ 16 ⌝ }
-{
+fn reach_agrees(s: u64) -> bool {
     let x = ieee::double_of(s);
     let one = near(
         2.0 / coefficients::omega_one(2, s),

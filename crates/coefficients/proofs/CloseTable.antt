@@ -1,4 +1,5 @@
--- Every entry of RKC's table is within 2 ^ -36, relatively, of T' / T''. Computed in whole numbers, each value times a power of 13 s². Assumes nothing.
+-- Every entry of RKC's table is within 2 ^ -36, relatively, of T' / T'', and so is what every row of an attempt takes.
+-- Computed in whole numbers, each value times a power of 13 s². Assumes nothing.
 use mathlib.Core.Path.{_≡_, refl, sym, ap, ap₂, _∙_, subst}
 use mathlib.Core.Logic.{inl, inr}
 use mathlib.Core.List.{[], _∷_}
@@ -23,6 +24,8 @@ use Rattle.fractions.proofs.Values.{nat, nat-+, nat-*, Is, is-nonneg, divided, 
 use Rattle.coefficients.specs.Chebyshev.{chebyshev, first, second, omega-zero, omega-one}
 use Rattle.ieee.specs.Close.{sign, Close}
 use Rattle.coefficients.specs.Table as Table
+use Rattle.family.specs.Family.{RKC}
+use Rattle.coefficients.specs.Rows.{carried, recurrence, first-polynomials, omega-one-of, next, next-polynomials, polynomials-on}
 use Rattle.ieee.proofs.Fit.{close-of}
 use Rattle.ieee.proofs.Every.{every, among}
 
@@ -242,3 +245,12 @@ close-omega s l h =
   where
     last : s - 1 + 1 ≡ s
     last = omega arith
+
+-- ---- the rows: each takes the entry that was read when the stages began
+pub entry-taken : (s i : ℕ) → carried RKC s i .polynomials .«omega_one» ≡ Table.omega s
+unfolding carried recurrence first-polynomials omega-one-of next next-polynomials polynomials-on
+entry-taken s zero = refl
+entry-taken s (suc i) = entry-taken s i
+
+pub close-taken : (s i : ℕ) → 2 ≤ s → s ≤ 200 → Close 36 (carried RKC s i .polynomials .«omega_one») (omega-one s)
+close-taken s i l h = subst (λ (x : Float). Close 36 x (omega-one s)) (sym (entry-taken s i)) (close-omega s l h)

@@ -1,9 +1,10 @@
 pub mod Numbers
-mod Arms
+mod Bits
 mod Small
 mod Doubles
 mod RowTable
 pub mod CloseRows
+pub mod Zeros
 pub mod CloseTable
 mod Normalized
 mod PaperValues

@@ -1,6 +1,5 @@
 -- The coefficients that depend on j alone, or on s alone, fit the papers' fractions: tests over all j and s, by computation.
 use mathlib.Core.Path.{_≡_, refl, ap, subst}
-use mathlib.Core.Logic.{_⊎_, inl, inr}
 use Prim.Native.Nat.{ℕ, _+_, _-_, _*_, _^_, _≤_}
 use native.Mathlib.Omega.{arith}
 use mathlib.Core.Bool.{Bool, true, false, _&&_, cond, Bool·beq}
@@ -15,7 +14,8 @@ use Rattle.family.specs.Family.{Orthogonal, Legendre1, Legendre2, Gegenbauer1, 
 use Rattle.coefficients.specs.Paper as Paper
 use Rattle.coefficients.specs.Paper.{omega-one, mu, nu, a, b, b-later, b-zero, b-one, value-at-one, mu-factor, nu-factor}
 use Rattle.ieee.specs.Double.{double, square}
-use Rattle.coefficients.specs.Rows.{omega-one-of, first-mu-tilde, legendre-two-b, gegenbauer-one-b, gegenbauer-two-b}
+use Rattle.coefficients.specs.Closeness.{gamma-zero}
+use Rattle.coefficients.specs.Rows.{omega-one-of, first-mu-tilde, recurrence, legendre-two-b, gegenbauer-one-b, gegenbauer-two-b}
 use Rattle.ieee.specs.Close.{signed, sign}
 use Rattle.ieee.proofs.Rounding.{P}
 use Rattle.ieee.proofs.Fit.{Fit}
@@ -77,52 +77,59 @@ fit-says s x q t =
     same false true t = absurd t
     same false false t = refl
 
--- where the fraction of a is 0, its double is
+-- a, where the list says that gamma_tilde is 0: the fraction is 0 and its double is; else they fit
 unfoldable pub is-zero : ℤ → Bool
 is-zero (pos n) = eqb n 0
 is-zero (negsuc n) = false
 
-unfoldable pub a-fits : Frac → Float → Bool
-a-fits q x = cond (is-zero (q .num)) (finite x && eqb (num x) 0) (fits false x q)
+unfoldable pub a-fits : Bool → Frac → Float → Bool
+a-fits z q x = cond z (is-zero (q .num) && finite x && eqb (num x) 0) (fits false x q)
 
 pub record Both-zero (x : Float) (q : Frac) : Type 0 where
   pub fraction : q .num ≡ pos 0
   pub number : T (finite x)
   pub double-so : num x ≡ 0
 
-a-says : (q : Frac) (x : Float) → T (a-fits q x) → Both-zero x q ⊎ Fit 100 8 false x q
-unfolding a-fits
-a-says q x t = go (is-zero (q .num)) (nothing (q .num)) t
+unfoldable pub Zero-or-fit : Bool → ℕ → ℕ → Bool → Float → Frac → Type 0
+Zero-or-fit true k n s x q = Both-zero x q
+Zero-or-fit false k n s x q = Fit k n s x q
+
+a-says : (z : Bool) (q : Frac) (x : Float) → T (a-fits z q x) → Zero-or-fit z 100 8 false x q
+unfolding a-fits Zero-or-fit
+a-says true q x t =
+    let u = and-l (is-zero (q .num) && finite x) (eqb (num x) 0) t in
+    record {
+      fraction = nothing (q .num) (and-l (is-zero (q .num)) (finite x) u);
+      number = and-r (is-zero (q .num)) (finite x) u;
+      double-so = eqb→eq (num x) 0 (and-r (is-zero (q .num) && finite x) (eqb (num x) 0) t);
+    }
   where
     nothing : (k : ℤ) → T (is-zero k) → k ≡ pos 0
     nothing (pos n) t = unfold is-zero in (ap pos (eqb→eq n 0 t))
     nothing (negsuc n) t = absurd (unfold is-zero in t)
-
-    go : (b : Bool) → (T b → q .num ≡ pos 0) → T (cond b (finite x && eqb (num x) 0) (fits false x q)) → Both-zero x q ⊎ Fit 100 8 false x q
-    go true z t = inl (record { fraction = z tt; number = and-l (finite x) (eqb (num x) 0) t; double-so = eqb→eq (num x) 0 (and-r (finite x) (eqb (num x) 0) t) })
-    go false z t = inr (fit-says false x q t)
+a-says false q x t = fit-says false x q t
 
 -- ---- the tables: rows 2 to 200, and s from 2 to 200
 unfoldable pub row-fits : Orthogonal → ℕ → Float → Float → Float → Bool
-row-fits f j x y z = fits false (mu-with f j z y) (mu f j) && fits true (nu-with f j z x) (nu f j) && a-fits (a f (j - 1)) (a-with f j y)
+row-fits f j x y z = fits false (mu-with f j z y) (mu f j) && fits true (nu-with f j z x) (nu f j) && a-fits (gamma-zero f j) (a f (j - 1)) (a-with f j y)
 
 unfoldable pub s-fits : Orthogonal → ℕ → Bool
 s-fits f s = fits false (omega-one-of (made-of f) s) (omega-one f s)
 
 rows-Legendre1 : T (every₃ (b-of Legendre1) (row-fits Legendre1) 199 2 (b-of Legendre1 0) (b-of Legendre1 1))
-unfolding every₃ row-fits fits a-fits is-zero b-of mu-with nu-with a-with negative double add sub mul div neg legendre-two-b gegenbauer-one-b gegenbauer-two-b mu nu a value-at-one mu-factor nu-factor b b-later b-zero b-one _⊘_ _⊗_ _⊕_ opp frac int inverse-of _over_
+unfolding every₃ row-fits fits a-fits gamma-zero is-zero b-of mu-with nu-with a-with negative double add sub mul div neg legendre-two-b gegenbauer-one-b gegenbauer-two-b mu nu a value-at-one mu-factor nu-factor b b-later b-zero b-one _⊘_ _⊗_ _⊕_ opp frac int inverse-of _over_
 rows-Legendre1 = tt
 
 rows-Legendre2 : T (every₃ (b-of Legendre2) (row-fits Legendre2) 199 2 (b-of Legendre2 0) (b-of Legendre2 1))
-unfolding every₃ row-fits fits a-fits is-zero b-of mu-with nu-with a-with negative double add sub mul div neg legendre-two-b gegenbauer-one-b gegenbauer-two-b mu nu a value-at-one mu-factor nu-factor b b-later b-zero b-one _⊘_ _⊗_ _⊕_ opp frac int inverse-of _over_
+unfolding every₃ row-fits fits a-fits gamma-zero is-zero b-of mu-with nu-with a-with negative double add sub mul div neg legendre-two-b gegenbauer-one-b gegenbauer-two-b mu nu a value-at-one mu-factor nu-factor b b-later b-zero b-one _⊘_ _⊗_ _⊕_ opp frac int inverse-of _over_
 rows-Legendre2 = tt
 
 rows-Gegenbauer1 : T (every₃ (b-of Gegenbauer1) (row-fits Gegenbauer1) 199 2 (b-of Gegenbauer1 0) (b-of Gegenbauer1 1))
-unfolding every₃ row-fits fits a-fits is-zero b-of mu-with nu-with a-with negative double add sub mul div neg legendre-two-b gegenbauer-one-b gegenbauer-two-b mu nu a value-at-one mu-factor nu-factor b b-later b-zero b-one _⊘_ _⊗_ _⊕_ opp frac int inverse-of _over_
+unfolding every₃ row-fits fits a-fits gamma-zero is-zero b-of mu-with nu-with a-with negative double add sub mul div neg legendre-two-b gegenbauer-one-b gegenbauer-two-b mu nu a value-at-one mu-factor nu-factor b b-later b-zero b-one _⊘_ _⊗_ _⊕_ opp frac int inverse-of _over_
 rows-Gegenbauer1 = tt
 
 rows-Gegenbauer2 : T (every₃ (b-of Gegenbauer2) (row-fits Gegenbauer2) 199 2 (b-of Gegenbauer2 0) (b-of Gegenbauer2 1))
-unfolding every₃ row-fits fits a-fits is-zero b-of mu-with nu-with a-with negative double add sub mul div neg legendre-two-b gegenbauer-one-b gegenbauer-two-b mu nu a value-at-one mu-factor nu-factor b b-later b-zero b-one _⊘_ _⊗_ _⊕_ opp frac int inverse-of _over_
+unfolding every₃ row-fits fits a-fits gamma-zero is-zero b-of mu-with nu-with a-with negative double add sub mul div neg legendre-two-b gegenbauer-one-b gegenbauer-two-b mu nu a value-at-one mu-factor nu-factor b b-later b-zero b-one _⊘_ _⊗_ _⊕_ opp frac int inverse-of _over_
 rows-Gegenbauer2 = tt
 
 stages-Legendre1 : T (every (s-fits Legendre1) 199 2)
@@ -141,11 +148,15 @@ stages-Gegenbauer2 : T (every (s-fits Gegenbauer2) 199 2)
 unfolding every s-fits fits omega-one-of made-of negative double square add sub mul div omega-one frac int _over_
 stages-Gegenbauer2 = tt
 
+-- the coefficient of stage 1, as the recurrence hands it to the calls
+abbrev pub stage-one-of : Orthogonal → ℕ → Float
+stage-one-of f s = recurrence (made-of f) s .«theta_previous»
+
 legendre2-first-fits : ℕ → Bool
-legendre2-first-fits s = fits false (first-mu-tilde (made-of Legendre2) s) (Paper.first-mu-tilde Legendre2 s)
+legendre2-first-fits s = fits false (stage-one-of Legendre2 s) (Paper.first-mu-tilde Legendre2 s)
 
 legendre2-firsts : T (every legendre2-first-fits 199 2)
-unfolding every legendre2-first-fits fits first-mu-tilde omega-one-of made-of negative double square add sub mul div omega-one Paper.first-mu-tilde _⊗_ frac int _over_
+unfolding every legendre2-first-fits fits recurrence first-mu-tilde omega-one-of made-of negative double square add sub mul div omega-one Paper.first-mu-tilde _⊗_ frac int _over_
 legendre2-firsts = tt
 
 -- ---- what they say
@@ -169,25 +180,35 @@ module _ (f : Orthogonal) (j : ℕ) (l : 2 ≤ j) (h : j ≤ 200) where
       subst (λ (i : ℕ). T (row-fits f i (b-of f (j - 2)) (b-of f (j - 1)) (b-of f i))) e
       (subst (λ (i : ℕ). T (row-fits f (j - 2 + 2) (b-of f (j - 2)) (b-of f i) (b-of f (j - 2 + 2)))) e' (among₃ (b-of f) (row-fits f) 199 0 (j - 2) (rows f) (omega arith) (omega arith)))
 
+  abbrev mu-part : Bool
+  mu-part = fits false (mu-of f j) (mu f j)
+
+  abbrev nu-part : Bool
+  nu-part = fits true (nu-of f j) (nu f j)
+
+  abbrev a-part : Bool
+  a-part = a-fits (gamma-zero f j) (a f (j - 1)) (a-of f j)
+
   pub mu-fit : Fit 100 8 false (mu-of f j) (mu f j)
   unfolding row-fits mu-of nu-of a-of
-  mu-fit = fit-says false (mu-of f j) (mu f j) (and-l (fits false (mu-of f j) (mu f j)) (fits true (nu-of f j) (nu f j)) (and-l (fits false (mu-of f j) (mu f j) && fits true (nu-of f j) (nu f j)) (a-fits (a f (j - 1)) (a-of f j)) row))
+  mu-fit = fit-says false (mu-of f j) (mu f j) (and-l mu-part nu-part (and-l (mu-part && nu-part) a-part row))
 
   pub nu-fit : Fit 100 8 true (nu-of f j) (nu f j)
   unfolding row-fits mu-of nu-of a-of
-  nu-fit = fit-says true (nu-of f j) (nu f j) (and-r (fits false (mu-of f j) (mu f j)) (fits true (nu-of f j) (nu f j)) (and-l (fits false (mu-of f j) (mu f j) && fits true (nu-of f j) (nu f j)) (a-fits (a f (j - 1)) (a-of f j)) row))
+  nu-fit = fit-says true (nu-of f j) (nu f j) (and-r mu-part nu-part (and-l (mu-part && nu-part) a-part row))
 
-  pub a-fit : Both-zero (a-of f j) (a f (j - 1)) ⊎ Fit 100 8 false (a-of f j) (a f (j - 1))
+  pub a-fit : Zero-or-fit (gamma-zero f j) 100 8 false (a-of f j) (a f (j - 1))
   unfolding row-fits mu-of nu-of a-of
-  a-fit = a-says (a f (j - 1)) (a-of f j) (and-r (fits false (mu-of f j) (mu f j) && fits true (nu-of f j) (nu f j)) (a-fits (a f (j - 1)) (a-of f j)) row)
+  a-fit = a-says (gamma-zero f j) (a f (j - 1)) (a-of f j) (and-r (mu-part && nu-part) a-part row)
 
 pub omega-fit : (f : Orthogonal) (s : ℕ) → 2 ≤ s → s ≤ 200 → Fit 100 8 false (omega-one-of (made-of f) s) (omega-one f s)
 unfolding s-fits
 omega-fit f s l h = fit-says false (omega-one-of (made-of f) s) (omega-one f s) (among (s-fits f) 199 2 s (stages f) l (omega arith))
 
-pub first-fit : (f : Orthogonal) (s : ℕ) → 2 ≤ s → s ≤ 200 → Fit 100 8 false (first-mu-tilde (made-of f) s) (Paper.first-mu-tilde f s)
-unfolding first-mu-tilde Paper.first-mu-tilde made-of legendre2-first-fits
+pub first-fit : (f : Orthogonal) (s : ℕ) → 2 ≤ s → s ≤ 200 → Fit 100 8 false (stage-one-of f s) (Paper.first-mu-tilde f s)
+unfolding recurrence first-mu-tilde Paper.first-mu-tilde made-of legendre2-first-fits
 first-fit Legendre1 s l h = omega-fit Legendre1 s l h
-first-fit Legendre2 s l h = fit-says false (first-mu-tilde (made-of Legendre2) s) (Paper.first-mu-tilde Legendre2 s) (among legendre2-first-fits 199 2 s legendre2-firsts l (omega arith))
+first-fit Legendre2 s l h = fit-says false (stage-one-of Legendre2 s) (Paper.first-mu-tilde Legendre2 s)
+    (among legendre2-first-fits 199 2 s legendre2-firsts l (omega arith))
 first-fit Gegenbauer1 s l h = omega-fit Gegenbauer1 s l h
 first-fit Gegenbauer2 s l h = omega-fit Gegenbauer2 s l h

@@ -1,4 +1,4 @@
--- T3: `Stable` holds of each family and each permitted number of stages, and in fact of any s from 2 on. From Multiplier (the attempt, the bound), Begins, and the reach against 2/ω1.
+-- `Stable` holds of each family and each permitted number of stages, and in fact of any s from 2 on. From Multiplier (the attempt, the bound), Begins, and the reach against 2/ω1.
 use mathlib.Core.Path.{refl, ap₂}
 use mathlib.Core.List.{[], _∷_}
 use Prim.Native.Nat.{ℕ, zero, suc, _+_, _*_, _≤_}

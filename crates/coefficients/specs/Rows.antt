@@ -32,8 +32,10 @@ first-mu-tilde RKL2 s = omega-one-of RKL2 s ⊘ three
 first-mu-tilde RKG1 s = omega-one-of RKG1 s
 first-mu-tilde RKG2 s = omega-one-of RKG2 s
 
-unfoldable pub first-polynomials : ℕ → Polynomials
-first-polynomials s = record {
+-- w1 is omega_one
+unfoldable pub first-polynomials : Float → ℕ → Polynomials
+first-polynomials w1 s = record {
+  «omega_one» = w1;
   «b_previous» = b-first s;
   «b_previous_two» = b-first s;
   «value_previous» = omega-zero s;
@@ -46,7 +48,7 @@ first-polynomials s = record {
 
 -- before stage 2
 unfoldable pub recurrence : Family → ℕ → Recurrence
-recurrence f s = record { «theta_previous» = first-mu-tilde f s; «theta_previous_two» = nought; polynomials = first-polynomials s }
+recurrence f s = record { «theta_previous» = first-mu-tilde f s; «theta_previous_two» = nought; polynomials = first-polynomials (omega-one-of f s) s }
 
 -- ---- b
 
@@ -104,19 +106,20 @@ second-of w p = two ⊗ w ⊗ p .«second_previous» ⊖ p .«second_previous_tw
 unfoldable pub b-of : Float → Polynomials → Float
 b-of w p = second-of w p ⊘ square (first-of w p)
 
-unfoldable pub chebyshev : Float → ℕ → Recurrence → Coefficients
-chebyshev w1 s c = let w = omega-zero s in
+unfoldable pub chebyshev : ℕ → Recurrence → Coefficients
+chebyshev s c = let w = omega-zero s in
     let p = c .polynomials in
     let b = b-of w p in
     let nu~ = one ⊖ p .«value_previous» ⊗ p .«b_previous» in
     let mu = two ⊗ w ⊗ b ⊘ p .«b_previous» in
     let nu = neg b ⊘ p .«b_previous_two» in
-    let mu~ = mu ⊗ w1 ⊘ w in
+    let mu~ = mu ⊗ p .«omega_one» ⊘ w in
     let theta = mu ⊗ c .«theta_previous» ⊕ nu ⊗ c .«theta_previous_two» ⊕ mu~ ⊗ (one ⊖ nu~) in
     record { mu = mu; nu = nu; «mu_tilde» = mu~; «gamma_tilde» = nu~; theta = theta }
 
+-- RKC takes omega_one as it was read when the stages began; the other families work it out from s in every row
 unfoldable pub coefficients : Family → ℕ → ℕ → Recurrence → Coefficients
-coefficients RKC s j c = chebyshev (omega-one-of RKC s) s c
+coefficients RKC s j c = chebyshev s c
 coefficients RKL1 s j c = legendre-one (omega-one-of RKL1 s) j c
 coefficients RKL2 s j c = legendre-two (omega-one-of RKL2 s) j c
 coefficients RKG1 s j c = gegenbauer-one (omega-one-of RKG1 s) j c
@@ -126,6 +129,7 @@ coefficients RKG2 s j c = gegenbauer-two (omega-one-of RKG2 s) j c
 
 unfoldable pub polynomials-on : Float → Polynomials → Polynomials
 polynomials-on w p = record {
+  «omega_one» = p .«omega_one»;
   «b_previous» = b-of w p;
   «b_previous_two» = p .«b_previous»;
   «value_previous» = value-of w p;
@@ -145,3 +149,8 @@ next-polynomials RKG2 s p = p
 
 unfoldable pub next : Family → ℕ → Recurrence → Coefficients → Recurrence
 next f s c row = record { «theta_previous» = row .theta; «theta_previous_two» = c .«theta_previous»; polynomials = next-polynomials f s (c .polynomials) }
+
+-- what an attempt of s stages carries into stage i + 2
+unfoldable pub carried : Family → ℕ → ℕ → Recurrence
+carried f s zero = recurrence f s
+carried f s (suc i) = let c = carried f s i in next f s c (coefficients f s (i + 2) c)

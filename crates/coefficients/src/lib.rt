@@ -1,6 +1,6 @@
 // The coefficients of a stage's row: orthogonal.rs, and `run_rkc` of chebyshev.rs. A family is given by its number.
 ghost use mathlib.Core.Path.{_≡_};
-ghost use Prim.Native.Nat.{_≤_, _<_, _^_};
+ghost use Prim.Native.Nat.{_+_, _≤_, _<_, _^_};
 ghost use Rattle.family.specs.Family.{family-of};
 ghost use Rattle.coefficients.specs.Rows as rows;
 
@@ -16,10 +16,12 @@ pub struct Coefficients {
     pub theta: f64,
 }
 
-// What RKC carries from stage to stage: b, and the Chebyshev polynomial at omega_zero with its first
-// and second derivative, each of the two stages before. The other families leave it as it is.
+// What RKC carries from stage to stage: omega_one as the attempt read it, b, and the Chebyshev polynomial at omega_zero
+// with its first and second derivative, each of the two stages before. The other families leave it as it is and never
+// read it.
 #[repr(C)]
 pub struct Polynomials {
+    pub omega_one: f64,
     pub b_previous: f64,
     pub b_previous_two: f64,
     pub value_previous: f64,
@@ -39,7 +41,6 @@ pub struct Recurrence {
 }
 
 pub fn omega_one(family: u64, s: u64) -> f64
-    requires { ⌜ s < 2 ^ 16 ⌝ }
     ensures { λ r. ⌜ r ≡ rows.omega-one-of (family-of family) s ⌝ }
 {
     let x = ieee::double_of(s);
@@ -52,11 +53,11 @@ pub fn omega_one(family: u64, s: u64) -> f64
     }
 }
 
-pub fn first_mu_tilde(family: u64, s: u64) -> f64
-    requires { ⌜ s < 2 ^ 16 ⌝ }
+// From omega_one, here `w`.
+fn first_from(family: u64, s: u64, w: f64) -> f64
+    requires { ⌜ w ≡ rows.omega-one-of (family-of family) s ⌝ }
     ensures { λ r. ⌜ r ≡ rows.first-mu-tilde (family-of family) s ⌝ }
 {
-    let w = omega_one(family, s);
     match family {
         1 => w * chebyshev::first_b(s),
         2 => w,
@@ -66,13 +67,20 @@ pub fn first_mu_tilde(family: u64, s: u64) -> f64
     }
 }
 
+pub fn first_mu_tilde(family: u64, s: u64) -> f64
+    ensures { λ r. ⌜ r ≡ rows.first-mu-tilde (family-of family) s ⌝ }
+{
+    let w = omega_one(family, s);
+    first_from(family, s, w)
+}
+
 // What is carried into stage 2.
 pub fn first_recurrence(family: u64, s: u64) -> Recurrence
-    requires { ⌜ s < 2 ^ 16 ⌝ }
     ensures { λ r. ⌜ r ≡ rows.recurrence (family-of family) s ⌝ }
 {
-    let theta = first_mu_tilde(family, s);
-    let polynomials = chebyshev::first_polynomials(s);
+    let w = omega_one(family, s);
+    let theta = first_from(family, s, w);
+    let polynomials = chebyshev::first_polynomials(w, s);
     Recurrence {
         theta_previous: theta,
         theta_previous_two: 0.0,
@@ -80,25 +88,22 @@ pub fn first_recurrence(family: u64, s: u64) -> Recurrence
     }
 }
 
-// The row of stage j.
+// The row of stage j, below 2^32 - 1 so that the products in RKG's b are numbers of 64 bits.
 pub fn row_coefficients(family: u64, s: u64, j: u64, c: Recurrence) -> Coefficients
-    requires { ⌜ (2 ≤ j) × (j ≤ s) ⌝ }
-    requires { ⌜ s < 2 ^ 16 ⌝ }
+    requires { ⌜ (2 ≤ j) × (j + 1 < 2 ^ 32) ⌝ }
     ensures { λ r. ⌜ r ≡ rows.coefficients (family-of family) s j c ⌝ }
 {
-    let w = omega_one(family, s);
     match family {
-        1 => chebyshev::row(w, s, c),
-        2 => orthogonal::legendre_one(w, j, c),
-        3 => orthogonal::legendre_two(w, j, c),
-        4 => orthogonal::gegenbauer_one(w, j, c),
-        _ => orthogonal::gegenbauer_two(w, j, c),
+        1 => chebyshev::row(s, c),
+        2 => orthogonal::legendre_one(omega_one(family, s), j, c),
+        3 => orthogonal::legendre_two(omega_one(family, s), j, c),
+        4 => orthogonal::gegenbauer_one(omega_one(family, s), j, c),
+        _ => orthogonal::gegenbauer_two(omega_one(family, s), j, c),
     }
 }
 
 // What is carried on from a stage with this row.
 pub fn next_recurrence(family: u64, s: u64, c: Recurrence, row: Coefficients) -> Recurrence
-    requires { ⌜ s < 2 ^ 16 ⌝ }
     ensures { λ r. ⌜ r ≡ rows.next (family-of family) s c row ⌝ }
 {
     let polynomials = c.polynomials;

@@ -1,12 +1,11 @@
 // orthogonal.rs: the rows of RKL1, RKL2, RKG1 and RKG2, from omega_one, here `w`, and the stage j.
 ghost use mathlib.Core.Path.{_≡_};
-ghost use Prim.Native.Nat.{_≤_, _<_, _^_};
+ghost use Prim.Native.Nat.{_+_, _≤_, _<_, _^_};
 ghost use Rattle.coefficients.specs.Rows as rows;
 use crate::Coefficients;
 use crate::Recurrence;
 
 fn legendre_two_b(j: u64) -> f64
-    requires { ⌜ j < 2 ^ 16 ⌝ }
     ensures { λ r. ⌜ r ≡ rows.legendre-two-b j ⌝ }
 {
     if j <= 2 {
@@ -17,14 +16,13 @@ fn legendre_two_b(j: u64) -> f64
 }
 
 fn gegenbauer_one_b(j: u64) -> f64
-    requires { ⌜ j < 2 ^ 16 ⌝ }
+    requires { ⌜ j + 1 < 2 ^ 32 ⌝ }
     ensures { λ r. ⌜ r ≡ rows.gegenbauer-one-b j ⌝ }
 {
     2.0 / ieee::double_of((j + 1) * (j + 2))
 }
 
 fn gegenbauer_two_b(j: u64) -> f64
-    requires { ⌜ j < 2 ^ 16 ⌝ }
     ensures { λ r. ⌜ r ≡ rows.gegenbauer-two-b j ⌝ }
 {
     if j == 0 {
@@ -50,7 +48,6 @@ fn with_theta(c: Recurrence, mu: f64, nu: f64, mu_tilde: f64, gamma_tilde: f64) 
 }
 
 pub fn legendre_one(w: f64, j: u64, c: Recurrence) -> Coefficients
-    requires { ⌜ (2 ≤ j) × (j < 2 ^ 16) ⌝ }
     ensures { λ r. ⌜ r ≡ rows.legendre-one w j c ⌝ }
 {
     let x = ieee::double_of(j);
@@ -59,7 +56,7 @@ pub fn legendre_one(w: f64, j: u64, c: Recurrence) -> Coefficients
 }
 
 pub fn legendre_two(w: f64, j: u64, c: Recurrence) -> Coefficients
-    requires { ⌜ (2 ≤ j) × (j < 2 ^ 16) ⌝ }
+    requires { ⌜ 2 ≤ j ⌝ }
     ensures { λ r. ⌜ r ≡ rows.legendre-two w j c ⌝ }
 {
     let x = ieee::double_of(j);
@@ -73,7 +70,7 @@ pub fn legendre_two(w: f64, j: u64, c: Recurrence) -> Coefficients
 }
 
 pub fn gegenbauer_one(w: f64, j: u64, c: Recurrence) -> Coefficients
-    requires { ⌜ (2 ≤ j) × (j < 2 ^ 16) ⌝ }
+    requires { ⌜ (2 ≤ j) × (j + 1 < 2 ^ 32) ⌝ }
     ensures { λ r. ⌜ r ≡ rows.gegenbauer-one w j c ⌝ }
 {
     let x = ieee::double_of(j);
@@ -86,7 +83,7 @@ pub fn gegenbauer_one(w: f64, j: u64, c: Recurrence) -> Coefficients
 }
 
 pub fn gegenbauer_two(w: f64, j: u64, c: Recurrence) -> Coefficients
-    requires { ⌜ (2 ≤ j) × (j < 2 ^ 16) ⌝ }
+    requires { ⌜ (2 ≤ j) × (j < 2 ^ 32) ⌝ }
     ensures { λ r. ⌜ r ≡ rows.gegenbauer-two w j c ⌝ }
 {
     let x = ieee::double_of(j);

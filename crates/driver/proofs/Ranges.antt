@@ -37,10 +37,6 @@ stage-in r e =
     let u = both (leb 2 j) (leb j s) (t .1) in
     record { from = leb-true 2 j (u .0); to = leb-true j s (u .1); most = permitted-most f s (t .0) }
 
-pub candidate-in : (r : Record) → in-range P.Candidate r ≡ true → r .staging .stages ≤ 200
-unfolding in-range
-candidate-in r e = permitted-most (family-of (r .family)) (r .staging .stages) e
-
 -- the stages of a need that is met
 count : Need → ℕ
 count (Met s) = s

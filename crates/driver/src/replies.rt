@@ -1,7 +1,7 @@
 // A derivative that is not turned away: what it does in each phase, and what is asked next.
 ghost use mathlib.Core.Path.{_≡_};
 ghost use mathlib.Core.Bool.{true, _||_};
-ghost use Prim.Native.Nat.{_*_, _≤_, _<_, _^_};
+ghost use Prim.Native.Nat.{_+_, _*_, _≤_, _<_, _^_};
 ghost use lib.Dec.{eqb};
 ghost use lib.ListN.{length};
 ghost use Rattle.family.specs.Family.{family-of};
@@ -90,7 +90,6 @@ fn stage_need(family: u64, scaled_radius: f64) -> Need
 
 fn first_stage(record: Record, area: &mut [f64], scaled_radius: f64, stages: u64) -> Next
     requires { ⌜ 11 * «record» .n ≤ length (now area) ⌝ }
-    requires { ⌜ stages < 2 ^ 16 ⌝ }
     ensures { λ r. ⌜ Steps (calls.by-need (need.Need.Met stages) «record» (unpack («record» .n) (now (area .entry))) «scaled_radius») r (unpack («record» .n) (now (area .exit))) ⌝ }
 {
     let n = record.n;
@@ -175,8 +174,7 @@ fn ask_candidate(record: Record, area: &[f64]) -> Next
 pub fn take_stage(record: Record, area: &mut [f64], derivative: &[f64]) -> Next
     requires { ⌜ 11 * «record» .n ≤ length (now area) ⌝ }
     requires { ⌜ length (now derivative) ≡ «record» .n ⌝ }
-    requires { ⌜ (2 ≤ «record» .staging .stage) × («record» .staging .stage ≤ «record» .staging .stages) ⌝ }
-    requires { ⌜ «record» .staging .stages < 2 ^ 16 ⌝ }
+    requires { ⌜ (2 ≤ «record» .staging .stage) × («record» .staging .stage + 1 < 2 ^ 32) ⌝ }
     ensures { λ r. ⌜ Steps (calls.take-stage «record» (unpack («record» .n) (now (area .entry))) (now (derivative .entry))) r (unpack («record» .n) (now (area .exit))) ⌝ }
 {
     let n = record.n;
@@ -228,7 +226,6 @@ pub fn next_stage(record: Record, area: &mut [f64], derivative: &[f64]) -> Stagi
 pub fn take_candidate(record: Record, area: &mut [f64], derivative: &[f64]) -> Next
     requires { ⌜ 11 * «record» .n ≤ length (now area) ⌝ }
     requires { ⌜ length (now derivative) ≡ «record» .n ⌝ }
-    requires { ⌜ («record» .n < 2 ^ 53) × («record» .staging .stages < 2 ^ 53) ⌝ }
     ensures { λ r. ⌜ Steps (calls.take-candidate «record» (unpack («record» .n) (now (area .entry))) (now (derivative .entry))) r (unpack («record» .n) (now (area .exit))) ⌝ }
 {
     let n = record.n;
@@ -246,7 +243,7 @@ pub fn take_candidate(record: Record, area: &mut [f64], derivative: &[f64]) -> N
 pub fn replied(record: Record, area: &mut [f64], derivative: &[f64]) -> Next
     requires { ⌜ 11 * «record» .n ≤ length (now area) ⌝ }
     requires { ⌜ length (now derivative) ≡ «record» .n ⌝ }
-    requires { ⌜ («record» .n ≤ 512) × (calls.in-range («record» .phase) «record» ≡ true) ⌝ }
+    requires { ⌜ calls.in-range («record» .phase) «record» ≡ true ⌝ }
     ensures { λ r. ⌜ Steps (calls.replied («record» .phase) «record» (unpack («record» .n) (now (area .entry))) (now (derivative .entry))) r (unpack («record» .n) (now (area .exit))) ⌝ }
 {
     let phase = record.phase;

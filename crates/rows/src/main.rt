@@ -95,9 +95,7 @@ fn print_coefficients(row: Coefficients) {
 }
 
 // family, s, j, mu, nu, mu_tilde, gamma_tilde, theta, omega_one, first_mu_tilde
-fn print_row(family: u64, s: u64, j: u64, row: Coefficients)
-    requires { ⌜ s < 2 ^ 16 ⌝ }
-{
+fn print_row(family: u64, s: u64, j: u64, row: Coefficients) {
     print_count(family, s);
     io::write_all(STDOUT_FILENO, b" ");
     io::print_decimal(STDOUT_FILENO, j);

@@ -8,7 +8,7 @@ use Rattle.ieee.specs.Close.{Close}
 use Rattle.family.specs.Family.{Family, Orthogonal, made-of, family-of, permitted}
 use Rattle.coefficients.specs.declared.Recurrence.{Recurrence}
 use Rattle.coefficients.specs.Paper as Paper
-use Rattle.coefficients.specs.Rows.{first-mu-tilde, coefficients}
+use Rattle.coefficients.specs.Rows.{recurrence, coefficients}
 use Rattle.coefficients.specs.Closeness.{Close-row}
 use Rattle.coefficients.specs.Multiplier.{Stable}
 use Rattle.coefficients.proofs.CloseRows.{close-row, close-first}
@@ -46,8 +46,10 @@ module _ (h : Held) (a : Arguments) (o : Finished-attempt) (replies : ℕ) (x : 
   may-run : T (permitted (made-of g) (o .stages))
   may-run = subst (λ (f : Family). T (permitted f (o .stages))) is (holds _ (f .stages-permitted))
 
-  pub first-close : Close 48 (first-mu-tilde (made-of g) (o .stages)) (Paper.first-mu-tilde g (o .stages))
-  first-close = close-first g (o .stages) may-run
+  -- what `by-need` hands to `first-stage`
+  pub first-close : Close 48 (recurrence (family-of (h .kept .family)) (o .stages) .«theta_previous») (Paper.first-mu-tilde g (o .stages))
+  first-close = subst (λ (f : Family). Close 48 (recurrence f (o .stages) .«theta_previous») (Paper.first-mu-tilde g (o .stages))) (sym is)
+      (close-first g (o .stages) may-run)
 
   pub rows-close : (j : ℕ) → 2 ≤ j → j ≤ o .stages → (c : Recurrence) → Close-row g (o .stages) j (coefficients (made-of g) (o .stages) j c)
   rows-close j from to c = close-row g (o .stages) j may-run from to c

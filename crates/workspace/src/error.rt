@@ -1,6 +1,6 @@
 // The end of `attempt_step`: the error vector of each family and its norm.
 ghost use mathlib.Core.Path.{_≡_};
-ghost use Prim.Native.Nat.{_*_, _^_, _≤_, _<_};
+ghost use Prim.Native.Nat.{_*_, _≤_, _<_};
 ghost use lib.ListN.{length};
 ghost use Rattle.family.specs.Family.{family-of};
 ghost use Rattle.workspace.specs.Vectors.{column, unpack, _with_≔_, each, sum-of-squares, derivative};
@@ -85,7 +85,6 @@ fn sum_of_scaled(area: &[f64], n: usize, arguments: Arguments) -> f64
 
 // What the norm is divided by.
 fn divisor(family: u64, stages: u64) -> f64
-    requires { ⌜ stages < 2 ^ 53 ⌝ }
     ensures { λ r. ⌜ r ≡ kernel.divisor (family-of family) stages ⌝ }
 {
     match family {
@@ -97,7 +96,6 @@ fn divisor(family: u64, stages: u64) -> f64
 // The scaled error norm; 0 without `adaptive`.
 pub fn error_norm(area: &[f64], n: usize, family: u64, stages: u64, arguments: Arguments) -> f64
     requires { ⌜ 11 * n ≤ length (now area) ⌝ }
-    requires { ⌜ (n < 2 ^ 53) × (stages < 2 ^ 53) ⌝ }
     ensures { λ r. ⌜ r ≡ error-norm (family-of family) n stages arguments (unpack n (now (area .entry))) ⌝ }
 {
     if arguments.adaptive {

@@ -5,16 +5,19 @@ use borrow.Author.Needs.{needs}
 use Rattle.coefficients.proofs.first_recurrence.Statement.{statement}
 use Rattle.coefficients.proofs.first_recurrence.Tie as tie
 
-first-mu-tilde-requires : tie.Need-first-mu-tilde-requires
-first-mu-tilde-requires c κs = search needs
+omega-one-requires : tie.Need-omega-one-requires
+omega-one-requires c κs = search needs
+
+first-from-requires : tie.Need-first-from-requires
+first-from-requires c κs = search needs
 
 first-polynomials-requires : tie.Need-first-polynomials-requires
 first-polynomials-requires c κs = search needs
 
 returns : tie.Need-returns
 unfolding recurrence ofBits
-returns c = rw (c .first-polynomials .ensures, c .before .first-mu-tilde .ensures)
+returns c = rw (c .first-polynomials .ensures, c .before .first-from .ensures, c .before .before .omega-one .ensures)
 
 pub first-recurrence-spec : {M : Type 1} → statement M
 first-recurrence-spec =
-    tie.close (tie.spec first-mu-tilde-requires first-polynomials-requires returns)
+    tie.close (tie.spec omega-one-requires first-from-requires first-polynomials-requires returns)

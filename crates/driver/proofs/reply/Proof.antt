@@ -115,7 +115,7 @@ replied-requires c κs =
     let a = c .before .before .before .before .before .before .before .before .before .before .before .before .before .before .before .before .args in
     let r = a .«record» in
     let l = both-long (r .family) (r .n) (a .area .now) (a .derivative .now) (passes (c .before .before .before .before .before .before .before .before .both-long .ensures) (c .before .before .before .before .before .before .before .if3 .left)) in
-    (whole (family-of (r .family)) (r .n) (a .area .now) (l .0), (l .1, (most _ (passes (c .before .before .before .before .before .before .before .before .before .before .before .sized .ensures) (c .before .before .before .before .before .before .before .before .before .before .if2 .left)), both (pending (r .phase)) (in-range (r .phase) r) (passes (c .before .before .before .before .before .before .awaiting .ensures) (c .before .before .before .before .before .if4 .left)) .1)))
+    (whole (family-of (r .family)) (r .n) (a .area .now) (l .0), (l .1, both (pending (r .phase)) (in-range (r .phase) r) (passes (c .before .before .before .before .before .before .awaiting .ensures) (c .before .before .before .before .before .if4 .left)) .1))
 
 counted-requires : tie.Need-counted-requires
 counted-requires c κs =

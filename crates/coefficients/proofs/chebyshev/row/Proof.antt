@@ -13,7 +13,7 @@ next-polynomials-requires c κs = search needs
 
 returns : tie.Need-returns
 unfolding chebyshev polynomials-on ofBits
-returns c = rw (c .before .before .before .before .before .next-polynomials .ensures, c .before .before .before .before .before .before .before .omega-zero .ensures)
+returns c = rw (c .before .before .before .before .before .before .next-polynomials .ensures, c .before .before .before .before .before .before .before .before .omega-zero .ensures)
 
 pub row-spec : {M : Type 1} → statement M
 row-spec = tie.close (tie.spec omega-zero-requires next-polynomials-requires returns)

@@ -1,11 +1,9 @@
--- `begin_stages` meets its contract, by the stage need. A need that is met is at most 200.
+-- `begin_stages` meets its contract, by the stage need.
 use mathlib.Core.Path.{refl, sym, ap, _∙_}
-use native.Mathlib.Omega.{arith}
 use borrow.Author.Needs.{needs}
 use Rattle.workspace.specs.Vectors.{unpack}
 use Rattle.driver.specs.declared.Need.{Need}
 use Rattle.driver.specs.Calls.{by-need, begin-stages}
-use Rattle.driver.proofs.Ranges.{need-most}
 use Rattle.driver.proofs.Steps.{as-step}
 use Rattle.driver.proofs.Ladder.{says}
 use Rattle.driver.proofs.replies.begin_stages.Statement.{statement}
@@ -18,9 +16,7 @@ enum-known-need : tie.Need-enum-known-need
 enum-known-need c = search needs
 
 first-stage-requires : tie.Need-first-stage-requires
-first-stage-requires c κs =
-    let s = need-most _ _ _ (sym (c .before .before .need .given .1) ∙ c .before .before .before .before .stage-need .ensures) in
-    (c .before .before .before .before .before .before .pre, omega (arith, s))
+first-stage-requires c κs = search needs
 
 enum-known-need-2 : tie.Need-enum-known-need-2
 enum-known-need-2 c = search needs

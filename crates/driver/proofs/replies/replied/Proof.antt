@@ -8,7 +8,7 @@ use Rattle.workspace.specs.Vectors.{Vectors, unpack}
 use Rattle.driver.specs.declared.Record.{Record}
 use Rattle.driver.specs.declared.Phase.{Phase}
 use Rattle.driver.specs.Calls.{Step, replied, in-range}
-use Rattle.driver.proofs.Ranges.{pass-in, stage-in, candidate-in}
+use Rattle.driver.proofs.Ranges.{pass-in, stage-in}
 use Rattle.driver.proofs.Steps.{as-step, alike}
 use Rattle.driver.proofs.replies.replied.Statement.{statement}
 use Rattle.driver.proofs.replies.replied.Tie as tie
@@ -18,7 +18,7 @@ enum-told c = search needs
 
 take-pass-requires : tie.Need-take-pass-requires
 take-pass-requires c κs =
-    let s = pass-in _ (ap (λ (p : Phase). in-range p (c .before .before .before .before .before .args .«record»)) (sym (c .before .enum-told .given .1)) ∙ c .before .before .before .before .before .pre .1 .1 .1) in
+    let s = pass-in _ (ap (λ (p : Phase). in-range p (c .before .before .before .before .before .args .«record»)) (sym (c .before .enum-told .given .1)) ∙ c .before .before .before .before .before .pre .1 .1) in
     (c .before .before .before .before .before .pre .0, (c .before .before .before .before .before .pre .1 .0, s))
 
 enum-told-2 : tie.Need-enum-told-2
@@ -26,16 +26,14 @@ enum-told-2 c = search needs
 
 take-stage-requires : tie.Need-take-stage-requires
 take-stage-requires c κs =
-    let s = stage-in _ (ap (λ (p : Phase). in-range p (c .before .before .before .before .before .args .«record»)) (sym (c .before .enum-told2 .given .1)) ∙ c .before .before .before .before .before .pre .1 .1 .1) in
-    (c .before .before .before .before .before .pre .0, (c .before .before .before .before .before .pre .1 .0, ((s .from, s .to), omega (arith, s .most))))
+    let s = stage-in _ (ap (λ (p : Phase). in-range p (c .before .before .before .before .before .args .«record»)) (sym (c .before .enum-told2 .given .1)) ∙ c .before .before .before .before .before .pre .1 .1) in
+    (c .before .before .before .before .before .pre .0, (c .before .before .before .before .before .pre .1 .0, (s .from, omega (arith, s .to, s .most))))
 
 enum-told-3 : tie.Need-enum-told-3
 enum-told-3 c = search needs
 
 take-candidate-requires : tie.Need-take-candidate-requires
-take-candidate-requires c κs =
-    let s = candidate-in _ (ap (λ (p : Phase). in-range p (c .before .before .before .before .before .args .«record»)) (sym (c .before .enum-told3 .given .1)) ∙ c .before .before .before .before .before .pre .1 .1 .1) in
-    (c .before .before .before .before .before .pre .0, (c .before .before .before .before .before .pre .1 .0, (omega (arith, c .before .before .before .before .before .pre .1 .1 .0), omega (arith, s))))
+take-candidate-requires c κs = search needs
 
 enum-told-4 : tie.Need-enum-told-4
 enum-told-4 c = search needs
