@@ -7,20 +7,30 @@ use mathlib.Core.List.{List, [], _∷_}
 use lib.Dec.{eqb}
 use lib.ListN.{length}
 use lib.Ieee.{Float, toUnsigned}
+use lib.Ieee.Scale.{finite}
 use Rattle.ieee.specs.Double.{_⊕_, _⊗_, _⊘_, double, half}
-use Rattle.driver.specs.Calls.{Held, Called}
+use Rattle.driver.specs.declared.Answer.the-variants.{Ready, Refused}
+use Rattle.driver.specs.Calls.{Held, Called, may-accept, accept}
 use Rattle.session.specs.Refusals.{largest-number}
 use Rattle.sheet.specs.Text.{minutes-a-day}
 use Rattle.inverter.specs.declared.Total.{Total}
-use Rattle.inverter.specs.Day.{finished, refusal}
+use Rattle.inverter.specs.Day.{called, finished, refusal}
 
 -- ---- a minute
 
--- from what the caller held, the calls of a minute come to a finished attempt, one more, or to a refusal with its number, none more
-pub data Ended (h : Held) (end : Called) : Type 0 where
-  Completed : finished (end .answer) ≡ true → refusal (end .answer) ≡ 0 → end .held .counters .«finished_attempts» ≡ h .counters .«finished_attempts» + 1 → Ended h end
-  Given-up : finished (end .answer) ≡ false → 1 ≤ refusal (end .answer) → refusal (end .answer) ≤ largest-number
-      → end .held .counters .«finished_attempts» ≡ h .counters .«finished_attempts» → Ended h end
+-- an attempt that is finished can be accepted
+abbrev pub Acceptable : Held → Type 0
+Acceptable h = may-accept (h .kept .phase) ≡ true → accept h .answer ≡ Ready
+
+-- From what the caller held, a minute with this reading comes to one of three ends: a finished attempt, one more, which the next minute can accept; a
+-- refusal by the engine, none more, with its number and nothing to accept; or, where the reading is not finite, to no call at all and the number 9
+pub data Ended (reading : Float) (h : Held) (end : Called) : Type 0 where
+  Completed : finite reading ≡ true → finished (end .answer) ≡ true → refusal (end .answer) ≡ 0 → may-accept (end .held .kept .phase) ≡ true
+      → end .held .counters .«finished_attempts» ≡ h .counters .«finished_attempts» + 1 → Ended reading h end
+  Given-up : finite reading ≡ true → finished (end .answer) ≡ false → 1 ≤ refusal (end .answer) → refusal (end .answer) ≤ largest-number
+      → may-accept (end .held .kept .phase) ≡ false
+      → end .held .counters .«finished_attempts» ≡ h .counters .«finished_attempts» → Ended reading h end
+  Kept-out : finite reading ≡ false → end ≡ called (Refused 9) h → Ended reading h end
 
 -- ---- the refused minutes
 
