@@ -1,8 +1,8 @@
 #!/usr/bin/env python3
-"""Writes the two stored days and the texts that are none, into the crates that run them.
+"""Writes the stored days and the texts that are none, into the crates that run them.
 
 A day is half a sine of sunlight with clouds, drawn from a fixed sequence, so that every run writes the same bytes. Among the readings stand odd
-ones, as a meter gives them: a NaN, infinities, a negative one, a subnormal one, and a huge one near the end.
+ones, as a meter gives them: a NaN, infinities, a negative one, a subnormal one, and a huge one near the end. One day has no sun and one NaN.
 Run it in the project's root: python3 vectors/days.py
 """
 import math
@@ -54,6 +54,12 @@ RKL2 = day(3, 16, (25.0, 25.0, 0.5, 0.002, 2e-5, 45.0), with_odd(
 RKC = day(1, 24, (18.0, 31.5, 1.25, 0.004, 4.5e-5, 60.0), with_odd(
     readings(2, 3400.0, 330, 1260),
     {5: -0.0, 200: -40.0, 600: math.nan, 601: math.nan, 900: -math.inf}))
+# A sink that cools down in the dark. Started anew after the NaN, the engine took it for slow, and its stiff modes grew to 7.98 hours above.
+NAN_AT_120 = day(1, 16, (25.0, 20.0, 3.0, 0.004, 4.5e-5, 60.0), with_odd([0.0] * MINUTES, {120: math.nan}))
+# Bad readings where nothing is held yet, in a row, after a minute that the engine refuses (its reading is finite and huge), and at the end.
+BAD_READINGS = day(5, 7, (21.0, 24.5, 2.5, 0.003, 0.5, 50.0), with_odd(
+    [watt / 8192.0 for watt in readings(3, 3200.0, 345, 1230)],
+    {0: math.nan, 1: math.inf, 500: -math.inf, 501: math.nan, 502: math.inf, 1300: 1.7e308, 1301: math.nan, 1438: math.nan, 1439: math.inf}))
 
 
 def texts():
@@ -99,3 +105,5 @@ if __name__ == "__main__":
     write("crates/day_rkc/stdin", RKC)
     for name, text in texts().items():
         write("crates/day_texts/data/" + name, text)
+    write("crates/day_texts/data/nan_at_120", NAN_AT_120)
+    write("crates/day_texts/data/bad_readings", BAD_READINGS)

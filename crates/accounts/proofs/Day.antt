@@ -1,7 +1,7 @@
 -- The theorem: the report of a text that is a day accounts for its 1,440 minutes (`accounts`). By the minutes one after another, each by `minute-ended`;
 -- the number of readings is that of the text's lines.
 use mathlib.Core.Path.{_≡_, refl, sym, ap, subst, _∙_}
-use mathlib.Core.Bool.{Bool, true, false, not, _&&_}
+use mathlib.Core.Bool.{Bool, true, false, not, _&&_, false≢true}
 use mathlib.Core.List.{List, [], _∷_, _++_}
 use Prim.Native.Nat.{ℕ, zero, suc, _+_, _≤_}
 use native.Mathlib.Omega.{arith}
@@ -9,7 +9,7 @@ use borrow.Author.Tests.{eq-eqb, ne-eqb}
 use lib.Dec.{eqb}
 use lib.ListN.{length, length-append}
 use lib.Ieee.{Float, lt}
-use Rattle.driver.specs.Calls.{Called}
+use Rattle.driver.specs.Calls.{Called, may-accept}
 use Rattle.session.specs.Refusals.{largest-number}
 use Rattle.heat_sink.specs.declared.Inverter.{Inverter}
 use Rattle.sheet.specs.Text as Text
@@ -17,8 +17,8 @@ use Rattle.sheet.specs.Text.{minutes-a-day}
 use Rattle.sheet.proofs.Soundness.{day-minutes}
 use Rattle.inverter.specs.declared.Total.{Total}
 use Rattle.inverter.specs.declared.DayResult.the-variants.{Day}
-use Rattle.inverter.specs.Day.{one-if, passed, upcoming, finished, junction, is-above, refusal, counted, end-of, So-far, held, with-minute, run, no-count, outset, first-area, total-of, total, reported, day, Reports}
-use Rattle.accounts.specs.Accounts.{Ended, Completed, Given-up, listed, Rising, Numbered, Accounts}
+use Rattle.inverter.specs.Day.{one-if, taken, upcoming, finished, junction, is-above, refusal, counted, end-of, So-far, held, with-minute, run, no-count, outset, first-area, total-of, total, reported, day, Reports}
+use Rattle.accounts.specs.Accounts.{Acceptable, Ended, Completed, Given-up, Kept-out, listed, Rising, Numbered, Accounts}
 use Rattle.accounts.proofs.Minute.{minute-ended}
 use Rattle.accounts.proofs.Hours.{minutes-told}
 use Rattle.accounts.proofs.Listing.{listed-grown, numbered-grown, listed-rising}
@@ -31,6 +31,7 @@ record After (k : ℕ) (t : So-far) : Type 0 where
   a-junction-each : length (t .junctions) ≡ k
   all-listed : length (listed 0 (t .refusals)) ≡ t .count .refused
   numbered : Numbered (listed 0 (t .refusals))
+  acceptable : Acceptable (held t)
 
 one-if-not : (x : ℕ) → x ≡ 0 → one-if (not (eqb x 0)) ≡ 0
 one-if-not x e = ap (λ (b : Bool). one-if (not b)) (eq-eqb x 0 e)
@@ -45,12 +46,13 @@ one-at-most false = omega arith
 above-none : (f b : Bool) → f ≡ false → one-if (f && b) ≡ 0
 above-none f b e = ap (λ (x : Bool). one-if (x && b)) e
 
--- a minute more
-with-minute-after : (m : Inverter) (k : ℕ) (c : Called) (t : So-far) → Ended (held t) c → After k t → After (k + 1) (with-minute m c t)
+-- a minute more, finished
+with-finished : (m : Inverter) (k : ℕ) (c : Called) (t : So-far) → refusal (c .answer) ≡ 0
+    → c .held .counters .«finished_attempts» ≡ t .count .counters .«finished_attempts» + 1 → Acceptable (c .held) → After k t → After (k + 1) (with-minute m c t)
 unfolding with-minute counted is-above
-with-minute-after m k c t (Completed f z n) a =
+with-finished m k c t z n o a =
     let x = refusal (c .answer) in
-    let temperature = junction m (c .answer) (c .held .area) in
+    let temperature = junction m (c .held .kept .phase) (c .held .area) in
     let none = one-if-not x z in
     let above = one-at-most (finished (c .answer) && lt (m .rated) temperature) in
     let grown = listed-grown 0 (t .refusals) x in
@@ -61,10 +63,16 @@ with-minute-after m k c t (Completed f z n) a =
       a-junction-each = omega (arith, length-append (t .junctions) (temperature ∷ []), a .a-junction-each);
       all-listed = omega (arith, grown, a .all-listed);
       numbered = numbered-grown 0 (t .refusals) x (omega (arith, z)) (a .numbered);
+      acceptable = o;
     }
-with-minute-after m k c t (Given-up f l most n) a =
+
+-- a minute more, refused, by the engine or before it
+with-refused : (m : Inverter) (k : ℕ) (c : Called) (t : So-far) → finished (c .answer) ≡ false → 1 ≤ refusal (c .answer) → refusal (c .answer) ≤ largest-number
+    → c .held .counters .«finished_attempts» ≡ t .count .counters .«finished_attempts» → Acceptable (c .held) → After k t → After (k + 1) (with-minute m c t)
+unfolding with-minute counted is-above
+with-refused m k c t f l most n o a =
     let x = refusal (c .answer) in
-    let temperature = junction m (c .answer) (c .held .area) in
+    let temperature = junction m (c .held .kept .phase) (c .held .area) in
     let some = one-if-some x l in
     let above = above-none (finished (c .answer)) (lt (m .rated) temperature) f in
     let grown = listed-grown 0 (t .refusals) x in
@@ -75,20 +83,40 @@ with-minute-after m k c t (Given-up f l most n) a =
       a-junction-each = omega (arith, length-append (t .junctions) (temperature ∷ []), a .a-junction-each);
       all-listed = omega (arith, grown, a .all-listed);
       numbered = numbered-grown 0 (t .refusals) x most (a .numbered);
+      acceptable = o;
     }
+
+-- a minute more
+with-minute-after : (m : Inverter) (k : ℕ) (reading : Float) (c : Called) (t : So-far) → Ended reading (held t) c → Acceptable (c .held) → After k t → After (k + 1) (with-minute m c t)
+unfolding finished refusal
+with-minute-after m k reading c t (Completed r f z p n) o a = with-finished m k c t z n o a
+with-minute-after m k reading c t (Given-up r f l most p n) o a = with-refused m k c t f l most n o a
+with-minute-after m k reading c t (Kept-out r e) o a =
+    let nine : refusal (c .answer) ≡ 9 = ap (λ (x : Called). refusal (x .answer)) e in
+    with-refused m k c t (ap (λ (x : Called). finished (x .answer)) e) (omega (arith, nine)) (omega (arith, nine)) (ap (λ (x : Called). x .held .counters .«finished_attempts») e) o a
 
 run-after : (m : Inverter) (minute k : ℕ) (readings : List Float) (t : So-far) → After k t → After (k + length readings) (run m minute readings t)
 unfolding run
 run-after m minute k [] t a = let e : k ≡ k + 0 = omega arith in subst (λ (j : ℕ). After j t) e a
 run-after m minute k (reading ∷ readings) t a =
-    let c = passed m minute reading (upcoming reading readings) (held t) in
+    let c = taken m minute reading (upcoming reading readings) (held t) in
     let e : k + 1 + length readings ≡ k + suc (length readings) = omega arith in
+    let end = minute-ended m minute reading (upcoming reading readings) (held t) (a .acceptable) in
     subst (λ (j : ℕ). After j (run m (minute + 1) readings (with-minute m c t))) e
-    (run-after m (minute + 1) (k + 1) readings (with-minute m c t) (with-minute-after m k c t (minute-ended m minute reading (upcoming reading readings) (held t)) a))
+    (run-after m (minute + 1) (k + 1) readings (with-minute m c t) (with-minute-after m k reading c t (end .0) (end .1) a))
 
 outset-after : (area : List Float) → After 0 (outset area)
-unfolding no-count listed Numbered
-outset-after area = record { every-minute = refl; above-finished = omega arith; a-number-each = refl; a-junction-each = refl; all-listed = refl; numbered = tt }
+unfolding no-count may-accept listed Numbered
+outset-after area =
+    record {
+      every-minute = refl;
+      above-finished = omega arith;
+      a-number-each = refl;
+      a-junction-each = refl;
+      all-listed = refl;
+      numbered = tt;
+      acceptable = λ e. absurd (false≢true e);
+    }
 
 -- a day's minutes, all together
 after-accounts : (t : So-far) → After minutes-a-day t → Accounts (total t) (t .refusals) (t .junctions)

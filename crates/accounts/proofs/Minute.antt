@@ -1,17 +1,21 @@
 -- A minute comes to a finished attempt, counted once, or to a refusal with one of the table's numbers, which counts none: `minute-ended`. From the
 -- definitions of the calls, and from `ends`, that the calls of a minute are enough.
-use mathlib.Core.Path.{_≡_, refl, sym, ap, _∙_}
-use mathlib.Core.Bool.{Bool, true, false, cond, _||_, false≢true}
+use mathlib.Core.Path.{_≡_, refl, sym, ap, subst, _∙_}
+use mathlib.Core.Bool.{Bool, true, false, cond, _&&_, _||_, false≢true}
 use mathlib.Core.List.{List}
 use Prim.Native.Nat.{ℕ, zero, suc, _+_, _≤_}
 use native.Mathlib.Omega.{arith}
+use borrow.Author.Tests.{eqb-true}
 use lib.Dec.{ltb, eqb}
+use lib.ListN.{length}
 use lib.Ieee.{Float}
+use lib.Ieee.Scale.{finite}
 use Rattle.ieee.specs.Double.{_⊕_}
-use Rattle.family.specs.Family.{Family, family-of}
+use Rattle.family.specs.Family.{Family, family-of, known}
 use Rattle.workspace.specs.declared.Arguments.{Arguments}
-use Rattle.workspace.specs.Vectors.{Vectors, number, unpack, all-finite, state, candidate}
+use Rattle.workspace.specs.Vectors.{Vectors, number, unpack, pack, all-finite, state, candidate}
 use Rattle.workspace.specs.Kernel.{turned, radius-of, ended, scaled, with-row, exchanged, with-candidate}
+use Rattle.workspace.proofs.Areas.{Long}
 use Rattle.coefficients.specs.Rows.{coefficients}
 use Rattle.coefficients.specs.Rows as rows
 use Rattle.driver.specs.declared.Phase.{Phase}
@@ -19,159 +23,191 @@ use Rattle.driver.specs.declared.Phase.the-variants as P
 use Rattle.driver.specs.declared.Answer.{Answer}
 use Rattle.driver.specs.declared.Answer.the-variants.{Evaluate, Finished, Ready, Refused, Empty}
 use Rattle.driver.specs.declared.Record.{Record}
-use Rattle.driver.specs.declared.Counters.{Counters}
 use Rattle.driver.specs.declared.Need.{Need}
 use Rattle.driver.specs.declared.Need.the-variants.{Met, Unmet}
 use Rattle.driver.specs.Calls as calls
-use Rattle.driver.specs.Calls.{Held, Called, check}
+use Rattle.driver.specs.Calls.{Held, Called, Step, check}
+use Rattle.driver.specs.Promises.{holding}
+use Rattle.driver.proofs.Sizes.{both}
 use Rattle.session.specs.Refusals.{largest-number}
 use Rattle.session.proofs.Needs.{Needed, need-holds}
+use Rattle.session.proofs.Lengths.{whole-pack, long-area, replied-long}
 use Rattle.heat_sink.specs.declared.Inverter.{Inverter}
-use Rattle.inverter.specs.Day.{time-of, begun, go-on, next, driven, most-calls, passed, finished, refusal}
+use Rattle.inverter.specs.Day.{time-of, called, begun, go-on, next, driven, most-calls, passed, taken, finished, refusal}
 use Rattle.inverter.specs.Day as day
 use Rattle.inverter.proofs.Ends.{ends}
-use Rattle.accounts.specs.Accounts.{Ended, Completed, Given-up}
+use Rattle.accounts.specs.Accounts.{Acceptable, Ended, Completed, Given-up, Kept-out}
 
--- ---- what a reply that passed its tests can answer: not empty, and no number outside the table
+-- ---- what a reply that passed its tests can answer: not empty, and no number outside the table; the phase is that of a finished attempt on finished alone
 
-unfoldable Answers : Answer → Type 0
-Answers (Evaluate time vector) = Unit
-Answers (Finished norm) = Unit
-Answers Ready = Unit
-Answers (Refused i) = (1 ≤ i) × (i ≤ largest-number)
-Answers Empty = ⊥
+module _ (r : Record) where
+  unfoldable Answer-of : Answer → Record → Type 0
+  Answer-of (Evaluate time vector) k = calls.may-accept (k .phase) ≡ false
+  Answer-of (Finished norm) k = (calls.may-accept (k .phase) ≡ true) × (k .family ≡ r .family) × (k .n ≡ r .n)
+  Answer-of Ready k = calls.may-accept (k .phase) ≡ false
+  Answer-of (Refused i) k = (1 ≤ i) × (i ≤ largest-number) × (calls.may-accept (k .phase) ≡ false)
+  Answer-of Empty k = ⊥
 
-needed : (f : Family) (n : Need) (r : Record) (v : Vectors) (radius : Float) → Needed f n → Answers (calls.by-need n r v radius .answer)
-unfolding Answers calls.by-need calls.ask-stage
-needed f (Met s) r v radius h = tt
-needed f (Unmet i) r v radius h = (omega (arith, h .0), h .1)
+  abbrev Answers : Step → Type 0
+  Answers x = Answer-of (x .answer) (x .kept)
 
-at-candidate : (r : Record) (v : Vectors) → Answers (calls.ask-candidate r v .answer)
-unfolding Answers calls.ask-candidate
-at-candidate r v = go (all-finite (v candidate))
-  where
-    go : (t : Bool) → Answers (cond t (calls.step-to (Evaluate (r .arguments .time ⊕ r .arguments .step) (number candidate)) (calls.in-phase P.Candidate r) v) (calls.step-to (Refused 10) (calls.in-phase P.Empty r) v) .answer)
-    go true = tt
-    go false = (omega arith, omega arith)
+  needed : (f : Family) (n : Need) (v : Vectors) (radius : Float) → Needed f n → Answers (calls.by-need n r v radius)
+  unfolding Answer-of calls.by-need calls.ask-stage calls.at-stage calls.in-phase calls.may-accept
+  needed f (Met s) v radius h = refl
+  needed f (Unmet i) v radius h = (omega (arith, h .0), h .1, refl)
 
-after-pass : (t : Bool) (r r′ : Record) (v : Vectors) (radius : Float) → Answers (cond t (calls.begin-stages r v radius) (calls.ask-pass r′ v) .answer)
-unfolding Answers calls.begin-stages calls.ask-pass
-after-pass true r r′ v radius = needed (family-of (r .family)) (calls.stage-need (family-of (r .family)) radius) r v radius (need-holds (family-of (r .family)) radius)
-after-pass false r r′ v radius = tt
+  at-candidate : (v : Vectors) → Answers (calls.ask-candidate r v)
+  unfolding Answer-of calls.ask-candidate calls.in-phase calls.may-accept
+  at-candidate v = go (all-finite (v candidate))
+    where
+      go : (t : Bool) → Answers (cond t (calls.step-to (Evaluate (r .arguments .time ⊕ r .arguments .step) (number candidate)) (calls.in-phase P.Candidate r) v) (calls.step-to (Refused 10) (calls.in-phase P.Empty r) v))
+      go true = refl
+      go false = (omega arith, omega arith, refl)
 
-after-stage : (t : Bool) (r r′ : Record) (v w : Vectors) → Answers (cond t (calls.ask-stage r′ w) (calls.ask-candidate r v) .answer)
-unfolding Answers calls.ask-stage
-after-stage true r r′ v w = tt
-after-stage false r r′ v w = at-candidate r v
+  after-pass : (t : Bool) (k : Record) (v : Vectors) (radius : Float) → calls.may-accept (k .phase) ≡ false → Answers (cond t (calls.begin-stages r v radius) (calls.ask-pass k v))
+  unfolding Answer-of calls.begin-stages calls.ask-pass
+  after-pass true k v radius e = needed (family-of (r .family)) (calls.stage-need (family-of (r .family)) radius) v radius (need-holds (family-of (r .family)) radius)
+  after-pass false k v radius e = e
 
-replied-answers : (p : Phase) (r : Record) (v : Vectors) (d : List Float) → Answers (calls.replied p r v d .answer)
-unfolding Answers calls.replied calls.take-first calls.take-callback calls.take-pass calls.take-stage calls.take-candidate
-replied-answers P.Empty r v d = tt
-replied-answers P.First r v d = tt
-replied-answers P.Ready r v d = tt
-replied-answers P.Pass r v d =
-    let i = r .iteration in
-    let w = turned (r .n) v d in
-    let radius = radius-of (i .perturbation) w in
-    after-pass (ended (i .pass) (i .«previous_radius») radius || eqb (i .pass) 12) r (calls.at-pass (r .arguments) (i .pass + 1) (i .perturbation) radius r) w (scaled (r .arguments .step) radius)
-replied-answers P.Stage r v d =
-    let f = family-of (r .family) in
-    let s = r .staging .stages in
-    let j = r .staging .stage in
-    let row = coefficients f s j (r .staging .recurrence) in
-    let w = with-row f (r .n) (r .arguments .step) row v d in
-    after-stage (ltb j s) r (calls.at-stage s (j + 1) (rows.next f s (r .staging .recurrence) row) r) (with-candidate w) (exchanged w)
-replied-answers P.Candidate r v d = tt
-replied-answers P.Finished r v d = tt
-replied-answers P.Callback r v d = tt
+  after-stage : (t : Bool) (k : Record) (v w : Vectors) → calls.may-accept (k .phase) ≡ false → Answers (cond t (calls.ask-stage k w) (calls.ask-candidate r v))
+  unfolding Answer-of calls.ask-stage
+  after-stage true k v w e = e
+  after-stage false k v w e = at-candidate v
 
--- ---- the finished attempts after a call, from a minute that began with so many
+  replied-answers : (p : Phase) (v : Vectors) (d : List Float) → Answers (calls.replied p r v d)
+  unfolding Answer-of calls.replied calls.take-first calls.take-callback calls.take-pass calls.take-stage calls.take-candidate calls.in-phase calls.at-pass calls.at-stage calls.may-accept
+  replied-answers P.Empty v d = refl
+  replied-answers P.First v d = refl
+  replied-answers P.Ready v d = refl
+  replied-answers P.Pass v d =
+      let i = r .iteration in
+      let w = turned (r .n) v d in
+      let radius = radius-of (i .perturbation) w in
+      after-pass (ended (i .pass) (i .«previous_radius») radius || eqb (i .pass) 12) (calls.at-pass (r .arguments) (i .pass + 1) (i .perturbation) radius r) w (scaled (r .arguments .step) radius) refl
+  replied-answers P.Stage v d =
+      let f = family-of (r .family) in
+      let s = r .staging .stages in
+      let j = r .staging .stage in
+      let row = coefficients f s j (r .staging .recurrence) in
+      let w = with-row f (r .n) (r .arguments .step) row v d in
+      after-stage (ltb j s) (calls.at-stage s (j + 1) (rows.next f s (r .staging .recurrence) row) r) (with-candidate w) (exchanged w) refl
+  replied-answers P.Candidate v d = (refl, refl, refl)
+  replied-answers P.Finished v d = refl
+  replied-answers P.Callback v d = refl
 
-unfoldable Stand : ℕ → Answer → Counters → Type 0
-Stand n (Evaluate time vector) c = c .«finished_attempts» ≡ n
-Stand n (Finished norm) c = c .«finished_attempts» ≡ n + 1
-Stand n Ready c = c .«finished_attempts» ≡ n
-Stand n (Refused i) c = (1 ≤ i) × (i ≤ largest-number) × (c .«finished_attempts» ≡ n)
-Stand n Empty c = ⊥
+-- an accept whose tests pass
+accept-goes : (h : Held) → known (h .kept .family) ≡ true → calls.sized (h .kept .n) ≡ true → calls.whole-area (h .kept .family) (h .kept .n) (h .area) ≡ true
+    → calls.may-accept (h .kept .phase) ≡ true → calls.accept h .answer ≡ Ready
+unfolding calls.accept check calls.going-on calls.accepted
+accept-goes h f n w p = rw (f, n, w, p) refl
+
+-- ---- where a call stands, in a minute that began with so many finished attempts
+
+unfoldable Stand : ℕ → Answer → Held → Type 0
+Stand n (Evaluate time vector) h = (h .counters .«finished_attempts» ≡ n) × (calls.may-accept (h .kept .phase) ≡ false)
+Stand n (Finished norm) h = (h .counters .«finished_attempts» ≡ n + 1) × (calls.may-accept (h .kept .phase) ≡ true) × (calls.accept h .answer ≡ Ready)
+Stand n Ready h = (h .counters .«finished_attempts» ≡ n) × (calls.may-accept (h .kept .phase) ≡ false)
+Stand n (Refused i) h = (1 ≤ i) × (i ≤ largest-number) × (h .counters .«finished_attempts» ≡ n) × (calls.may-accept (h .kept .phase) ≡ false)
+Stand n Empty h = ⊥
 
 abbrev Stands : ℕ → Called → Type 0
-Stands n c = Stand n (c .answer) (c .held .counters)
+Stands n c = Stand n (c .answer) (c .held)
 
-module _ (n : ℕ) where
-  counts : (a : Answer) (c : Counters) → Answers a → c .«finished_attempts» ≡ n → Stand n a (calls.counted a c)
-  unfolding Answers Stand calls.counted
-  counts (Evaluate time vector) c h e = e
-  counts (Finished norm) c h e = ap (λ (k : ℕ). k + 1) e
-  counts Ready c h e = e
-  counts (Refused i) c h e = (h .0, h .1, e)
-  counts Empty c h e = h
+module _ (n : ℕ) (h : Held) (e : h .counters .«finished_attempts» ≡ n) where
+  -- a reply that passed its tests, counted
+  counts : (a : Answer) (k : Record) (v : Vectors) → Answer-of (h .kept) a k → known (h .kept .family) ≡ true → calls.sized (h .kept .n) ≡ true → Long (h .kept .n) v
+      → Stand n a (holding k (calls.counted a (h .counters)) (pack v))
+  unfolding Answer-of Stand calls.counted
+  counts (Evaluate time vector) k v o f s l = (e, o)
+  counts (Finished norm) k v o f s l =
+      let w = whole-pack (h .kept .family) (h .kept .n) v l in
+      let area = pack v in
+      let family = subst (λ (x : ℕ). known x ≡ true) (sym (o .1)) f in
+      let size = subst (λ (x : ℕ). calls.sized x ≡ true) (sym (o .2)) s in
+      let whole = subst (λ (x : ℕ). calls.whole-area x (k .n) area ≡ true) (sym (o .1)) (subst (λ (x : ℕ). calls.whole-area (h .kept .family) x area ≡ true) (sym (o .2)) w) in
+      (ap (λ (j : ℕ). j + 1) e, o .0, accept-goes _ family size whole (o .0))
+  counts Ready k v o f s l = (e, o)
+  counts (Refused i) k v o f s l = (o .0, o .1, e, o .2)
+  counts Empty k v o f s l = o
 
-  module _ (h : Held) (e : h .counters .«finished_attempts» ≡ n) where
-    checked : (i : ℕ) (t : Bool) (go : Called) → 1 ≤ i → i ≤ largest-number → Stands n go → Stands n (check h i t go)
+  -- an accept that is not turned away
+  admitted : (i : ℕ) (t : Bool) (go : Called) → (go .answer ≡ Ready → Stands n go) → check h i t go .answer ≡ Ready → Stands n (check h i t go)
+  unfolding check
+  admitted i true go s q = s q
+  admitted i false go s q = let z : _≡_ {A = ℕ} 0 1 = cc in absurd (omega arith)
+
+  accept-stands : calls.accept h .answer ≡ Ready → Stands n (calls.accept h)
+  unfolding calls.accept calls.going-on calls.accepted calls.in-phase calls.may-accept Stand
+  accept-stands q = admitted 1 _ _ (admitted 2 _ _ (admitted 3 _ _ (admitted 4 _ _ (λ z. (e, refl))))) q
+
+  module _ (p : calls.may-accept (h .kept .phase) ≡ false) where
+    checked : (i : ℕ) (t : Bool) (go : Called) → 1 ≤ i → i ≤ largest-number → (t ≡ true → Stands n go) → Stands n (check h i t go)
     unfolding check Stand
-    checked i true go l m s = s
-    checked i false go l m s = (l, m, e)
+    checked i true go l m s = s refl
+    checked i false go l m s = (l, m, e, p)
 
     start-stands : (f k : ℕ) (y : List Float) (t : Float) → Stands n (calls.start h f k y t)
-    unfolding calls.start Stand
+    unfolding calls.start calls.first-at calls.may-accept Stand
     start-stands f k y t =
         checked 1 _ _ (omega arith) (omega arith)
-        (checked 2 _ _ (omega arith) (omega arith)
-        (checked 3 _ _ (omega arith) (omega arith)
-        (checked 5 _ _ (omega arith) (omega arith)
-        (checked 6 _ _ (omega arith) (omega arith) e))))
-
-    accept-stands : Stands n (calls.accept h)
-    unfolding calls.accept calls.going-on calls.accepted Stand
-    accept-stands =
-        checked 1 _ _ (omega arith) (omega arith)
-        (checked 2 _ _ (omega arith) (omega arith)
-        (checked 3 _ _ (omega arith) (omega arith)
-        (checked 4 _ _ (omega arith) (omega arith) e)))
+        (λ a. checked 2 _ _ (omega arith) (omega arith)
+        (λ b. checked 3 _ _ (omega arith) (omega arith)
+        (λ c. checked 5 _ _ (omega arith) (omega arith)
+        (λ d. checked 6 _ _ (omega arith) (omega arith)
+        (λ g. (e, refl))))))
 
     attempt-stands : (a : Arguments) → Stands n (calls.attempt h a)
-    unfolding calls.attempt calls.going-on calls.attempted calls.ask-pass Stand
+    unfolding calls.attempt calls.going-on calls.attempted calls.ask-pass calls.at-pass calls.may-accept Stand
     attempt-stands a =
         checked 1 _ _ (omega arith) (omega arith)
-        (checked 2 _ _ (omega arith) (omega arith)
-        (checked 3 _ _ (omega arith) (omega arith)
-        (checked 4 _ _ (omega arith) (omega arith)
-        (checked 6 _ _ (omega arith) (omega arith)
-        (checked 7 _ _ (omega arith) (omega arith) e)))))
+        (λ b. checked 2 _ _ (omega arith) (omega arith)
+        (λ c. checked 3 _ _ (omega arith) (omega arith)
+        (λ d. checked 4 _ _ (omega arith) (omega arith)
+        (λ f. checked 6 _ _ (omega arith) (omega arith)
+        (λ g. checked 7 _ _ (omega arith) (omega arith)
+        (λ i. (e, refl)))))))
 
-    taken : (d : List Float) (t : Bool)
+    replied-stands : (d : List Float) → known (h .kept .family) ≡ true → calls.sized (h .kept .n) ≡ true
+        → calls.whole-area (h .kept .family) (h .kept .n) (h .area) && calls.as-long (h .kept .n) d ≡ true → (t : Bool)
         → Stands n (cond t (calls.settled (h .counters) (calls.replied (h .kept .phase) (h .kept) (unpack (h .kept .n) (h .area)) d)) (calls.spoiled h))
-    unfolding calls.settled calls.going-on calls.spoiled calls.counted Stand
-    taken d true = let x = calls.replied (h .kept .phase) (h .kept) (unpack (h .kept .n) (h .area)) d in
-        counts (x .answer) (h .counters) (replied-answers (h .kept .phase) (h .kept) (unpack (h .kept .n) (h .area)) d) e
-    taken d false = (omega arith, omega arith, e)
+    unfolding calls.settled calls.going-on calls.spoiled calls.counted calls.in-phase calls.may-accept calls.as-long Stand
+    replied-stands d f s w true =
+        let r = h .kept in
+        let v = unpack (r .n) (h .area) in
+        let lengths = both (calls.whole-area (r .family) (r .n) (h .area)) (calls.as-long (r .n) d) w in
+        let long = replied-long (r .phase) r v d (long-area (r .family) (r .n) (h .area) (lengths .0)) (eqb-true (length d) (r .n) (lengths .1)) in
+        let x = calls.replied (r .phase) r v d in
+        counts (x .answer) (x .kept) (x .vectors) (replied-answers r (r .phase) v d) f s long
+    replied-stands d f s w false = (omega arith, omega arith, e, refl)
 
     reply-stands : (d : List Float) → Stands n (calls.reply h d)
     unfolding calls.reply
     reply-stands d =
         checked 1 _ _ (omega arith) (omega arith)
-        (checked 2 _ _ (omega arith) (omega arith)
-        (checked 3 _ _ (omega arith) (omega arith)
-        (checked 4 _ _ (omega arith) (omega arith)
-        (checked 8 _ _ (omega arith) (omega arith) (taken d (all-finite d))))))
+        (λ f. checked 2 _ _ (omega arith) (omega arith)
+        (λ s. checked 3 _ _ (omega arith) (omega arith)
+        (λ w. checked 4 _ _ (omega arith) (omega arith)
+        (λ g. checked 8 _ _ (omega arith) (omega arith)
+        (λ i. replied-stands d f s w (all-finite d))))))
 
 -- ---- a minute
 
 module _ (m : Inverter) (minute : ℕ) where
-  begun-stands : (h : Held) → Stands (h .counters .«finished_attempts») (begun m minute h)
+  begun-stands : (h : Held) → Acceptable h → Stands (h .counters .«finished_attempts») (begun m minute h)
   unfolding begun
-  begun-stands h = go (calls.may-accept (h .kept .phase))
+  begun-stands h o = go (calls.may-accept (h .kept .phase)) refl
     where
-      go : (b : Bool) → Stands (h .counters .«finished_attempts») (cond b (calls.accept h) (calls.start h (m .family) (m .n) (unpack (m .n) (h .area) state) (time-of minute)))
-      go true = accept-stands (h .counters .«finished_attempts») h refl
-      go false = start-stands (h .counters .«finished_attempts») h refl _ _ _ _
+      go : (b : Bool) → calls.may-accept (h .kept .phase) ≡ b
+          → Stands (h .counters .«finished_attempts») (cond b (calls.accept h) (calls.start h (m .family) (m .n) (unpack (m .n) (h .area) state) (time-of minute)))
+      go true e = accept-stands (h .counters .«finished_attempts») h refl (o e)
+      go false e = start-stands (h .counters .«finished_attempts») h refl e _ _ _ _
 
   module _ (reading upcoming : Float) where
-    on : (n : ℕ) (a : Answer) (h : Held) → Stand n a (h .counters) → Stands n (go-on m minute reading upcoming a h)
+    on : (n : ℕ) (a : Answer) (h : Held) → Stand n a h → Stands n (go-on m minute reading upcoming a h)
     unfolding go-on Stand
-    on n (Evaluate time vector) h s = reply-stands n h s _
+    on n (Evaluate time vector) h s = reply-stands n h (s .0) (s .1) _
     on n (Finished norm) h s = s
-    on n Ready h s = attempt-stands n h s _
+    on n Ready h s = attempt-stands n h (s .0) (s .1) _
     on n (Refused number) h s = s
     on n Empty h s = s
 
@@ -181,15 +217,24 @@ module _ (m : Inverter) (minute : ℕ) where
     driven-stands n (suc k) c s = driven-stands n k (next m minute reading upcoming c) (on n (c .answer) (c .held) s)
 
     -- the last answer, which asks for no call
-    last : (h : Held) (c : Called) (a : Answer) → c .answer ≡ a → day.settled a ≡ true → Stand (h .counters .«finished_attempts») a (c .held .counters) → Ended h c
+    last : (h : Held) (c : Called) (a : Answer) → finite reading ≡ true → c .answer ≡ a → day.settled a ≡ true → Stand (h .counters .«finished_attempts») a (c .held)
+        → Ended reading h c × Acceptable (c .held)
     unfolding Stand day.settled finished refusal
-    last h c (Evaluate time vector) e g s = absurd (false≢true g)
-    last h c (Finished norm) e g s = Completed (ap finished e) (ap refusal e) s
-    last h c Ready e g s = absurd (false≢true g)
-    last h c (Refused i) e g s = Given-up (ap finished e) (omega (arith, ap refusal e, s .0)) (omega (arith, ap refusal e, s .1)) (s .2)
-    last h c Empty e g s = absurd s
+    last h c (Evaluate time vector) r e g s = absurd (false≢true g)
+    last h c (Finished norm) r e g s = (Completed r (ap finished e) (ap refusal e) (s .1) (s .0), λ q. s .2)
+    last h c Ready r e g s = absurd (false≢true g)
+    last h c (Refused i) r e g s =
+        (Given-up r (ap finished e) (omega (arith, ap refusal e, s .0)) (omega (arith, ap refusal e, s .1)) (s .3) (s .2), λ q. absurd (false≢true (sym (s .3) ∙ q)))
+    last h c Empty r e g s = absurd s
 
-    pub minute-ended : (h : Held) → Ended h (passed m minute reading upcoming h)
-    unfolding passed
-    minute-ended h = let c = driven m minute reading upcoming most-calls (begun m minute h) in
-        last h c (c .answer) refl (ends m minute reading upcoming h) (driven-stands (h .counters .«finished_attempts») most-calls (begun m minute h) (begun-stands h))
+    -- from what can be accepted if it is finished, and so again
+    pub minute-ended : (h : Held) → Acceptable h → Ended reading h (taken m minute reading upcoming h) × Acceptable (taken m minute reading upcoming h .held)
+    unfolding taken passed
+    minute-ended h o = go (finite reading) refl
+      where
+        go : (b : Bool) → finite reading ≡ b
+            → Ended reading h (cond b (passed m minute reading upcoming h) (called (Refused 9) h)) × Acceptable (cond b (passed m minute reading upcoming h) (called (Refused 9) h) .held)
+        go true e = let c = driven m minute reading upcoming most-calls (begun m minute h) in
+            last h c (c .answer) e refl (ends m minute reading upcoming h)
+            (driven-stands (h .counters .«finished_attempts») most-calls (begun m minute h) (begun-stands h o))
+        go false e = (Kept-out e refl, o)

@@ -1,26 +1,38 @@
 -- What the report of a day accounts for. docs/DECISIONS.md, "The day": every minute is a finished attempt, or is refused and listed with its number, so
 -- that nothing is left out silently (40); a minute that counts as above is a finished one, and the total is the number of such minutes over 60 (41).
-use Prim.Native.Nat.{ℕ, _+_, _≤_}
+use Prim.Native.Nat.{ℕ, _+_, _≤_, _<_}
 use mathlib.Core.Path.{_≡_}
 use mathlib.Core.Bool.{true, false, cond}
 use mathlib.Core.List.{List, [], _∷_}
 use lib.Dec.{eqb}
-use lib.ListN.{length}
-use lib.Ieee.{Float, toUnsigned}
+use lib.ListN.{length, getD}
+use lib.Ieee.{Float, nan, toUnsigned}
+use lib.Ieee.Scale.{finite}
 use Rattle.ieee.specs.Double.{_⊕_, _⊗_, _⊘_, double, half}
-use Rattle.driver.specs.Calls.{Held, Called}
+use Rattle.driver.specs.declared.Answer.the-variants.{Ready, Refused}
+use Rattle.driver.specs.Calls.{Held, Called, may-accept, accept}
 use Rattle.session.specs.Refusals.{largest-number}
+use Rattle.heat_sink.specs.declared.Inverter.{Inverter}
 use Rattle.sheet.specs.Text.{minutes-a-day}
 use Rattle.inverter.specs.declared.Total.{Total}
-use Rattle.inverter.specs.Day.{finished, refusal}
+use Rattle.inverter.specs.Day.{called, finished, refusal, held, outset, first-area}
+use Rattle.inverter.specs.Finite.{heated, left-by}
 
 -- ---- a minute
 
--- from what the caller held, the calls of a minute come to a finished attempt, one more, or to a refusal with its number, none more
-pub data Ended (h : Held) (end : Called) : Type 0 where
-  Completed : finished (end .answer) ≡ true → refusal (end .answer) ≡ 0 → end .held .counters .«finished_attempts» ≡ h .counters .«finished_attempts» + 1 → Ended h end
-  Given-up : finished (end .answer) ≡ false → 1 ≤ refusal (end .answer) → refusal (end .answer) ≤ largest-number
-      → end .held .counters .«finished_attempts» ≡ h .counters .«finished_attempts» → Ended h end
+-- an attempt that is finished can be accepted
+abbrev pub Acceptable : Held → Type 0
+Acceptable h = may-accept (h .kept .phase) ≡ true → accept h .answer ≡ Ready
+
+-- From what the caller held, a minute with this reading comes to one of three ends: a finished attempt, one more, which the next minute can accept; a
+-- refusal by the engine, none more, with its number and nothing to accept; or, where the reading is not finite, to no call at all and the number 9
+pub data Ended (reading : Float) (h : Held) (end : Called) : Type 0 where
+  Completed : finite reading ≡ true → finished (end .answer) ≡ true → refusal (end .answer) ≡ 0 → may-accept (end .held .kept .phase) ≡ true
+      → end .held .counters .«finished_attempts» ≡ h .counters .«finished_attempts» + 1 → Ended reading h end
+  Given-up : finite reading ≡ true → finished (end .answer) ≡ false → 1 ≤ refusal (end .answer) → refusal (end .answer) ≤ largest-number
+      → may-accept (end .held .kept .phase) ≡ false
+      → end .held .counters .«finished_attempts» ≡ h .counters .«finished_attempts» → Ended reading h end
+  Kept-out : finite reading ≡ false → end ≡ called (Refused 9) h → Ended reading h end
 
 -- ---- the refused minutes
 
@@ -65,3 +77,16 @@ pub record Accounts (t : Total) (refusals : List ℕ) (junctions : List Float) :
   pub numbered : Numbered (listed 0 refusals)
   pub hours-are : t .hours ≡ double (t .above) ⊘ double 60
   pub minutes-told : minutes-of (t .hours) ≡ t .above
+
+-- ---- the minutes whose reading is not finite
+
+-- what the engine is left with by the minutes whose reading is finite, as if the day had no others
+unfoldable pub engine-alone : Inverter → List Float → Held
+engine-alone m readings = left-by m (heated 0 readings) (held (outset (first-area m)))
+
+-- such a minute has the number 9, and the junction of the minute before; the counts are those of the others alone
+pub record Keeps-out (m : Inverter) (readings : List Float) (t : Total) (refusals : List ℕ) (junctions : List Float) : Type 0 where
+  pub number-nine : (i : ℕ) → i < length readings → finite (getD readings i nan) ≡ false → getD refusals i 0 ≡ 9
+  pub junction-stands : (i : ℕ) → i + 1 < length readings → finite (getD readings (i + 1) nan) ≡ false → getD junctions (i + 1) nan ≡ getD junctions i nan
+  pub evaluations-alone : t .evaluations ≡ engine-alone m readings .counters .evaluations
+  pub finished-alone : t .«finished_attempts» ≡ engine-alone m readings .counters .«finished_attempts»

@@ -1,4 +1,4 @@
-// Texts that are no day, and the line that makes each none.
+// Texts, each with what is written of it: first those that are no day, then whole days.
 use libc::STDOUT_FILENO;
 
 fn try_text(name: &[u8]) {
@@ -34,4 +34,6 @@ fn main() {
     try_text(b"no_line_end");
     try_text(b"goes_on");
     try_text(b"blank_at_the_end");
+    try_text(b"nan_at_120");
+    try_text(b"bad_readings");
 }

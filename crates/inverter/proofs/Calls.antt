@@ -4,13 +4,14 @@ use mathlib.Core.Bool.{true, false, false≢true}
 use Prim.Native.Nat.{ℕ, zero, suc, _-_, _<_}
 use native.Mathlib.Omega.{arith}
 use lib.Ieee.{Float}
+use lib.Ieee.Scale.{finite}
 use Rattle.workspace.specs.Vectors.{named, unpack, state}
 use Rattle.driver.specs.declared.Answer.{Answer}
 use Rattle.driver.specs.declared.Answer.the-variants.{Evaluate, Finished, Ready, Refused, Empty}
 use Rattle.driver.specs.Calls.{Held, Called, may-accept, start, attempt, reply, accept}
 use Rattle.heat_sink.specs.declared.Inverter.{Inverter}
 use Rattle.heat_sink.specs.Model.{rates}
-use Rattle.inverter.specs.Day.{time-of, arguments, called, begun, reading-at, go-on, next, driven, asked, settled}
+use Rattle.inverter.specs.Day.{time-of, arguments, called, begun, reading-at, go-on, next, driven, passed, taken, asked, settled}
 
 pub asked-vector : {a : Answer} {time : Float} {vector : ℕ} → a ≡ Evaluate time vector → asked a < 11 → vector < 11
 unfolding asked
@@ -65,3 +66,13 @@ module _ (m : Inverter) (minute : ℕ) (reading upcoming : Float) where
   driven-turn zero c p = absurd (omega arith)
   driven-turn (suc k) c p = let e : k ≡ suc k - 1 = omega arith in
       ap (λ (j : ℕ). driven m minute reading upcoming j (next m minute reading upcoming c)) e
+
+  -- ---- a minute
+
+  pub taken-finite : (h : Held) → finite reading ≡ true → passed m minute reading upcoming h ≡ taken m minute reading upcoming h
+  unfolding taken
+  taken-finite h e = simp e
+
+  pub taken-not-finite : (h : Held) → finite reading ≡ false → called (Refused 9) h ≡ taken m minute reading upcoming h
+  unfolding taken
+  taken-not-finite h e = simp e

@@ -3,3 +3,4 @@ mod Calls
 pub mod Ends
 mod Run
 mod Outset
+pub mod Finite

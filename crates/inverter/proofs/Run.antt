@@ -12,15 +12,15 @@ use lib.Seq.{getD-take, getD-drop, drop-cons, take-suc-set, take-all}
 use lib.Ieee.{Float, nan}
 use lib.Ieee.Scale.{finite}
 use Rattle.workspace.specs.Vectors.{Vector, number, unpack, state, candidate}
-use Rattle.driver.specs.declared.Answer.{Answer}
+use Rattle.driver.specs.declared.Phase.{Phase}
 use Rattle.driver.specs.declared.Replied.{Replied}
-use Rattle.driver.specs.Calls.{Called}
+use Rattle.driver.specs.Calls.{Called, may-accept}
 use Rattle.driver.specs.Promises.{holding}
 use Rattle.heat_sink.specs.declared.Inverter.{Inverter}
 use Rattle.inverter.specs.declared.Count.{Count}
 use Rattle.inverter.specs.declared.Total.{Total}
 use Rattle.inverter.specs.declared.DayResult.the-variants.{Day, Malformed}
-use Rattle.inverter.specs.Day.{one-if, passed, upcoming, finished, junction, is-above, refusal, counted, end-of, so-far, held, with-minute, run, first-area, outset, Gives-total, Reports, reported, day}
+use Rattle.inverter.specs.Day.{one-if, taken, upcoming, junction, is-above, refusal, counted, end-of, so-far, held, with-minute, run, first-area, outset, Gives-total, Reports, reported, day}
 use Rattle.sheet.specs.Text as Text
 
 pub one-most : (b : Bool) → one-if b ≤ 1
@@ -37,7 +37,7 @@ unfolding counted
 refused-most m e x t i h = omega (arith, one-most (not (eqb (refusal (e .answer)) 0)))
 
 -- the junction: the first temperature of the candidate, or of the kept state
-module _ (m : Inverter) (a : Answer) (area : List Float) (some : 1 ≤ m .n) where
+module _ (m : Inverter) (phase : Phase) (area : List Float) (some : 1 ≤ m .n) where
   at-vector : (v : Vector) → getD area (number v * m .n) nan ≡ getD (unpack (m .n) area v) 0 nan
   unfolding unpack
   at-vector v =
@@ -46,29 +46,29 @@ module _ (m : Inverter) (a : Answer) (area : List Float) (some : 1 ≤ m .n) whe
       ∙ getD-drop (number v * m .n) area 0 nan
       ∙ ap (λ (k : ℕ). getD area k nan) (add-zero (number v * m .n)))
 
-  pub junction-candidate : finished a ≡ true → getD area (10 * m .n) nan ≡ junction m a area
+  pub junction-candidate : may-accept phase ≡ true → getD area (10 * m .n) nan ≡ junction m phase area
   unfolding junction
   junction-candidate e = rw e (at-vector candidate)
 
-  pub junction-state : finished a ≡ false → getD area (9 * m .n) nan ≡ junction m a area
+  pub junction-state : may-accept phase ≡ false → getD area (9 * m .n) nan ≡ junction m phase area
   unfolding junction
   junction-state e = rw e (at-vector state)
 
--- the reading that follows
-module _ (readings : List Float) (i : ℕ) where
-  pub upcoming-next : i + 1 < length readings → finite (getD readings (i + 1) nan) ≡ true
-      → getD readings (i + 1) nan ≡ upcoming (getD readings i nan) (drop (i + 1) readings)
+-- the reading that follows, with those before place j tried
+module _ (reading : Float) (readings : List Float) (j : ℕ) where
+  pub upcoming-here : j < length readings → finite (getD readings j nan) ≡ true → upcoming reading (drop j readings) ≡ getD readings j nan
   unfolding upcoming
-  upcoming-next h e = rw (drop-cons readings (i + 1) nan h) (simp e)
+  upcoming-here h e = rw (drop-cons readings j nan h) (simp e)
 
-  pub upcoming-not-finite : i + 1 < length readings → finite (getD readings (i + 1) nan) ≡ false
-      → getD readings i nan ≡ upcoming (getD readings i nan) (drop (i + 1) readings)
+  pub upcoming-later : j < length readings → finite (getD readings j nan) ≡ false → upcoming reading (drop j readings) ≡ upcoming reading (drop (j + 1) readings)
   unfolding upcoming
-  upcoming-not-finite h e = rw (drop-cons readings (i + 1) nan h) (simp e)
+  upcoming-later h e =
+      rw (drop-cons readings j nan h) (simp e)
+      ∙ ap (λ (k : ℕ). upcoming reading (drop k readings)) (sym (add-one j))
 
-  pub upcoming-none : length readings ≤ i + 1 → getD readings i nan ≡ upcoming (getD readings i nan) (drop (i + 1) readings)
+  pub upcoming-none : length readings ≤ j → upcoming reading (drop j readings) ≡ reading
   unfolding upcoming
-  upcoming-none h = ap (upcoming (getD readings i nan)) (sym (drop-of-length-le readings h))
+  upcoming-none h = ap (upcoming reading) (drop-of-length-le readings h)
 
 -- one element more
 grown : {A : Type 0} (l : List A) (i : ℕ) (x : A) → i < length l → take i l ++ (x ∷ []) ≡ take (i + 1) (set l i x)
@@ -79,8 +79,8 @@ module _ (m : Inverter) (readings : List Float) (i : ℕ) (count : Count) (area 
   pub minute-turn : (end : Called) {count′ : Count} {number : ℕ} {temperature after : Float} → i < length readings
       → length refusals ≡ length readings → length junctions ≡ length readings
       → after ≡ upcoming (getD readings i nan) (drop (i + 1) readings)
-      → end ≡ passed m i (getD readings i nan) after (holding (count .«record») (count .counters) area)
-      → number ≡ refusal (end .answer) → temperature ≡ junction m (end .answer) (end .held .area)
+      → end ≡ taken m i (getD readings i nan) after (holding (count .«record») (count .counters) area)
+      → number ≡ refusal (end .answer) → temperature ≡ junction m (end .held .kept .phase) (end .held .area)
       → count′ ≡ counted m (end-of end) temperature count
       → run m i (drop i readings) (so-far count area (take i refusals) (take i junctions))
       ≡ run m (i + 1) (drop (i + 1) readings) (so-far count′ (end .held .area) (take (i + 1) (set refusals i number)) (take (i + 1) (set junctions i temperature)))
@@ -90,8 +90,8 @@ module _ (m : Inverter) (readings : List Float) (i : ℕ) (count : Count) (area 
       let rest = drop (i + 1) readings in
       let here = getD readings i nan in
       ap (λ (xs : List Float). run m i xs t) (drop-cons readings i nan h)
-      ∙ ap (λ (k : ℕ). run m (i + 1) (drop k readings) (with-minute m (passed m i here (upcoming here (drop k readings)) (held t)) t)) (sym (add-one i))
-      ∙ ap (λ (x : Float). run m (i + 1) rest (with-minute m (passed m i here x (held t)) t)) (sym u)
+      ∙ ap (λ (k : ℕ). run m (i + 1) (drop k readings) (with-minute m (taken m i here (upcoming here (drop k readings)) (held t)) t)) (sym (add-one i))
+      ∙ ap (λ (x : Float). run m (i + 1) rest (with-minute m (taken m i here x (held t)) t)) (sym u)
       ∙ ap (λ (c : Called). run m (i + 1) rest (with-minute m c t)) (sym e)
       ∙ ap (λ (x : Float). run m (i + 1) rest (so-far (counted m (end-of end) x count) (end .held .area) (take i refusals ++ (refusal (end .answer) ∷ [])) (take i junctions ++ (x ∷ [])))) (sym j)
       ∙ ap (λ (c : Count). run m (i + 1) rest (so-far c (end .held .area) (take i refusals ++ (refusal (end .answer) ∷ [])) (take i junctions ++ (temperature ∷ [])))) (sym f)

@@ -11,6 +11,7 @@ use lib.Ieee.Scale.{finite}
 use Rattle.ieee.specs.Double.{_⊘_, double, nought, one}
 use Rattle.workspace.specs.declared.Arguments.{Arguments}
 use Rattle.workspace.specs.Vectors.{Vectors, _with_≔_, number, named, pack, state, candidate, unpack}
+use Rattle.driver.specs.declared.Phase.{Phase}
 use Rattle.driver.specs.declared.Answer.{Answer}
 use Rattle.driver.specs.declared.Answer.the-variants.{Evaluate, Finished, Ready, Refused, Empty}
 use Rattle.driver.specs.declared.Counters.{Counters}
@@ -37,7 +38,8 @@ arguments minute = record { time = time-of minute; step = double 60; «absolute_
 abbrev pub called : Answer → Held → Called
 called a h = record { answer = a; held = h }
 
--- A minute after a finished one goes on from its candidate. Any other starts from the kept state: the first minute, and one that follows a refused one
+-- A minute goes on from the candidate of the last attempt, where that was finished. Any other starts from the kept state: the first minute, and one after
+-- a minute that the engine refused
 unfoldable pub begun : Inverter → ℕ → Held → Called
 begun m minute h =
     cond (may-accept (h .kept .phase)) (accept h) (start h (m .family) (m .n) (unpack (m .n) (h .area) state) (time-of minute))
@@ -69,12 +71,17 @@ module _ (m : Inverter) (minute : ℕ) (reading upcoming : Float) where
   unfoldable pub passed : Held → Called
   passed h = driven most-calls (begun m minute h)
 
+  -- A reading that is not finite never enters the engine, where it would cost the eigenvector: its minute makes no call, so that record, counters and area
+  -- stand, and is refused with the number of a derivative that is not finite
+  unfoldable pub taken : Held → Called
+  taken h = cond (finite reading) (passed h) (called (Refused 9) h)
+
 -- ---- the minutes of a day
 
--- a reading that is not finite does not spoil the end of the minute before, nor is there one after the last
+-- the reading that holds from a minute's end on: the next finite one, since no other enters the engine, and the minute's own where there is none
 unfoldable pub upcoming : Float → List Float → Float
 upcoming reading [] = reading
-upcoming reading (after ∷ readings) = cond (finite after) after reading
+upcoming reading (after ∷ readings) = cond (finite after) after (upcoming reading readings)
 
 unfoldable pub finished : Answer → Bool
 finished (Finished norm) = true
@@ -83,9 +90,9 @@ finished Ready = false
 finished (Refused number) = false
 finished Empty = false
 
--- the temperature of the junction after the minute: the candidate's, and that of the kept state where the minute is not finished
-unfoldable pub junction : Inverter → Answer → List Float → Float
-junction m a area = getD (cond (finished a) (unpack (m .n) area candidate) (unpack (m .n) area state)) 0 nan
+-- the present temperature of the junction: the candidate's after a finished attempt that is not accepted yet, else that of the kept state
+unfoldable pub junction : Inverter → Phase → List Float → Float
+junction m phase area = getD (cond (may-accept phase) (unpack (m .n) area candidate) (unpack (m .n) area state)) 0 nan
 
 -- a minute counts as above where it is finished with its junction above the rated temperature
 unfoldable pub is-above : Inverter → Answer → Float → Bool
@@ -128,13 +135,13 @@ abbrev pub end-of : Called → Replied
 end-of c = record { answer = c .answer; «record» = c .held .kept; counters = c .held .counters }
 
 unfoldable pub with-minute : Inverter → Called → So-far → So-far
-with-minute m c t = let temperature = junction m (c .answer) (c .held .area) in
+with-minute m c t = let temperature = junction m (c .held .kept .phase) (c .held .area) in
     so-far (counted m (end-of c) temperature (t .count)) (c .held .area) (t .refusals ++ (refusal (c .answer) ∷ [])) (t .junctions ++ (temperature ∷ []))
 
 unfoldable pub run : Inverter → ℕ → List Float → So-far → So-far
 run m minute [] t = t
 run m minute (reading ∷ readings) t =
-    run m (minute + 1) readings (with-minute m (passed m minute reading (upcoming reading readings) (held t)) t)
+    run m (minute + 1) readings (with-minute m (taken m minute reading (upcoming reading readings) (held t)) t)
 
 unfoldable pub no-count : Count
 no-count = let none : Counters = record { evaluations = 0; «finished_attempts» = 0 } in

@@ -1,1 +1,2 @@
 pub mod Day
+pub mod Finite

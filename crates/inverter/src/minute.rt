@@ -157,7 +157,7 @@ fn settled(answer: Answer) -> bool
 }
 
 // From the minute's start to its last answer.
-pub fn pass(
+fn pass(
     m: Inverter,
     record: Record,
     counters: Counters,
@@ -183,4 +183,39 @@ pub fn pass(
         left -= 1;
     }
     reply
+}
+
+// A minute: the calls where its reading is finite, no call else.
+pub fn take(
+    m: Inverter,
+    record: Record,
+    counters: Counters,
+    area: &mut [f64],
+    scratch: &mut [f64],
+    reading: f64,
+    upcoming: f64,
+    minute: u64,
+) -> Replied
+    requires { ⌜ 11 * m .n ≤ length (now area) ⌝ }
+    requires { ⌜ length (now scratch) ≡ m .n ⌝ }
+    requires { ⌜ minute < 1440 ⌝ }
+    ensures { λ r. ⌜ spec.given r (now (area .exit)) ≡ spec.taken m minute reading upcoming (holding «record» counters (now (area .entry))) ⌝ }
+{
+    if ieee::is_finite(reading) {
+        return pass(
+            m,
+            record,
+            counters,
+            area,
+            scratch,
+            reading,
+            upcoming,
+            minute,
+        );
+    }
+    Replied {
+        answer: Answer::Refused(9),
+        record,
+        counters,
+    }
 }

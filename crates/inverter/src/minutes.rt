@@ -10,6 +10,7 @@ use crate::Total;
 use crate::minute;
 use driver::Answer;
 use driver::Counters;
+use driver::Phase;
 use driver::Replied;
 use heat_sink::Inverter;
 
@@ -38,14 +39,14 @@ fn finished(answer: Answer) -> bool
     }
 }
 
-// The first temperature of the candidate, or of the kept state where the minute is not finished.
-fn junction(m: Inverter, answer: Answer, area: &[f64]) -> f64
+// The first temperature of the candidate after a finished attempt that is not accepted yet, else of the kept state.
+fn junction(m: Inverter, phase: Phase, area: &[f64]) -> f64
     requires { ⌜ 1 ≤ m .n ⌝ }
     requires { ⌜ 11 * m .n ≤ length (now area) ⌝ }
-    ensures { λ r. ⌜ r ≡ spec.junction m answer (now (area .entry)) ⌝ }
+    ensures { λ r. ⌜ r ≡ spec.junction m phase (now (area .entry)) ⌝ }
 {
     let n = m.n;
-    if finished(answer) {
+    if driver::may_accept(phase) {
         let at = workspace::CANDIDATE * n;
         return area[at];
     }
@@ -108,17 +109,17 @@ fn total(count: Count) -> Total
     }
 }
 
-// The reading that holds from the end of minute i on.
+// The reading that holds from the end of minute i on: the next finite one.
 fn upcoming(readings: &[f64], i: usize) -> f64
     requires { ⌜ i < length (now readings) ⌝ }
     ensures { λ r. ⌜ r ≡ spec.upcoming (getD (now (readings .entry)) i nan) (drop (i + 1) (now (readings .entry))) ⌝ }
 {
-    let j = i + 1;
-    if readings.len() <= j {
-        return readings[i];
-    }
-    if ieee::is_finite(readings[j]) {
-        return readings[j];
+    let mut j = i + 1;
+    while j < readings.len() {
+        if ieee::is_finite(readings[j]) {
+            return readings[j];
+        }
+        j += 1;
     }
     readings[i]
 }
@@ -146,7 +147,7 @@ fn run(
         let record = count.record;
         let counters = count.counters;
         let after = upcoming(readings, i);
-        let end = minute::pass(
+        let end = minute::take(
             m,
             record,
             counters,
@@ -157,7 +158,9 @@ fn run(
             i as u64,
         );
         let answer = end.answer;
-        let temperature = junction(m, answer, area);
+        let kept = end.record;
+        let phase = kept.phase;
+        let temperature = junction(m, phase, area);
         refusals[i] = refusal(answer);
         junctions[i] = temperature;
         count = counted(m, end, temperature, count);

@@ -2,8 +2,8 @@
 //! malformed), or with the argument `junctions` what the program `day_junctions` writes of it.
 //!
 //! The same model and the same order of calls: each minute begins with `accept_step`, or with `initialize` on a kernel made
-//! anew where the minute before was refused, and goes on with one attempt of 60 seconds. The candidate is evaluated with
-//! the reading of the next minute.
+//! anew where the last attempt was refused, and goes on with one attempt of 60 seconds. The candidate is evaluated with the
+//! next finite reading. A minute whose reading is not finite calls nothing: it is refused with 9, and the kernel stands.
 use oracle::{Arguments, Oracle, SolveError};
 use std::cell::RefCell;
 use std::io::Read;
@@ -68,8 +68,19 @@ struct Day {
 }
 
 impl Day {
-    /// One minute: the candidate, or the number that the engine refuses it with.
-    fn minute(&mut self, minute: usize, reading: f64, upcoming: f64) -> Result<Vec<f64>, u64> {
+    /// The junction's present temperature: of the candidate that is not accepted yet, else of the kept state.
+    fn junction(&self) -> f64 {
+        match &self.oracle {
+            Some(oracle) => oracle.vectors()[10][0],
+            None => self.kept[0],
+        }
+    }
+
+    /// One minute: finished, or the number that it is refused with.
+    fn minute(&mut self, minute: usize, reading: f64, upcoming: f64) -> Result<(), u64> {
+        if !reading.is_finite() {
+            return Err(9);
+        }
         let start = (60 * minute) as f64;
         let last = RefCell::new(Vec::new());
         let rhs = |derivative: &mut [f64], point: &[f64], time: f64| {
@@ -80,6 +91,7 @@ impl Day {
         };
         let (mut oracle, before, begun) = match self.oracle.take() {
             Some(mut oracle) => {
+                // (without a callback the Rust reads neither time nor step)
                 oracle.accept(start - 60.0, 60.0);
                 self.kept = oracle.vectors()[9].to_vec();
                 let before = oracle.evaluations();
@@ -102,9 +114,8 @@ impl Day {
         self.evaluations += oracle.evaluations() - before;
         match end {
             Ok(_) => {
-                let candidate = oracle.vectors()[10].to_vec();
                 self.oracle = Some(oracle);
-                Ok(candidate)
+                Ok(())
             }
             Err(SolveError::NonFiniteDerivative) if last.borrow().iter().all(|x| x.is_finite()) => {
                 Err(10)
@@ -134,21 +145,15 @@ fn main() {
     let mut junctions = Vec::new();
     let readings: Vec<f64> = lines.map(double).collect();
     for (minute, &reading) in readings.iter().enumerate() {
-        let upcoming = match readings.get(minute + 1) {
-            Some(&next) if next.is_finite() => next,
-            _ => reading,
-        };
-        match day.minute(minute, reading, upcoming) {
-            Ok(candidate) => {
+        let later = readings[minute + 1..].iter().find(|x| x.is_finite());
+        match day.minute(minute, reading, *later.unwrap_or(&reading)) {
+            Ok(()) => {
                 day.finished += 1;
-                day.above += u64::from(candidate[0] > day.inverter.rated);
-                junctions.push(candidate[0]);
+                day.above += u64::from(day.junction() > day.inverter.rated);
             }
-            Err(number) => {
-                day.refusals.push((minute, number));
-                junctions.push(day.kept[0]);
-            }
+            Err(number) => day.refusals.push((minute, number)),
         }
+        junctions.push(day.junction());
     }
     if std::env::args().nth(1).as_deref() == Some("junctions") {
         for junction in junctions {

@@ -1,63 +1,89 @@
--- `inverter::minutes::upcoming` meets its contract: the tests are those of the definition. Assumes nothing.
-use borrow.Author.Needs.{needs}
-use mathlib.Core.Path.{sym, _∙_}
-use Rattle.inverter.proofs.Run.{upcoming-next, upcoming-not-finite, upcoming-none}
+-- `inverter::minutes::upcoming` meets its contract. Invariant: what holds from minute i on is what is found from place j on. Assumes nothing.
+use mathlib.Core.Path.{_≡_, refl, sym, _∙_}
+use Prim.Native.Nat.{_+_, _-_, _≤_, _<_}
+use native.Mathlib.Omega.{arith}
+use lib.ListN.{length, getD, drop}
+use lib.Ieee.{nan}
+use Rattle.inverter.specs.Day.{upcoming}
+use Rattle.inverter.proofs.Run.{upcoming-here, upcoming-later, upcoming-none}
 use Rattle.inverter.proofs.minutes.upcoming.Statement.{statement}
 use Rattle.inverter.proofs.minutes.upcoming.Tie as tie
 
-add-j : tie.Need-add-j
-add-j c = search needs
+abbrev Inv-loop : tie.InvT-loop
+Inv-loop readings i j₀ j =
+    (i < length readings) × (j ≤ length readings) × (upcoming (getD readings i nan) (drop (i + 1) readings) ≡ upcoming (getD readings i nan) (drop j readings))
 
-mul-result : tie.Need-mul-result
-mul-result c = search needs
+abbrev μ-loop : tie.MeasureT-loop
+μ-loop readings i j₀ j = length readings - j
 
-shared-slice-read-result : tie.Need-shared-slice-read-result
-shared-slice-read-result c = search needs
+add-j : tie.Need-add-j Inv-loop μ-loop
+add-j c = omega arith
 
-returns : tie.Need-returns
-returns c = let a = c .before .before .before .args in upcoming-none (a .readings .now) (a .i) (c .before .if1 .taken)
+loop-holds : tie.Need-loop-holds Inv-loop μ-loop
+loop-holds c = (c .before .pre, omega (arith, c .before .pre), refl)
 
-mul-is-finite : tie.Need-mul-is-finite
-mul-is-finite c = search needs
+mul-is-finite : tie.Need-mul-is-finite Inv-loop μ-loop
+mul-is-finite c = omega arith
 
-shared-slice-read-is-finite : tie.Need-shared-slice-read-is-finite
-shared-slice-read-is-finite c = search needs
+shared-slice-read-is-finite : tie.Need-shared-slice-read-is-finite Inv-loop μ-loop
+shared-slice-read-is-finite c = omega arith
 
-is-finite-requires : tie.Need-is-finite-requires
-is-finite-requires c κs = search needs
+is-finite-requires : tie.Need-is-finite-requires Inv-loop μ-loop
+is-finite-requires c κs = tt
 
-mul-result-2 : tie.Need-mul-result-2
-mul-result-2 c = search needs
+mul-result : tie.Need-mul-result Inv-loop μ-loop
+mul-result c = omega arith
 
-shared-slice-read-result-2 : tie.Need-shared-slice-read-result-2
-shared-slice-read-result-2 c = search needs
+shared-slice-read-result : tie.Need-shared-slice-read-result Inv-loop μ-loop
+shared-slice-read-result c = omega arith
 
-returns-2 : tie.Need-returns-2
-returns-2 c = let a = c .before .before .before .before .before .before .args in upcoming-next (a .readings .now) (a .i) (c .before .before .before .before .if1 .left) (sym (c .before .before .is-finite .ensures) ∙ c .before .if2 .taken)
+returns : tie.Need-returns Inv-loop μ-loop
+returns c = let a = c .before .before .before .before .before .before .before .args in
+    let l = c .before .before .before .before .before .loop in
+    let here = sym (c .before .before .is-finite .ensures) ∙ c .before .if1 .taken in
+    sym (l .inv .2 ∙ upcoming-here (getD (a .readings .now) (a .i) nan) (a .readings .now) (l .j) (c .before .before .before .before .loop-test .taken) here)
 
-mul-result-3 : tie.Need-mul-result-3
-mul-result-3 c = search needs
+add-j-2 : tie.Need-add-j-2 Inv-loop μ-loop
+add-j-2 c = omega arith
 
-shared-slice-read-result-3 : tie.Need-shared-slice-read-result-3
-shared-slice-read-result-3 c = search needs
+loop-less : tie.Need-loop-less Inv-loop μ-loop
+loop-less c = omega arith
 
-returns-3 : tie.Need-returns-3
-returns-3 c = let a = c .before .before .before .before .before .before .args in upcoming-not-finite (a .readings .now) (a .i) (c .before .before .before .before .if1 .left) (sym (c .before .before .is-finite .ensures) ∙ c .before .if2 .left)
+loop-again : tie.Need-loop-again Inv-loop μ-loop
+loop-again c = let a = c .before .before .before .before .before .before .args in
+    let l = c .before .before .before .before .loop in
+    let later = sym (c .before .is-finite .ensures) ∙ c .if1 .left in
+    let some = c .before .before .before .loop-test .taken in
+    (l .inv .0, omega (arith, some), l .inv .2 ∙ upcoming-later (getD (a .readings .now) (a .i) nan) (a .readings .now) (l .j) some later)
+
+mul-result-2 : tie.Need-mul-result-2 Inv-loop μ-loop
+mul-result-2 c = omega arith
+
+shared-slice-read-result-2 : tie.Need-shared-slice-read-result-2 Inv-loop μ-loop
+shared-slice-read-result-2 c = omega arith
+
+returns-2 : tie.Need-returns-2 Inv-loop μ-loop
+returns-2 c = let a = c .before .before .before .before .args in
+    let l = c .before .before .loop in
+    sym (l .inv .2 ∙ upcoming-none (getD (a .readings .now) (a .i) nan) (a .readings .now) (l .j) (c .before .loop-test .left))
 
 pub upcoming-spec : {M : Type 1} → statement M
 upcoming-spec =
     tie.close
     (tie.spec
+    Inv-loop
+    μ-loop
     add-j
-    mul-result
-    shared-slice-read-result
-    returns
+    loop-holds
     mul-is-finite
     shared-slice-read-is-finite
     is-finite-requires
+    mul-result
+    shared-slice-read-result
+    returns
+    add-j-2
+    loop-less
+    loop-again
     mul-result-2
     shared-slice-read-result-2
-    returns-2
-    mul-result-3
-    shared-slice-read-result-3
-    returns-3)
+    returns-2)
