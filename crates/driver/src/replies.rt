@@ -200,7 +200,7 @@ pub fn next_stage(record: Record, area: &mut [f64], derivative: &[f64]) -> Stagi
     requires { ⌜ 11 * «record» .n ≤ length (now area) ⌝ }
     requires { ⌜ length (now derivative) ≡ «record» .n ⌝ }
     requires { ⌜ (2 ≤ «record» .staging .stage) × («record» .staging .stage < «record» .staging .stages) ⌝ }
-    requires { ⌜ «record» .staging .stages < 2 ^ 16 ⌝ }
+    requires { ⌜ «record» .staging .stage + 1 < 2 ^ 32 ⌝ }
     ensures { λ r. ⌜ Steps (calls.take-stage «record» (unpack («record» .n) (now (area .entry))) (now (derivative .entry))) (asked-at r «record») (unpack («record» .n) (now (area .exit))) ⌝ }
 {
     let s = record.staging.stages;

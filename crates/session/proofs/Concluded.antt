@@ -1,9 +1,9 @@
--- The theorem over sequences: in any calls from a start that is taken, an answer "finished" is that of an attempt that was taken, by the s + k-th reply
+-- The theorems over sequences: in any calls from a start that is taken, an answer "finished" is that of an attempt that was taken, by the s + k-th reply
 -- since, and the record holds its s, k and r. By an invariant over the calls, one after another (Latest, Trails), and the laws of family and coefficients.
 use mathlib.Core.Path.{_≡_, refl, sym, ap, _∙_, subst}
 use mathlib.Core.Bool.{true, false}
 use mathlib.Core.List.{List, [], _∷_, _++_, append-assoc, append-nil}
-use Prim.Native.Nat.{ℕ}
+use Prim.Native.Nat.{ℕ, _-_}
 use native.Mathlib.Omega.{arith}
 use lib.Dec.{T}
 use lib.ListN.{length}
@@ -13,14 +13,17 @@ use Rattle.family.specs.Family.{Family, Orthogonal, made-of, family-of, permitt
 use Rattle.family.specs.Reach.{Serves}
 use Rattle.family.proofs.Counts.{stage-count-permitted, serves}
 use Rattle.family.proofs.Special.{infinite-count}
-use Rattle.coefficients.specs.Rows.{recurrence}
+use Rattle.coefficients.specs.declared.Recurrence.{Recurrence}
+use Rattle.coefficients.specs.Rows.{recurrence, carried}
+use Rattle.coefficients.proofs.CloseTable.{entry-taken}
 use Rattle.coefficients.proofs.CloseRows.{close-row, close-first}
 use Rattle.coefficients.proofs.Stable.{stable}
 use Rattle.driver.specs.declared.Phase.{Phase}
+use Rattle.driver.specs.declared.Phase.the-variants as P
 use Rattle.driver.specs.Answers.{case-number}
 use Rattle.driver.specs.Calls.{Held, Called, first-at, start, Call, Start, made, taken}
 use Rattle.session.specs.Session.{held-after}
-use Rattle.session.specs.Concluded.{found, stages-of, scaled-radius-of, Demand-three, Concluded}
+use Rattle.session.specs.Concluded.{found, stages-of, scaled-radius-of, Demand-three, Concluded, Carries}
 use Rattle.session.proofs.Truth.{differ}
 use Rattle.session.proofs.Later.{held-append}
 use Rattle.session.proofs.Outcomes.{Outcome, away, starts, outcome}
@@ -112,3 +115,20 @@ concluded h f n y t cs c q e =
     let z = leaves-finished g c (made g c) (outcome g c) e in
     let i = holds-on h calls c (holds h f n y t cs q) in
     concludes h (calls ++ c ∷ []) (made g c) (i .started) (i .trail (ap active (z .phase-is))) z
+
+-- And wherever a stage awaits its derivative, `Carries` holds of what the calls left.
+pub carries : (h : Held) (f n : ℕ) (y : List Float) (t : Float) (cs : List Call) → taken (start h f n y t .answer) ≡ true
+    → held-after h (Start f n y t ∷ cs) .kept .phase ≡ P.Stage → Carries (held-after h (Start f n y t ∷ cs))
+unfolding active
+carries h f n y t cs q e =
+    let x = held-after h (Start f n y t ∷ cs) in
+    let s = stages-of x in
+    let i = x .kept .staging .stage - 2 in
+    let trail = holds h f n y t cs q .trail (ap active e) in
+    let p = subst (Position (found (trail .attempt)) (length (trail .replies)) x) e (trail .underway .position) in record {
+      from-two = p .from-two;
+      recurrence-is = p .recurrence-is;
+      entry-read = λ is. ap (λ (c : Recurrence). c .polynomials .«omega_one») (p .recurrence-is)
+          ∙ ap (λ (f : Family). carried f s i .polynomials .«omega_one») is
+          ∙ entry-taken s i;
+    }

@@ -12,7 +12,7 @@ use Rattle.ieee.specs.Double.{_⊕_, nought}
 use Rattle.family.specs.Family.{Family, family-of, permitted, stage-count}
 use Rattle.coefficients.specs.declared.Coefficients.{Coefficients}
 use Rattle.coefficients.specs.declared.Recurrence.{Recurrence}
-use Rattle.coefficients.specs.Rows.{coefficients, next}
+use Rattle.coefficients.specs.Rows.{recurrence, coefficients, next}
 use Rattle.workspace.specs.declared.Arguments.{Arguments}
 use Rattle.workspace.specs.Vectors.{Vectors, number, unpack, pack, all-finite, state, candidate}
 use Rattle.workspace.specs.Kernel.{perturbation-of, turned, radius-of, ended, scaled, with-row, exchanged, with-candidate, with-last, error-norm}
@@ -41,6 +41,13 @@ radius-after r w = scaled (r .arguments .step) (radius-of (r .iteration .perturb
 
 abbrev pub count-after : Record → Vectors → ℕ
 count-after r w = stage-count (family-of (r .family)) (radius-after r w)
+
+-- what is carried into stage 2, and on from stage j
+abbrev pub first-after : Record → Vectors → Recurrence
+first-after r w = recurrence (family-of (r .family)) (count-after r w)
+
+abbrev pub carried-on : ℕ → ℕ → ℕ → Recurrence → Recurrence
+carried-on f s j c = next (family-of f) s c (coefficients (family-of f) s j c)
 
 -- the norm of a finished attempt that left the vectors w
 abbrev pub norm-after : Record → Vectors → Float
@@ -73,10 +80,10 @@ module _ (h : Held) where
     readies : {d : List Float} (area : List Float) → Outcome (Reply d) (leaving Ready (in-phase P.Ready r) (one-more c) area)
     iterates : {d : List Float} (t radius : Float) (b : ℕ) (area : List Float) → r .phase ≡ P.Pass
         → Outcome (Reply d) (leaving (Evaluate t b) (at-pass (r .arguments) (r .iteration .pass + 1) (r .iteration .perturbation) radius r) (one-more c) area)
-    begins : {d : List Float} (w : Vectors) (t : Float) (b : ℕ) (x : Recurrence) (area : List Float) → r .phase ≡ P.Pass → r .iteration .pass ≤ 12
-        → Outcome (Reply d) (leaving (Evaluate t b) (at-stage (count-after r w) 2 x (with-radius (radius-after r w) r)) (one-more c) area)
-    goes-on : {d : List Float} (t : Float) (b : ℕ) (x : Recurrence) (area : List Float) → r .phase ≡ P.Stage → j < s
-        → Outcome (Reply d) (leaving (Evaluate t b) (at-stage s (j + 1) x r) (one-more c) area)
+    begins : {d : List Float} (w : Vectors) (t : Float) (b : ℕ) (area : List Float) → r .phase ≡ P.Pass → r .iteration .pass ≤ 12
+        → Outcome (Reply d) (leaving (Evaluate t b) (at-stage (count-after r w) 2 (first-after r w) (with-radius (radius-after r w) r)) (one-more c) area)
+    goes-on : {d : List Float} (t : Float) (b : ℕ) (area : List Float) → r .phase ≡ P.Stage → j < s
+        → Outcome (Reply d) (leaving (Evaluate t b) (at-stage s (j + 1) (carried-on (r .family) s j (r .staging .recurrence)) r) (one-more c) area)
     asks-candidate : {d : List Float} (t : Float) (b : ℕ) (area : List Float) → r .phase ≡ P.Stage → j ≡ s
         → Outcome (Reply d) (leaving (Evaluate t b) (in-phase P.Candidate r) (one-more c) area)
     finishes : {d : List Float} (w : Vectors) → r .phase ≡ P.Candidate → Long (r .n) w
@@ -109,7 +116,7 @@ module _ (h : Held) where
     on-pass : (t : Bool) (w : Vectors) (radius : Float) → r .phase ≡ P.Pass → r .iteration .pass ≤ 12
         → Comes (settled c (cond t (begin-stages r w (radius-after r w)) (ask-pass (again radius) w)))
     unfolding settled going-on counted begin-stages by-need ask-stage ask-pass at-pass
-    on-pass true w radius p twelve = rw (need-is (family-of (r .family)) (radius-after r w)) (begins w _ _ _ _ p twelve)
+    on-pass true w radius p twelve = rw (need-is (family-of (r .family)) (radius-after r w)) (begins w _ _ _ p twelve)
     on-pass false w radius p twelve = iterates _ radius _ _ p
 
     on-last-stage : (w : Vectors) → r .phase ≡ P.Stage → j ≡ s → Comes (settled c (ask-candidate r w))
@@ -143,7 +150,7 @@ module _ (h : Held) where
         on = at-stage s (j + 1) (next f s (r .staging .recurrence) row) r
 
         go : (t : Bool) → ltb j s ≡ t → Comes (settled c (cond t (ask-stage on (exchanged w)) (ask-candidate r (with-candidate w))))
-        go true e = goes-on _ _ _ _ p (ltb-true j s e)
+        go true e = goes-on _ _ _ p (ltb-true j s e)
         go false e = on-last-stage (with-candidate w) p (let l = ltb-false j s e in omega (arith, to))
 
     by-phase : (φ : Phase) (v : Vectors) → r .phase ≡ φ → pending φ && in-range φ r ≡ true → Long (r .n) v → length d ≡ r .n

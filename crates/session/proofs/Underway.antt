@@ -1,13 +1,15 @@
 -- An attempt under way, as record and counters tell it: an attempt that is taken begins it, and each reply that is taken goes on with it, up to finished.
 -- And what an answer "finished" leaves; the family and the n stand but for a start. From the outcomes of a call, and Signs (r is not below 0).
-use mathlib.Core.Path.{_≡_, refl, sym, ap, _∙_, subst}
+use mathlib.Core.Path.{_≡_, refl, sym, ap, ap₂, _∙_, subst}
 use mathlib.Core.Bool.{Bool, true, false}
 use mathlib.Core.List.{List}
-use Prim.Native.Nat.{ℕ, _+_, _-_, _≤_}
+use Prim.Native.Nat.{ℕ, suc, _+_, _-_, _≤_}
 use native.Mathlib.Omega.{arith}
 use lib.Ieee.{Float, lt}
 use Rattle.ieee.specs.Double.{nought}
 use Rattle.family.specs.Family.{family-of, stage-count}
+use Rattle.coefficients.specs.declared.Recurrence.{Recurrence}
+use Rattle.coefficients.specs.Rows.{carried}
 use Rattle.workspace.specs.declared.Arguments.{Arguments}
 use Rattle.workspace.specs.Vectors.{Vectors, unpack}
 use Rattle.workspace.specs.Kernel.{radius-of}
@@ -20,7 +22,7 @@ use Rattle.driver.specs.Calls.{Held, Called, in-phase, first-at, at-pass, with-
 use Rattle.session.specs.Concluded.{stages-of, passes-of, scaled-radius-of, is-start}
 use Rattle.session.proofs.Truth.{differ}
 use Rattle.session.proofs.Signs.{Plus, not-below, perturbation-plus, radius-plus, scaled-plus}
-use Rattle.session.proofs.Outcomes.{radius-after, norm-after, Outcome, away, starts, attempts, spoils, readies}
+use Rattle.session.proofs.Outcomes.{radius-after, carried-on, norm-after, Outcome, away, starts, attempts, spoils, readies}
 use Rattle.session.proofs.Outcomes.{iterates, begins, goes-on, asks-candidate, finishes, accepts, calls-back, abandons}
 
 -- ---- the phases of an attempt
@@ -65,6 +67,8 @@ pub record In-passes (g : Held) (m : ℕ) (x : Held) : Type 0 where
 pub record In-stages (g : Held) (m to-come finished : ℕ) (x : Held) : Type 0 where
   pub suits : Suits (x .kept .family) (passes-of x) (stages-of x) (scaled-radius-of x)
   pub replies-are : m + to-come ≡ stages-of x + passes-of x
+  pub from-two : 2 ≤ x .kept .staging .stage
+  pub recurrence-is : x .kept .staging .recurrence ≡ carried (family-of (x .kept .family)) (stages-of x) (x .kept .staging .stage - 2)
   pub attempts-are : x .counters .«finished_attempts» ≡ g .counters .«finished_attempts» + finished
 
 abbrev pub Position : Held → ℕ → Held → Phase → Type 0
@@ -81,6 +85,14 @@ pub record Underway (g : Held) (a : Arguments) (m : ℕ) (x : Held) : Type 0 whe
   pub arguments-are : x .kept .arguments ≡ a
   pub evaluations-are : x .counters .evaluations ≡ g .counters .evaluations + m
   pub position : Position g m x (x .kept .phase)
+
+-- what is carried on from stage j is what the recurrence comes to there
+carries-on : (f s j : ℕ) (c : Recurrence) → 2 ≤ j → c ≡ carried (family-of f) s (j - 2) → carried-on f s j c ≡ carried (family-of f) s (j + 1 - 2)
+unfolding carried
+carries-on f s j c from e =
+    let before : j - 2 + 2 ≡ j = omega arith in
+    let after : j + 1 - 2 ≡ suc (j - 2) = omega arith in
+    ap₂ (λ (i : ℕ) (c : Recurrence). carried-on f s i c) (sym before) e ∙ ap (carried (family-of f) s) (sym after)
 
 -- a call leaves it so, and answers so
 pub record Goes (g : Held) (a : Arguments) (m : ℕ) (x : Called) : Type 0 where
@@ -107,7 +119,7 @@ module _ (g : Held) (a : Arguments) (m : ℕ) (x : Held) (u : Underway g a m x) 
   at-phase φ p = subst (Position g m x) p (u .position)
 
   pub reply-goes : (d : List Float) (y : Called) → Outcome x (Reply d) y → taken (y .answer) ≡ true → active (y .held .kept .phase) ≡ true → Goes g a (m + 1) y
-  unfolding in-phase at-pass with-radius at-stage active case-number case-at
+  unfolding in-phase at-pass with-radius at-stage active case-number case-at carried
   reply-goes d y (away i e) q on = absurd (differ (sym e ∙ q))
   reply-goes d y (spoils i area) q on = absurd (differ on)
   reply-goes d y (readies area) q on = absurd (differ on)
@@ -119,7 +131,7 @@ module _ (g : Held) (a : Arguments) (m : ℕ) (x : Held) (u : Underway g a m x) 
     };
     answered = refl;
   }
-  reply-goes d y (begins w t b c area p twelve) q on = let i = at-phase P.Pass p in
+  reply-goes d y (begins w t b area p twelve) q on = let i = at-phase P.Pass p in
       let r = x .kept in
       let plus = radius-plus (r .iteration .perturbation) w (i .unsigned) in record {
         underway = record {
@@ -133,16 +145,24 @@ module _ (g : Held) (a : Arguments) (m : ℕ) (x : Held) (u : Underway g a m x) 
               stages-are = refl;
             };
             replies-are = omega arith;
+            from-two = omega arith;
+            recurrence-is = refl;
             attempts-are = omega arith;
           };
         };
         answered = refl;
       }
-  reply-goes d y (goes-on t b c area p below) q on = let i = at-phase P.Stage p in record {
+  reply-goes d y (goes-on t b area p below) q on = let i = at-phase P.Stage p in record {
     underway = record {
       arguments-are = u .arguments-are;
       evaluations-are = omega arith;
-      position = record { suits = i .suits; replies-are = omega arith; attempts-are = i .attempts-are };
+      position = record {
+        suits = i .suits;
+        replies-are = omega arith;
+        from-two = (let l = i .from-two in omega arith);
+        recurrence-is = carries-on (x .kept .family) (stages-of x) (x .kept .staging .stage) (x .kept .staging .recurrence) (i .from-two) (i .recurrence-is);
+        attempts-are = i .attempts-are;
+      };
     };
     answered = refl;
   }
@@ -150,7 +170,13 @@ module _ (g : Held) (a : Arguments) (m : ℕ) (x : Held) (u : Underway g a m x) 
     underway = record {
       arguments-are = u .arguments-are;
       evaluations-are = omega arith;
-      position = record { suits = i .suits; replies-are = omega arith; attempts-are = i .attempts-are };
+      position = record {
+        suits = i .suits;
+        replies-are = omega arith;
+        from-two = i .from-two;
+        recurrence-is = i .recurrence-is;
+        attempts-are = i .attempts-are;
+      };
     };
     answered = refl;
   }
@@ -158,7 +184,13 @@ module _ (g : Held) (a : Arguments) (m : ℕ) (x : Held) (u : Underway g a m x) 
     underway = record {
       arguments-are = u .arguments-are;
       evaluations-are = omega arith;
-      position = record { suits = i .suits; replies-are = omega arith; attempts-are = omega arith };
+      position = record {
+        suits = i .suits;
+        replies-are = omega arith;
+        from-two = i .from-two;
+        recurrence-is = i .recurrence-is;
+        attempts-are = omega arith;
+      };
     };
     answered = refl;
   }
@@ -175,8 +207,8 @@ stays x c y (attempts v t b area) other = (refl, refl)
 stays x c y (spoils i area) other = (refl, refl)
 stays x c y (readies area) other = (refl, refl)
 stays x c y (iterates t radius b area p) other = (refl, refl)
-stays x c y (begins w t b r area p twelve) other = (refl, refl)
-stays x c y (goes-on t b r area p below) other = (refl, refl)
+stays x c y (begins w t b area p twelve) other = (refl, refl)
+stays x c y (goes-on t b area p below) other = (refl, refl)
 stays x c y (asks-candidate t b area p at) other = (refl, refl)
 stays x c y (finishes w p long) other = (refl, refl)
 stays x c y (accepts area) other = (refl, refl)
@@ -196,8 +228,8 @@ leaves-finished x c y (attempts v t b area) two = absurd (omega arith)
 leaves-finished x c y (spoils i area) two = absurd (omega arith)
 leaves-finished x c y (readies area) two = absurd (omega arith)
 leaves-finished x c y (iterates t radius b area p) two = absurd (omega arith)
-leaves-finished x c y (begins w t b r area p twelve) two = absurd (omega arith)
-leaves-finished x c y (goes-on t b r area p below) two = absurd (omega arith)
+leaves-finished x c y (begins w t b area p twelve) two = absurd (omega arith)
+leaves-finished x c y (goes-on t b area p below) two = absurd (omega arith)
 leaves-finished x c y (asks-candidate t b area p at) two = absurd (omega arith)
 leaves-finished x c y (finishes w p long) two = record {
   phase-is = refl;

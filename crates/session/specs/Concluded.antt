@@ -12,11 +12,12 @@ use lib.Ieee.{Float, inf, lt}
 use lib.Ieee.Scale.{finite}
 use Rattle.ieee.specs.Double.{nought}
 use Rattle.ieee.specs.Close.{Close}
-use Rattle.family.specs.Family.{Orthogonal, made-of, family-of, largest-count, stage-count}
+use Rattle.family.specs.Family.{RKC, Orthogonal, made-of, family-of, largest-count, stage-count}
 use Rattle.family.specs.Reach.{Serves}
 use Rattle.coefficients.specs.declared.Recurrence.{Recurrence}
 use Rattle.coefficients.specs.Paper as Paper
-use Rattle.coefficients.specs.Rows.{recurrence, coefficients}
+use Rattle.coefficients.specs.Rows.{recurrence, coefficients, carried}
+use Rattle.coefficients.specs.Table as Table
 use Rattle.coefficients.specs.Closeness.{Close-row}
 use Rattle.coefficients.specs.Multiplier.{Stable}
 use Rattle.workspace.specs.declared.Arguments.{Arguments}
@@ -118,3 +119,11 @@ pub record Concluded (h : Held) (calls : List Call) (x : Called) : Type 0 where
   pub not-negative : lt (scaled-radius-of (x .held)) nought ≡ false
   pub largest-at-infinity : scaled-radius-of (x .held) ≡ inf false → stages-of (x .held) ≡ largest-count (family-of (start .family))
   pub demand-three : (g : Orthogonal) → family-of (start .family) ≡ made-of g → Demand-three g (scaled-radius-of (x .held)) (stages-of (x .held))
+
+-- ---- a stage that awaits its derivative, in a sequence
+
+-- What the record carries into the stage is what the recurrence comes to there, from family and s alone; in RKC `omega_one` is the table's entry for s.
+pub record Carries (x : Held) : Type 0 where
+  pub from-two : 2 ≤ x .kept .staging .stage
+  pub recurrence-is : x .kept .staging .recurrence ≡ carried (family-of (x .kept .family)) (stages-of x) (x .kept .staging .stage - 2)
+  pub entry-read : family-of (x .kept .family) ≡ RKC → x .kept .staging .recurrence .polynomials .«omega_one» ≡ Table.omega (stages-of x)
