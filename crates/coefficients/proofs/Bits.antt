@@ -16,5 +16,5 @@ entry-at (x ∷ l) zero h = refl
 entry-at (x ∷ l) (suc i) h = entry-at l i (le-of-suc-le-suc h)
 
 -- the code's index j is the definition's, i
-pub read-at : (l : List ℕ) {j i : ℕ} → j ≡ i → i < length l → getD (doubles l) j nan ≡ ofBits binary64 (getD l i 0)
-read-at l {i = i} e h = ap (λ (k : ℕ). getD (doubles l) k nan) e ∙ entry-at l i h
+pub read-at : (l : List ℕ) (j i : ℕ) → j ≡ i → i < length l → getD (doubles l) j nan ≡ ofBits binary64 (getD l i 0)
+read-at l j i e h = ap (λ (k : ℕ). getD (doubles l) k nan) e ∙ entry-at l i h

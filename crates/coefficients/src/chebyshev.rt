@@ -1,13 +1,13 @@
 // `run_rkc` of chebyshev.rs: omega_zero, omega_one, and the recurrence of the Chebyshev polynomials.
 ghost use mathlib.Core.Path.{_≡_};
-ghost use Prim.Native.Nat.{_-_, min};
 ghost use Rattle.coefficients.specs.Rows as rows;
 ghost use Rattle.coefficients.specs.Table.{omega};
 use crate::Coefficients;
 use crate::Polynomials;
 use crate::Recurrence;
 
-// omega_one for s = 2 to 200. A read copies the table to the stack, so an attempt reads it once, when its stages begin.
+// omega_one for s = 2 to 200. A read at an index that is not a constant copies the table to the stack, so an attempt reads
+// it once, when its stages begin.
 const OMEGA_ONE: [f64; 199] = [
     1.03846153846154,
     0.38564784888314274,
@@ -211,23 +211,16 @@ const OMEGA_ONE: [f64; 199] = [
 ];
 
 // A count outside 2 to 200 reads the nearest entry.
-fn entry_of(s: u64) -> usize
-    ensures { λ r. ⌜ r ≡ min s 200 - 2 ⌝ }
-{
-    if s < 2 {
-        return 0;
-    }
-    if s > 200 {
-        return 198;
-    }
-    (s - 2) as usize
-}
-
 pub fn omega_one(s: u64) -> f64
     ensures { λ r. ⌜ r ≡ omega s ⌝ }
 {
-    let i = entry_of(s);
-    OMEGA_ONE[i]
+    if s <= 2 {
+        return OMEGA_ONE[0];
+    }
+    if s >= 200 {
+        return OMEGA_ONE[198];
+    }
+    OMEGA_ONE[(s - 2) as usize]
 }
 
 pub fn omega_zero(s: u64) -> f64
