@@ -62,15 +62,15 @@ module _ (m : Inverter) where
       let two = length-append (js ++ (x ∷ [])) (x ∷ []) in
       let all = ap length e in
       let first = junction-stays minute readings t p (omega (arith, q, one, two, all))
-          ∙ ap (λ (l : List Float). getD l p nan) e
-          ∙ List·getD-append (js ++ (x ∷ [])) (x ∷ []) nan p (omega (arith, q, one))
-          ∙ ap (λ (k : ℕ). getD (js ++ (x ∷ [])) k nan) q
-          ∙ getD-append-seam js x [] nan in
+      ∙ ap (λ (l : List Float). getD l p nan) e
+      ∙ List·getD-append (js ++ (x ∷ [])) (x ∷ []) nan p (omega (arith, q, one))
+      ∙ ap (λ (k : ℕ). getD (js ++ (x ∷ [])) k nan) q
+      ∙ getD-append-seam js x [] nan in
       let place : p + 1 ≡ length (js ++ (x ∷ [])) = omega (arith, q, one) in
       let second = junction-stays minute readings t (p + 1) (omega (arith, q, one, two, all))
-          ∙ ap (λ (l : List Float). getD l (p + 1) nan) e
-          ∙ ap (λ (k : ℕ). getD ((js ++ (x ∷ [])) ++ (x ∷ [])) k nan) place
-          ∙ getD-append-seam (js ++ (x ∷ [])) x [] nan in
+      ∙ ap (λ (l : List Float). getD l (p + 1) nan) e
+      ∙ ap (λ (k : ℕ). getD ((js ++ (x ∷ [])) ++ (x ∷ [])) k nan) place
+      ∙ getD-append-seam (js ++ (x ∷ [])) x [] nan in
       second ∙ sym first
 
   -- the junction of minute i + 1 from here on

@@ -71,8 +71,8 @@ module _ (m : Inverter) (minute : ℕ) (reading upcoming : Float) where
   unfoldable pub passed : Held → Called
   passed h = driven most-calls (begun m minute h)
 
-  -- A reading that is not finite never enters the engine, where it would cost the eigenvector: its minute makes no call, so that record, counters and area
-  -- stand, and is refused with the number of a derivative that is not finite
+  -- A reading that is not finite never enters the engine: refused there, it would cost the minutes that follow the eigenvector, and so their stage counts.
+  -- Its minute makes no call, so that record, counters and area stand, and has the number of a derivative that is not finite
   unfoldable pub taken : Held → Called
   taken h = cond (finite reading) (passed h) (called (Refused 9) h)
 

@@ -213,8 +213,9 @@ pub fn take(
             minute,
         );
     }
+    let answer = Answer::Refused(9);
     Replied {
-        answer: Answer::Refused(9),
+        answer,
         record,
         counters,
     }
