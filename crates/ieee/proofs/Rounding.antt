@@ -2,7 +2,7 @@
 -- of each other, adds up under products with no second-order terms. Assumes nothing.
 use mathlib.Core.Path.{_≡_, refl, sym, ap, _∙_, subst}
 use Prim.Native.Nat.{ℕ, zero, suc, _+_, _-_, _*_, _/_, _%_, _^_, _≤_, _<_, compare, Ordering, Ordering·lt, Ordering·eq, Ordering·gt}
-use native.Mathlib.Nat.{le-trans, le-of-eq, le-of-lt, lt-of-le-of-lt, le-of-mul-le-mul-right, mul-comm, mul-assoc, mul-left-comm, mul-right-comm, mul-mul-mul-comm, mul-le-mul, mul-le-mul-right, mul-le-mul-left, mul-pos, mul-sub, eq-zero-or-pos, not-le-of-lt, lt-of-mul-lt-mul-right, add-mul, mod-lt, div-add-mod', le-div-iff-mul-le}
+use native.Mathlib.Nat.{le-trans, le-of-eq, le-of-lt, lt-of-le-of-lt, le-of-mul-le-mul-right, mul-comm, mul-assoc, mul-left-comm, mul-right-comm, mul-mul-mul-comm, mul-le-mul, mul-le-mul-right, mul-le-mul-left, mul-pos, mul-sub, lt-of-mul-lt-mul-right, add-mul, mod-lt, div-add-mod', le-div-iff-mul-le}
 use native.Mathlib.Omega.{arith}
 use mathlib.Core.Logic.{_⊎_, inl, inr}
 use mathlib.Core.Bool.{Bool, true, false, not}
@@ -66,9 +66,6 @@ rel-weaken {n} {m} {u} {v} l h = record { to = le-trans (mul-le-mul-left u (less
   where
     less : (p : ℕ) → n ≤ m → p - m ≤ p - n
     less p l = omega arith
-
-pub rel-equal : {u v : ℕ} → u ≡ v → Rel 0 u v
-rel-equal e = record { to = mul-le-mul-right P (le-of-eq e); from = mul-le-mul-right P (le-of-eq (sym e)) }
 
 pub rel-same : {n u v u' v' : ℕ} → u ≡ u' → v ≡ v' → Rel n u v → Rel n u' v'
 rel-same e f h = record { to = rw (← e, ← f) (h .to); from = rw (← e, ← f) (h .from) }
@@ -172,15 +169,6 @@ pub record Near (n : ℕ) (s : Bool) (x : Float) (m d : ℕ) : Type 0 where
 pub record Within (k a c : ℕ) : Type 0 where
   pub lower : c ≤ a * 2 ^ k
   pub upper : a ≤ c * 2 ^ k
-
-pub pos-of-rel : {n u v : ℕ} → n < P → Rel n u v → 0 < v → 0 < u
-pos-of-rel {n} {u} {v} l h p = elim (eq-zero-or-pos u) [
-  | inl z ↦ absurd (not-le-of-lt (mul-pos p (room P l)) (le-trans (h .from) (le-of-eq (ap (λ (x : ℕ). x * P) z))))
-  | inr q ↦ q
-]
-  where
-    room : (p : ℕ) → n < p → 0 < p - n
-    room p l = omega arith
 
 -- z is g / l
 to-value : (z : Float) (s : Bool) (g l a c : ℕ) → 0 < l → HasValue z s g l → Off (g * c) (a * l) → Rounded s z a c

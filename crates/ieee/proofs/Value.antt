@@ -1,21 +1,20 @@
--- A double is determined by its sign and its value (`same-value`), and rounding leaves it as it is (`round-own`). So dividing by 1 changes no double,
--- and halving is multiplying by 1/2. Assumes nothing.
+-- A double is determined by its sign and its value (`same-value`), and rounding leaves it as it is (`round-own`). So dividing by 1 changes no double.
+-- Assumes nothing.
 use mathlib.Core.Path.{_≡_, refl, sym, ap, _∙_, subst}
 use Prim.Native.Nat.{ℕ, zero, suc, _+_, _-_, _*_, _/_, _%_, _^_, _≤_, _<_}
-use native.Mathlib.Nat.{le-of-eq, lt-of-lt-of-le, lt-of-not-le, le-of-suc-le-suc, lt-irrefl, mul-assoc, mul-comm, mul-right-comm, mul-one, one-mul, zero-mul, mul-pos, mul-lt-mul-of-pos-right, lt-of-mul-lt-mul-right, eq-of-mul-eq-mul-right}
+use native.Mathlib.Nat.{le-of-eq, lt-of-lt-of-le, lt-of-not-le, le-of-suc-le-suc, lt-irrefl, mul-assoc, mul-right-comm, mul-one, one-mul, zero-mul, mul-pos, mul-lt-mul-of-pos-right, lt-of-mul-lt-mul-right, eq-of-mul-eq-mul-right}
 use native.Mathlib.Omega.{arith}
 use mathlib.Core.Bool.{Bool, true, false, _&&_, cond}
 use lib.IntN.{ℤ, pos, negsuc}
 use lib.Dec.{T, ltb, leb, eqb, ltb→lt, leb→le, lit<}
 use lib.Pow.{pow-add, pow-pos, pow-lt}
-use lib.Ieee.{Float, nan, inf, fin, binary64, up, down, size, top, hid, fits, round, mul, div, unlike, ofInt, toBits, ofBits}
+use lib.Ieee.{Float, nan, inf, fin, binary64, up, down, size, top, hid, fits, round, div, unlike, toBits, ofBits}
 use lib.Ieee.Fits.{down-pos, and-l, and-r, round-fits}
 use lib.Ieee.Exact.{HasValue, round-exact}
 use lib.Ieee.Nearest.{div-same}
 use lib.Ieee.Scale.{round-same}
 use lib.Ieee.Bits.{ofBits-toBits}
-use lib.Ieee.Back.{round-whole}
-use Rattle.ieee.specs.Double.{_⊗_, _⊘_, one, two, half, double}
+use Rattle.ieee.specs.Double.{_⊘_, one}
 
 -- ---- what `fits` says: few digits, not too many of them behind the point, not too large
 pub says : (s : Bool) (m : ℕ) (e : ℤ) → T (fits binary64 (fin s (suc m) e)) → (suc m < 2 ^ 53) × (down e ≤ 2 ^ 1074) × (suc m * up e < 2 ^ 1024 * down e)
@@ -79,7 +78,7 @@ exact s (suc m) e h =
 pub round-own : (s : Bool) (m : ℕ) (e : ℤ) → T (fits binary64 (fin s m e)) → round binary64 s (m * up e) (down e) ≡ fin s m e
 round-own s m e h = same-value (round binary64 s (m * up e) (down e)) (fin s m e) s (m * up e) (down e) (down-pos e) (round-fits binary64 s (m * up e) (down e)) h (exact s m e h) (refl, refl)
 
--- ---- dividing by 1, and halving
+-- ---- dividing by 1
 own : (s : Bool) → unlike s false ≡ s
 own true = refl
 own false = refl
@@ -95,17 +94,3 @@ over-one (fin s m e) h =
   where
     flat : (n d : ℕ) → n * 1 * d ≡ n * (1 * 1 * d)
     flat n d = simp (mul-one, one-mul)
-
-pub halving : (x : Float) → x ⊘ two ≡ x ⊗ half
-unfolding div mul
-halving nan = refl
-halving (inf s) = refl
-halving (fin s m e) = round-same binary64 _ (m * up e * 1) (1 * 2 * down e) (m * up e * (1 * 1)) (down e * 2) (mul-pos (lit< tt) (down-pos e)) (mul-pos (down-pos e) (lit< tt)) (cross (m * up e) (down e))
-  where
-    cross : (n d : ℕ) → n * 1 * (d * 2) ≡ n * (1 * 1) * (1 * 2 * d)
-    cross n d = simp (mul-one, one-mul, mul-comm)
-
--- ---- a small whole number is exact
-pub double-value : (n : ℕ) → n ≤ 2 ^ 53 → HasValue (double n) false n 1
-unfolding double ofInt
-double-value n h = round-whole binary64 false n h

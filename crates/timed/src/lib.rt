@@ -1,18 +1,22 @@
-// Loops over the calls whose speed bench/ measures. Nothing is promised of them but that they are safe and end.
-ghost use Prim.Native.Nat.{_≤_};
+// Loops over the calls whose speed bench/ measures.
+ghost use mathlib.Core.Path.{_≡_};
+ghost use Prim.Native.Nat.{min};
+ghost use Rattle.timed.specs.Left.{roots-over, root-chain};
 
 mod loops;
 
 // the shorter of two lengths
 fn shorter(a: usize, b: usize) -> usize
-    ensures { λ r. ⌜ (r ≤ a) × (r ≤ b) ⌝ }
+    ensures { λ r. ⌜ r ≡ min a b ⌝ }
 {
     if a < b { a } else { b }
 }
 
 // Roots that do not wait for each other.
 #[no_mangle]
-pub extern "C" fn timed_roots(out: &mut [f64], x: &[f64]) {
+pub extern "C" fn timed_roots(out: &mut [f64], x: &[f64])
+    ensures { λ _. ⌜ now (out .exit) ≡ roots-over (now (x .entry)) (now (out .entry)) ⌝ }
+{
     let n = shorter(out.len(), x.len());
     let mut i = 0;
     while i < n {
@@ -22,7 +26,9 @@ pub extern "C" fn timed_roots(out: &mut [f64], x: &[f64]) {
 }
 
 #[no_mangle]
-pub extern "C" fn timed_roots_by_digits(out: &mut [f64], x: &[f64]) {
+pub extern "C" fn timed_roots_by_digits(out: &mut [f64], x: &[f64])
+    ensures { λ _. ⌜ now (out .exit) ≡ roots-over (now (x .entry)) (now (out .entry)) ⌝ }
+{
     let n = shorter(out.len(), x.len());
     let mut i = 0;
     while i < n {
@@ -33,7 +39,9 @@ pub extern "C" fn timed_roots_by_digits(out: &mut [f64], x: &[f64]) {
 
 // Roots of which each waits for the one before.
 #[no_mangle]
-pub extern "C" fn timed_root_chain(x: &[f64]) -> f64 {
+pub extern "C" fn timed_root_chain(x: &[f64]) -> f64
+    ensures { λ r. ⌜ r ≡ root-chain (now (x .entry)) ⌝ }
+{
     let mut a = 2.0;
     let mut i = 0;
     while i < x.len() {
@@ -44,7 +52,9 @@ pub extern "C" fn timed_root_chain(x: &[f64]) -> f64 {
 }
 
 #[no_mangle]
-pub extern "C" fn timed_root_chain_by_digits(x: &[f64]) -> f64 {
+pub extern "C" fn timed_root_chain_by_digits(x: &[f64]) -> f64
+    ensures { λ r. ⌜ r ≡ root-chain (now (x .entry)) ⌝ }
+{
     let mut a = 2.0;
     let mut i = 0;
     while i < x.len() {

@@ -13,7 +13,7 @@ use Rattle.ieee.specs.Double.{one, min-positive}
 use Rattle.family.specs.Family.{Family, RKC, RKL1, RKL2, RKG1, RKG2}
 use Rattle.coefficients.specs.declared.Coefficients.{Coefficients}
 use Rattle.workspace.specs.declared.Arguments.{Arguments}
-use Rattle.workspace.specs.Vectors.{Vector, Vectors, _with_≔_, number, named, vector-count, unpack, pack, join, in-order, tabulate, each, vector-norm, first-derivative, last-derivative, derivative, previous-two, previous-one, next-stage, eigenvector, perturbed-state, perturbed-derivative, state, candidate}
+use Rattle.workspace.specs.Vectors.{Vector, Vectors, _with_≔_, number, named, vector-count, unpack, Becomes, pack, join, in-order, tabulate, each, vector-norm, first-derivative, last-derivative, derivative, previous-two, previous-one, next-stage, eigenvector, perturbed-state, perturbed-derivative, state, candidate}
 use Rattle.workspace.specs.Kernel.{with-direction, perturbed-by, perturbed, turned, first-stage, with-row, entry, exchanged, with-candidate, with-last, error}
 
 -- every vector is n long
@@ -84,6 +84,17 @@ whole RKL1 n area h = omega arith
 whole RKL2 n area h = omega arith
 whole RKG1 n area h = omega arith
 whole RKG2 n area h = omega arith
+
+-- ---- an area that becomes another
+
+module _ {n : ℕ} {l m : List Float} {f : Vectors → Vectors} where
+  -- the same vectors, said otherwise
+  pub becomes-as : {g : Vectors → Vectors} → Becomes n l m f → f (unpack n l) ≡ g (unpack n l) → Becomes n l m g
+  becomes-as B e = record { vectors = B .vectors ∙ e; rest = B .rest }
+
+  -- one step after the other
+  pub becomes-then : {o : List Float} {g : Vectors → Vectors} → Becomes n l m f → Becomes n m o g → Becomes n l o (λ v. g (f v))
+  becomes-then {o} {g} B C = record { vectors = C .vectors ∙ ap g (B .vectors); rest = C .rest ∙ B .rest }
 
 -- ---- the area got back from its vectors
 

@@ -1,5 +1,5 @@
 -- The loop that works vectors out column by column: at each turn it stores into column i, one after the other, what the rules make of column i
--- as it stood. Whatever the rules are: what holds at the loop's head, at the start, after a turn, and what the vectors are at the end. Every
+-- as it stood. Whatever the rules are: what holds at the loop's head, at the start, after a turn, and what the area has become at the end. Every
 -- element-wise loop over the area cites this.
 use mathlib.Core.Path.{_≡_, refl, sym, ap, _∙_, subst, fun-ext}
 use mathlib.Core.Logic.{_⊎_, inl, inr, ⊎-elim}
@@ -11,9 +11,9 @@ use native.Mathlib.Omega.{arith}
 use borrow.Author.Tests.{eq-eqb, ne-eqb, eqb-true, ltb-true, lt-ltb}
 use lib.Dec.{eqb, ltb}
 use lib.ListN.{length, getD, drop, set, length-set, length-take, length-drop}
-use lib.Seq.{getD-set-same, getD-set-other, ext-getD, getD-take, getD-drop, length-take-le}
+use lib.Seq.{getD-set-same, getD-set-other, drop-set-lt, ext-getD, getD-take, getD-drop, length-take-le}
 use lib.Ieee.{Float, nan}
-use Rattle.workspace.specs.Vectors.{Vector, Vectors, _with_≔_, number, named, column, unpack, each}
+use Rattle.workspace.specs.Vectors.{Vector, Vectors, _with_≔_, number, named, column, unpack, extent, beyond, Becomes, each}
 use Rattle.workspace.proofs.Areas.{number-below, named-number, room, length-each}
 use Rattle.workspace.proofs.Lists.{split, each-at}
 
@@ -128,6 +128,12 @@ stores-here n i ((k, f) ∷ rs) v l h r =
     stores-here n i rs v l′ h (subst (λ (m : ℕ). Room n m rs) (sym (length-set l (number k * n + i) (f v))) (r .1))
     ∙ ap (written rs v) (set-here k n i (f v) l h (r .0))
 
+stores-beyond : (n i : ℕ) (ws : List (Vector × Float)) (l : List Float) → i < n → beyond n (stores n i ws l) ≡ beyond n l
+stores-beyond n i [] l h = refl
+stores-beyond n i ((k, x) ∷ ws) l h =
+    stores-beyond n i ws (set l (number k * n + i) x) h
+    ∙ drop-set-lt (extent n) l (number k * n + i) x (omega (arith, room 11 (number k) n (number-below k)))
+
 pub stores-there : (n i j : ℕ) (ws : List (Vector × Float)) (l : List Float) → i < n → j < n → (j ≡ i → ⊥)
     → column n (stores n i ws l) j ≡ column n l j
 stores-there n i j [] l h m d = refl
@@ -203,30 +209,29 @@ roomy-before n ((k, f) ∷ rs) l r =
 
 -- ---- the loop. a is the area at the start: columns below i are done, and the others are as they were
 
-pub record Working (m n : ℕ) (rs : Rules) (a area : List Float) (i : ℕ) : Type 0 where
+pub record Working (n : ℕ) (rs : Rules) (a area : List Float) (i : ℕ) : Type 0 where
   pub bound : i ≤ n
-  pub size : m * n ≤ length a
+  pub size : 11 * n ≤ length a
   pub long : length area ≡ length a
   pub fits : Room n (length a) rs
   pub past : (j : ℕ) → j < i → column n area j ≡ written rs (column n a j) (column n a j)
   pub ahead : (j : ℕ) → i ≤ j → j < n → column n area j ≡ column n a j
+  pub rest : beyond n area ≡ beyond n a
 
-pub begin-among : (m n : ℕ) (rs : Rules) (a : List Float) → among m rs ≡ true → m * n ≤ length a → Working m n rs a a 0
-begin-among m n rs a e h = record {
+pub begin : (n : ℕ) (rs : Rules) (a : List Float) → 11 * n ≤ length a → Working n rs a a 0
+begin n rs a h = record {
   bound = zero-le;
   size = h;
   long = refl;
-  fits = roomy m n (length a) rs e h;
+  fits = roomy 11 n (length a) rs (eleven rs) h;
   past = λ j p. absurd (not-suc-le-zero p);
   ahead = λ j p q. refl;
+  rest = refl;
 }
 
-pub begin : (n : ℕ) (rs : Rules) (a : List Float) → 11 * n ≤ length a → Working 11 n rs a a 0
-begin n rs a h = begin-among 11 n rs a (eleven rs) h
-
-turn-all : {m n : ℕ} {rs : Rules} {a area : List Float} {i : ℕ} (ws : List (Vector × Float)) → Working m n rs a area i → i < n
-    → ws ≡ made rs (column n area i) → Working m n rs a (stores n i ws area) (i + 1)
-turn-all {m} {n} {rs} {a} {area} {i} ws W h e =
+turn-all : {n : ℕ} {rs : Rules} {a area : List Float} {i : ℕ} (ws : List (Vector × Float)) → Working n rs a area i → i < n
+    → ws ≡ made rs (column n area i) → Working n rs a (stores n i ws area) (i + 1)
+turn-all {n} {rs} {a} {area} {i} ws W h e =
     let kept : column n area i ≡ column n a i = W .ahead i (omega arith) h in
     let here : column n (stores n i ws area) i ≡ written rs (column n a i) (column n a i) =
     ap (λ (l : List (Vector × Float)). column n (stores n i l area) i) (e ∙ ap (made rs) kept)
@@ -242,6 +247,7 @@ turn-all {m} {n} {rs} {a} {area} {i} ws W h e =
           (λ (q : j < i). stores-there n i j ws area h (omega arith) (λ (z : j ≡ i). omega arith) ∙ W .past j q)
           (eq-or-lt-of-le (let z : j ≤ i = omega arith in z));
       ahead = λ j p q. stores-there n i j ws area h q (λ (z : j ≡ i). omega arith) ∙ W .ahead j (omega arith) q;
+      rest = stores-beyond n i ws area h ∙ W .rest;
     }
 
 -- the values of a turn are what the rules make of column v
@@ -261,18 +267,20 @@ sent-made (r ∷ rs) v [] m = absurd m
 sent-made ((k, f) ∷ rs) v (x ∷ xs) m =
     ap (λ (y : Float). (k, y) ∷ sent rs xs) (m .0) ∙ ap (λ (l : List (Vector × Float)). (k, f v) ∷ l) (sent-made rs v xs (m .1))
 
-pub turn : {m n : ℕ} {rs : Rules} {a area : List Float} {i : ℕ} (xs : List Float) → Working m n rs a area i → i < n
-    → Made rs (column n area i) xs → Working m n rs a (stores n i (sent rs xs) area) (i + 1)
-turn {m} {n} {rs} {a} {area} {i} xs W h e = turn-all (sent rs xs) W h (sent-made rs (column n area i) xs e)
+pub turn : {n : ℕ} {rs : Rules} {a area : List Float} {i : ℕ} (xs : List Float) → Working n rs a area i → i < n
+    → Made rs (column n area i) xs → Working n rs a (stores n i (sent rs xs) area) (i + 1)
+turn {n} {rs} {a} {area} {i} xs W h e = turn-all (sent rs xs) W h (sent-made rs (column n area i) xs e)
 
-pub finish : {m n : ℕ} {rs : Rules} {a area : List Float} {i : ℕ} → Working m n rs a area i → n ≤ i
-    → unpack n area ≡ written-by n rs (unpack n a) (unpack n a)
-finish {m} {n} {rs} {a} {area} {i} W h = fun-ext (λ b. ext-getD nan (unpack n area b) (written-by n rs (unpack n a) (unpack n a) b)
-    (unpack-length n area a (W .long) b ∙ sym (written-length n rs (unpack n a) (unpack n a) (roomy-before n rs a (W .fits)) b))
-    (λ j l. ap (λ (c : Vector → Float). c b) (by-columns j (let g : j < n = omega (arith, unpack-short n area b) in g))))
+pub finish : {n : ℕ} {rs : Rules} {a area : List Float} {i : ℕ} → Working n rs a area i → n ≤ i → Becomes n a area (λ v. written-by n rs v v)
+finish {n} {rs} {a} {area} {i} W h = record { vectors = fun-ext by-vectors; rest = W .rest }
   where
     by-columns : (j : ℕ) → j < n → at (unpack n area) j ≡ at (written-by n rs (unpack n a) (unpack n a)) j
     by-columns j p =
         unpack-column n j area p
         ∙ W .past j (omega arith)
         ∙ sym (written-column n j rs (unpack n a) (unpack n a) p ∙ ap (λ (c : Vector → Float). written rs c c) (unpack-column n j a p))
+
+    by-vectors : (b : Vector) → unpack n area b ≡ written-by n rs (unpack n a) (unpack n a) b
+    by-vectors b = ext-getD nan (unpack n area b) (written-by n rs (unpack n a) (unpack n a) b)
+        (unpack-length n area a (W .long) b ∙ sym (written-length n rs (unpack n a) (unpack n a) (roomy-before n rs a (W .fits)) b))
+        (λ j l. ap (λ (c : Vector → Float). c b) (by-columns j (let g : j < n = omega (arith, unpack-short n area b) in g)))

@@ -15,7 +15,7 @@ use Rattle.workspace.specs.declared.stages.Four.{Four}
 use Rattle.workspace.specs.Vectors.{Vector, number, column, first-derivative, derivative, previous-two, previous-one, next-stage, state}
 use Rattle.workspace.specs.Reads.{taking, Reads, moved, Moved, element, Holds, Put, picked}
 use Rattle.workspace.proofs.Lists.{split}
-use Rattle.workspace.proofs.Columns.{Order, same, other, order, differ, with-at, set-here, set-there, written, Room}
+use Rattle.workspace.proofs.Columns.{Order, same, other, order, differ, with-at, set-here, set-there, written}
 use Rattle.workspace.proofs.Rows.{exchange-rules}
 use Rattle.workspace.proofs.Taking.{Taking}
 

@@ -19,17 +19,21 @@ pub record Front (s d out : List Float) (i : ℕ) : Type 0 where
 pub front-start : (s d : List Float) → length d ≡ length s → Front s d d 0
 front-start s d h = record { bound = zero-le; same = h; long = refl; sofar = paste-zero d 0 s }
 
+-- one more of s, whatever the lengths
+pub pasted : (s d : List Float) (i : ℕ) {out : List Float} (x : Float) → i < length d → i < length s → out ≡ paste d 0 s i → x ≡ getD s i nan → set out i x ≡ paste d 0 s (i + 1)
+pasted s d i x h l sofar e =
+    ap (λ (o : List Float). set o i x) sofar
+    ∙ ap (λ (y : Float). set (paste d 0 s i) i y) e
+    ∙ ap (λ (j : ℕ). set (paste d 0 s i) j (getD s i nan)) (sym (zero-add i))
+    ∙ paste-suc d 0 s i nan (omega arith) l
+    ∙ ap (λ (j : ℕ). paste d 0 s j) (sym (add-one i))
+
 pub front-turn : {s d out : List Float} {i : ℕ} (x : Float) → Front s d out i → i < length s → x ≡ getD s i nan → Front s d (set out i x) (i + 1)
 front-turn {s} {d} {out} {i} x F h e = record {
   bound = omega arith;
   same = F .same;
   long = length-set out i x ∙ F .long;
-  sofar =
-      ap (λ (l : List Float). set l i x) (F .sofar)
-      ∙ ap (λ (y : Float). set (paste d 0 s i) i y) e
-      ∙ ap (λ (j : ℕ). set (paste d 0 s i) j (getD s i nan)) (sym (zero-add i))
-      ∙ paste-suc d 0 s i nan (omega arith) h
-      ∙ ap (λ (j : ℕ). paste d 0 s j) (sym (add-one i));
+  sofar = pasted s d i x (omega arith) h (F .sofar) e;
 }
 
 pub front-end : {s d out : List Float} {i : ℕ} → Front s d out i → length s ≤ i → out ≡ s

@@ -35,9 +35,9 @@ each-same n v b h =
     ext-getD nan (each n v (λ x. x b)) (v b) (length-each n v (λ x. x b) ∙ sym h)
     (λ i l. each-at n v (λ x. x b) i (omega (arith, length-each n v (λ x. x b))))
 
--- ---- a sum at one more element
+-- ---- a fold, and so a sum, at one more element
 
-fold-suc : (g : Float → Float → Float) (t : Float) (l : List Float) (i : ℕ) → i < length l
+pub fold-suc : (g : Float → Float → Float) (t : Float) (l : List Float) (i : ℕ) → i < length l
     → foldl g t (take (suc i) l) ≡ g (foldl g t (take i l)) (getD l i nan)
 fold-suc g t [] i h = absurd (not-suc-le-zero h)
 fold-suc g t (x ∷ l) zero h = refl

@@ -1,4 +1,4 @@
--- A part of the area that is lent and comes back, said by vectors: one vector of it, by its number, and its first ten.
+-- A part of the area that is lent and comes back, said by vectors: one vector of it, by its number, and its first ten. What stands beyond stands.
 use mathlib.Core.Path.{_≡_, refl, sym, ap, _∙_, fun-ext}
 use mathlib.Core.Logic.{_⊎_, inl, inr, ⊎-elim}
 use mathlib.Core.Bool.{Bool, true, false, cond}
@@ -12,11 +12,16 @@ use lib.Dec.{eqb, ltb}
 use lib.ListN.{length, take, drop, length-drop}
 use lib.Seq.{take-nil, take-take, drop-drop, take-at, drop-at, length-take-le, drop-append-le, take-append-le}
 use lib.Ieee.{Float}
-use Rattle.workspace.specs.Vectors.{Vector, Vectors, _with_≔_, number, named, unpack}
+use Rattle.workspace.specs.Vectors.{Vector, Vectors, _with_≔_, number, named, unpack, extent, beyond, Becomes}
 use Rattle.workspace.proofs.Areas.{number-below, number-named, room, long-unpack}
 use Rattle.workspace.proofs.Lists.{split}
 
--- ---- n elements from p on, in two lists that are the same there
+-- ---- what stands from p on in two lists that are the same there, and n elements of it
+
+drop-later : (b p : ℕ) (y z : List Float) → b ≤ p → drop b y ≡ drop b z → drop p y ≡ drop p z
+drop-later b p y z h e =
+    let q : b + (p - b) ≡ p = omega arith in
+    ap (λ (k : ℕ). drop k y) (sym q) ∙ sym (drop-drop (p - b) b y) ∙ ap (drop (p - b)) e ∙ drop-drop (p - b) b z ∙ ap (λ (k : ℕ). drop k z) q
 
 drop-take : (p n : ℕ) (l : List Float) → drop p (take (p + n) l) ≡ take n (drop p l)
 drop-take zero n l = ap (λ (k : ℕ). take k l) (zero-add n)
@@ -31,10 +36,12 @@ module _ (p n : ℕ) (y z : List Float) where
       ∙ drop-take p n z
 
   same-after : (b : ℕ) → b ≤ p → drop b y ≡ drop b z → take n (drop p y) ≡ take n (drop p z)
-  same-after b h e =
-      let q : b + (p - b) ≡ p = omega arith in
-      ap (take n)
-      (ap (λ (k : ℕ). drop k y) (sym q) ∙ sym (drop-drop (p - b) b y) ∙ ap (drop (p - b)) e ∙ drop-drop (p - b) b z ∙ ap (λ (k : ℕ). drop k z) q)
+  same-after b h e = ap (take n) (drop-later b p y z h e)
+
+-- a part that ends within the eleven vectors leaves what stands beyond them
+beyond-part : (p e n : ℕ) (a ys : List Float) → p ≤ e → e ≤ extent n → e ≤ length a → length ys ≡ e - p
+    → beyond n (putMid p (e - p) a ys) ≡ beyond n a
+beyond-part p e n a ys h within fits long = drop-later e (extent n) (putMid p (e - p) a ys) a within (drop-put p e a ys h fits long)
 
 -- ---- one vector
 
@@ -85,13 +92,17 @@ module _ (b : Vector) (n : ℕ) (a x : List Float) (long : length x ≡ n) (fits
       go c (inl l) = ⊎-elim (λ e. same c e) (λ (m : number b < number c). apart c (inr m) (λ (e : number b ≡ number c). omega arith)) (eq-or-lt-of-le l)
 
 pub written-part : (k n : ℕ) (a : List Float) {ys x : List Float} → 11 * n ≤ length a → k < 11 → length x ≡ n → ys ≡ x
-    → unpack n (putMid (k * n) (k * n + n - k * n) a ys) ≡ (unpack n a with named k ≔ x)
+    → Becomes n a (putMid (k * n) (k * n + n - k * n) a ys) (λ v. v with named k ≔ x)
 unfolding back
 written-part k n a {ys} {x} h l long e =
     let q : number (named k) ≡ k = number-named k l in
-    ap (λ (y : List Float). unpack n (putMid (k * n) (k * n + n - k * n) a y)) e
-    ∙ ap (λ (m : ℕ). unpack n (putMid (m * n) (m * n + n - m * n) a x)) (sym q)
-    ∙ unpack-back (named k) n a x long (omega (arith, room 11 (number (named k)) n (number-below (named k))))
+    record {
+      vectors =
+          ap (λ (y : List Float). unpack n (putMid (k * n) (k * n + n - k * n) a y)) e
+          ∙ ap (λ (m : ℕ). unpack n (putMid (m * n) (m * n + n - m * n) a x)) (sym q)
+          ∙ unpack-back (named k) n a x long (omega (arith, room 11 (number (named k)) n (number-below (named k))));
+      rest = beyond-part (k * n) (k * n + n) n a ys (omega arith) (omega (arith, room 11 k n l)) (omega (arith, room 11 k n l)) (ap length e ∙ long ∙ sym (width k n));
+    }
 
 -- ---- the first ten vectors: the area without the candidate
 
@@ -126,9 +137,12 @@ module _ (n : ℕ) (a : List Float) (fits : 11 * n ≤ length a) where
 
   -- a step that is done to the ten vectors lent, and leaves the others, is done to all
   pub ten : (f : Vectors → Vectors) → ((v w : Vectors) → f (v beside w) ≡ (f v beside w)) → (ys : List Float) → length ys ≡ 10 * n
-      → unpack n ys ≡ f (unpack n (take (10 * n - 0) a)) → unpack n (putMid 0 (10 * n - 0) a ys) ≡ f (unpack n a)
-  ten f apart ys long e =
-      ten-back ys long
-      ∙ ap (λ (v : Vectors). v beside unpack n a) e
-      ∙ sym (apart (unpack n (take (10 * n - 0) a)) (unpack n a))
-      ∙ ap f ten-lent
+      → unpack n ys ≡ f (unpack n (take (10 * n - 0) a)) → Becomes n a (putMid 0 (10 * n - 0) a ys) f
+  ten f apart ys long e = record {
+    vectors =
+        ten-back ys long
+        ∙ ap (λ (v : Vectors). v beside unpack n a) e
+        ∙ sym (apart (unpack n (take (10 * n - 0) a)) (unpack n a))
+        ∙ ap f ten-lent;
+    rest = beyond-part 0 (10 * n) n a ys (omega arith) (omega arith) (omega arith) (omega arith);
+  }

@@ -11,8 +11,7 @@ use native.Mathlib.Omega.{arith}
 use lib.ListN.{length, getD}
 use lib.Seq.{ext-getD}
 use lib.Ieee.{Float, nan}
-use Rattle.workspace.specs.Vectors.{Vector, Vectors, _with_≔_, number, column, unpack}
-use Rattle.workspace.proofs.Areas.{room}
+use Rattle.workspace.specs.Vectors.{Vector, Vectors, _with_≔_, column, unpack}
 use Rattle.workspace.proofs.Columns.{Rules, written-by, with-at, stores, written, among, Room, roomy, length-stores, stores-here, stores-there, at, with-column, written-column, Before, length-with, still, written-length, unpack-column, unpack-length, unpack-short, roomy-before, Made, sent, sent-made}
 
 module _ (k : Vector) (d : List Float) (n : ℕ) (a : List Float) where

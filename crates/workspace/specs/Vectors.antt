@@ -1,4 +1,5 @@
 -- The area's vectors by name: workspace.rs's nine in its order, then a copy of the state, then the candidate. Document 01, "one lent area".
+use mathlib.Core.Path.{_≡_}
 use Prim.Native.Nat.{ℕ, zero, suc, _+_, _*_}
 use mathlib.Core.Bool.{Bool, true, cond, _&&_}
 use mathlib.Core.List.{List, [], _∷_, _++_, foldl}
@@ -60,6 +61,18 @@ abbrev pub _with_≔_ : Vectors → Vector → List Float → Vectors
 -- the area: the vectors one after the other, each n long
 unfoldable pub unpack : ℕ → List Float → Vectors
 unpack n area a = take n (drop (number a * n) area)
+
+-- how long they are together, and what a longer area has beyond them
+abbrev pub extent : ℕ → ℕ
+extent n = 11 * n
+
+abbrev pub beyond : ℕ → List Float → List Float
+beyond n area = drop (extent n) area
+
+-- from area l to area m: the vectors become f of what they were, and what stands beyond them stands
+pub record Becomes (n : ℕ) (l m : List Float) (f : Vectors → Vectors) : Type 0 where
+  pub vectors : unpack n m ≡ f (unpack n l)
+  pub rest : beyond n m ≡ beyond n l
 
 -- the elements at one index, read in the area
 abbrev pub column : ℕ → List Float → ℕ → Vector → Float

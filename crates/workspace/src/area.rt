@@ -2,7 +2,7 @@
 ghost use mathlib.Core.Path.{_≡_};
 ghost use Prim.Native.Nat.{_*_, _≤_, _<_};
 ghost use lib.ListN.{length, replicate};
-ghost use Rattle.workspace.specs.Vectors.{named, unpack, _with_≔_, all-finite};
+ghost use Rattle.workspace.specs.Vectors.{named, unpack, Becomes, _with_≔_, all-finite};
 
 // x - x is 0 exactly where x is finite. The loop has no way out but its end, so that it is compiled to vector instructions.
 pub fn all_finite(v: &[f64]) -> bool
@@ -44,7 +44,7 @@ pub fn put_vector(area: &mut [f64], n: usize, k: usize, v: &[f64])
     requires { ⌜ 11 * n ≤ length (now area) ⌝ }
     requires { ⌜ length (now v) ≡ n ⌝ }
     requires { ⌜ k < 11 ⌝ }
-    ensures { λ _. ⌜ unpack n (now (area .exit)) ≡ (unpack n (now (area .entry)) with named k ≔ now (v .entry)) ⌝ }
+    ensures { λ _. ⌜ Becomes n (now (area .entry)) (now (area .exit)) (λ w. w with named k ≔ now (v .entry)) ⌝ }
 {
     let a = k * n;
     let b = a + n;
@@ -55,7 +55,7 @@ pub fn put_vector(area: &mut [f64], n: usize, k: usize, v: &[f64])
 pub fn fill_vector(area: &mut [f64], n: usize, k: usize, x: f64)
     requires { ⌜ 11 * n ≤ length (now area) ⌝ }
     requires { ⌜ k < 11 ⌝ }
-    ensures { λ _. ⌜ unpack n (now (area .exit)) ≡ (unpack n (now (area .entry)) with named k ≔ replicate n x) ⌝ }
+    ensures { λ _. ⌜ Becomes n (now (area .entry)) (now (area .exit)) (λ w. w with named k ≔ replicate n x) ⌝ }
 {
     let a = k * n;
     let b = a + n;
@@ -66,7 +66,7 @@ pub fn fill_vector(area: &mut [f64], n: usize, k: usize, x: f64)
 pub fn copy_vector(area: &mut [f64], n: usize, from: usize, to: usize)
     requires { ⌜ 11 * n ≤ length (now area) ⌝ }
     requires { ⌜ (from < 11) × (to < 11) ⌝ }
-    ensures { λ _. ⌜ unpack n (now (area .exit)) ≡ (unpack n (now (area .entry)) with named to ≔ unpack n (now (area .entry)) (named from)) ⌝ }
+    ensures { λ _. ⌜ Becomes n (now (area .entry)) (now (area .exit)) (λ w. w with named to ≔ w (named from)) ⌝ }
 {
     let a = from * n;
     let b = to * n;

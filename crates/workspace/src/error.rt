@@ -3,7 +3,7 @@ ghost use mathlib.Core.Path.{_≡_};
 ghost use Prim.Native.Nat.{_*_, _≤_, _<_};
 ghost use lib.ListN.{length};
 ghost use Rattle.family.specs.Family.{family-of};
-ghost use Rattle.workspace.specs.Vectors.{column, unpack, _with_≔_, each, sum-of-squares, derivative};
+ghost use Rattle.workspace.specs.Vectors.{column, unpack, Becomes, _with_≔_, each, sum-of-squares, derivative};
 ghost use Rattle.workspace.specs.Kernel as kernel;
 ghost use Rattle.workspace.specs.Kernel.{with-last, scaled-error, error-norm};
 use crate::Arguments;
@@ -34,7 +34,7 @@ fn error_at(area: &[f64], n: usize, i: usize, family: u64, step: f64) -> f64
 // The error goes where the derivative stood.
 fn put_error(area: &mut [f64], n: usize, family: u64, step: f64)
     requires { ⌜ 11 * n ≤ length (now area) ⌝ }
-    ensures { λ _. ⌜ unpack n (now (area .exit)) ≡ (unpack n (now (area .entry)) with derivative ≔ each n (unpack n (now (area .entry))) (kernel.error (family-of family) step)) ⌝ }
+    ensures { λ _. ⌜ Becomes n (now (area .entry)) (now (area .exit)) (λ w. w with derivative ≔ each n w (kernel.error (family-of family) step)) ⌝ }
 {
     let mut i = 0;
     while i < n {
@@ -48,7 +48,7 @@ fn put_error(area: &mut [f64], n: usize, family: u64, step: f64)
 pub fn last(area: &mut [f64], n: usize, family: u64, arguments: Arguments, derivative: &[f64])
     requires { ⌜ 11 * n ≤ length (now area) ⌝ }
     requires { ⌜ length (now derivative) ≡ n ⌝ }
-    ensures { λ _. ⌜ unpack n (now (area .exit)) ≡ with-last (family-of family) n arguments (unpack n (now (area .entry))) (now (derivative .entry)) ⌝ }
+    ensures { λ _. ⌜ Becomes n (now (area .entry)) (now (area .exit)) (λ w. with-last (family-of family) n arguments w (now (derivative .entry))) ⌝ }
 {
     put_vector(area, n, LAST_DERIVATIVE, derivative);
     if arguments.adaptive {

@@ -4,7 +4,7 @@ ghost use Prim.Native.Nat.{_*_, _≤_, _<_};
 ghost use lib.ListN.{length};
 ghost use lib.Ieee.{binary64, div};
 ghost use Rattle.ieee.specs.Sqrt.{sqrt};
-ghost use Rattle.workspace.specs.Vectors.{named, unpack, eigenvector, sum-of-squares, vector-norm};
+ghost use Rattle.workspace.specs.Vectors.{named, unpack, Becomes, eigenvector, sum-of-squares, vector-norm};
 ghost use Rattle.workspace.specs.Kernel.{with-direction, perturbation-of, perturbed-by, turned, ended, scaled};
 use crate::EIGENVECTOR;
 use crate::FIRST_DERIVATIVE;
@@ -67,7 +67,7 @@ pub fn direction_norm(area: &[f64], n: usize) -> f64
 // The kept eigenvector, else the first derivative, else all ones; and its norm, for the first pass.
 pub fn choose_direction(area: &mut [f64], n: usize) -> f64
     requires { ⌜ 11 * n ≤ length (now area) ⌝ }
-    ensures { λ r. ⌜ (unpack n (now (area .exit)) ≡ with-direction n (unpack n (now (area .entry)))) × (r ≡ vector-norm (unpack n (now (area .exit)) eigenvector)) ⌝ }
+    ensures { λ r. ⌜ Becomes n (now (area .entry)) (now (area .exit)) (with-direction n) × (r ≡ vector-norm (unpack n (now (area .exit)) eigenvector)) ⌝ }
 {
     let kept = direction_norm(area, n);
     if kept <= MIN_POSITIVE {
@@ -92,7 +92,7 @@ pub fn perturbation(area: &[f64], n: usize) -> f64
 // The point of a pass. Its caller has the direction's norm at hand, which the Rust works out a second time.
 pub fn perturb(area: &mut [f64], n: usize, perturbation: f64, norm: f64)
     requires { ⌜ 11 * n ≤ length (now area) ⌝ }
-    ensures { λ _. ⌜ unpack n (now (area .exit)) ≡ perturbed-by n perturbation norm (unpack n (now (area .entry))) ⌝ }
+    ensures { λ _. ⌜ Becomes n (now (area .entry)) (now (area .exit)) (perturbed-by n perturbation norm) ⌝ }
 {
     let scale = perturbation / ieee::max(norm, MIN_POSITIVE);
     let mut i = 0;
@@ -106,7 +106,7 @@ pub fn perturb(area: &mut [f64], n: usize, perturbation: f64, norm: f64)
 pub fn turn(area: &mut [f64], n: usize, derivative: &[f64])
     requires { ⌜ 11 * n ≤ length (now area) ⌝ }
     requires { ⌜ length (now derivative) ≡ n ⌝ }
-    ensures { λ _. ⌜ unpack n (now (area .exit)) ≡ turned n (unpack n (now (area .entry))) (now (derivative .entry)) ⌝ }
+    ensures { λ _. ⌜ Becomes n (now (area .entry)) (now (area .exit)) (λ w. turned n w (now (derivative .entry))) ⌝ }
 {
     put_vector(area, n, PERTURBED_DERIVATIVE, derivative);
     let mut i = 0;

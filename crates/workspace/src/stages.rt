@@ -4,7 +4,7 @@ ghost use Prim.Native.Nat.{ℕ, _+_, _-_, _*_, _≤_, _<_};
 ghost use lib.ListN.{length};
 ghost use Rattle.family.specs.Family.{family-of};
 ghost use lib.Ieee.{Float};
-ghost use Rattle.workspace.specs.Vectors.{Vector, column, unpack};
+ghost use Rattle.workspace.specs.Vectors.{Vector, column, unpack, Becomes};
 ghost use Rattle.workspace.specs.Kernel.{first-stage, entry, with-row, exchanged, with-candidate};
 ghost use Rattle.workspace.specs.Reads.{taking, Reads, Moved, element, Holds, Put, picked};
 use crate::CANDIDATE;
@@ -20,7 +20,7 @@ use coefficients::Coefficients;
 // Stages 0 and 1.
 pub fn first_stage(area: &mut [f64], n: usize, step: f64, mu_tilde: f64)
     requires { ⌜ 11 * n ≤ length (now area) ⌝ }
-    ensures { λ _. ⌜ unpack n (now (area .exit)) ≡ first-stage n step «mu_tilde» (unpack n (now (area .entry))) ⌝ }
+    ensures { λ _. ⌜ Becomes n (now (area .entry)) (now (area .exit)) (first-stage n step «mu_tilde») ⌝ }
 {
     let mut i = 0;
     while i < n {
@@ -274,7 +274,7 @@ fn row_and_exchange_in(
 pub fn row(area: &mut [f64], n: usize, family: u64, c: Coefficients, step: f64, derivative: &[f64])
     requires { ⌜ 11 * n ≤ length (now area) ⌝ }
     requires { ⌜ length (now derivative) ≡ n ⌝ }
-    ensures { λ _. ⌜ unpack n (now (area .exit)) ≡ with-row (family-of family) n step c (unpack n (now (area .entry))) (now (derivative .entry)) ⌝ }
+    ensures { λ _. ⌜ Becomes n (now (area .entry)) (now (area .exit)) (λ w. with-row (family-of family) n step c w (now (derivative .entry))) ⌝ }
 {
     let end = 10 * n;
     row_in(&mut area[0..end], n, family, c, step, derivative);
@@ -291,7 +291,7 @@ pub fn row_and_exchange(
 )
     requires { ⌜ 11 * n ≤ length (now area) ⌝ }
     requires { ⌜ length (now derivative) ≡ n ⌝ }
-    ensures { λ _. ⌜ unpack n (now (area .exit)) ≡ exchanged (with-row (family-of family) n step c (unpack n (now (area .entry))) (now (derivative .entry))) ⌝ }
+    ensures { λ _. ⌜ Becomes n (now (area .entry)) (now (area .exit)) (λ w. exchanged (with-row (family-of family) n step c w (now (derivative .entry)))) ⌝ }
 {
     let end = 10 * n;
     row_and_exchange_in(&mut area[0..end], n, family, c, step, derivative);
@@ -299,7 +299,7 @@ pub fn row_and_exchange(
 
 pub fn keep_candidate(area: &mut [f64], n: usize)
     requires { ⌜ 11 * n ≤ length (now area) ⌝ }
-    ensures { λ _. ⌜ unpack n (now (area .exit)) ≡ with-candidate (unpack n (now (area .entry))) ⌝ }
+    ensures { λ _. ⌜ Becomes n (now (area .entry)) (now (area .exit)) with-candidate ⌝ }
 {
     copy_vector(area, n, NEXT_STAGE, CANDIDATE);
 }

@@ -100,7 +100,7 @@ returns-5 c =
     let c₂ = c₃ .before .before .before in
     let c₁ = c₂ .before .before in
     past _ _ (passes (c₁ .before .known .ensures) (c₁ .if1 .left)) (past _ _ (passes (c₂ .before .sized .ensures) (c₂ .if2 .left)) (past _ _ (passes (c₃ .before .whole-area .ensures) (c₃ .if3 .left)) (past _ _ (passes (c₄ .before .may-accept .ensures) (c₄ .if4 .left)) (keeps (family-of (r .family)) (r .n) _ (same-length-3 c ∙ area-long (r .family) (r .n) (a .area .now) (passes (c .before .before .before .before .before .before .before .before .before .before .before .before .whole-area .ensures) (c .before .before .before .before .before .before .before .before .before .before .before .if3 .left)))
-    (record { answer = says refl; kept = c .in-phase .ensures; vectors = c .before .before .before .copy-vector2 .ensures ∙ ap (λ (v : Vectors). v with state ≔ v candidate) (c .before .before .before .before .before .before .before .copy-vector .ensures) })))))
+    (record { answer = says refl; kept = c .in-phase .ensures; vectors = c .before .before .before .copy-vector2 .ensures .vectors ∙ ap (λ (v : Vectors). v with state ≔ v candidate) (c .before .before .before .before .before .before .before .copy-vector .ensures .vectors) })))))
 
 pub accept-spec : {M : Type 1} → statement M
 accept-spec =

@@ -134,7 +134,7 @@ returns-7 c =
     let c₂ = c₃ .before .before .before in
     let c₁ = c₂ .before .before in
     past _ _ (passes (c₁ .before .known .ensures) (c₁ .if1 .left)) (past _ _ (passes (c₂ .before .sized .ensures) (c₂ .if2 .left)) (past _ _ (passes (c₃ .before .both-long .ensures) (c₃ .if3 .left)) (past _ _ (passes (c₄ .before .may-accept .ensures) (c₄ .if4 .left)) (past _ _ (passes (c₅ .before .all-finite .ensures) (c₅ .if5 .left)) (past _ _ (passes (c₆ .before .is-finite .ensures) (c₆ .if6 .left)) (keeps (family-of (r .family)) (r .n) _ (same-length-5 c ∙ both-long (r .family) (r .n) (a .area .now) (a .state .now) (passes (c .before .before .before .before .before .before .before .before .before .before .before .before .both-long .ensures) (c .before .before .before .before .before .before .before .before .before .before .before .if3 .left)) .0)
-    (record { answer = says refl; kept = c .first-at .ensures; vectors = c .before .before .before .put-vector .ensures })))))))
+    (record { answer = says refl; kept = c .first-at .ensures; vectors = c .before .before .before .put-vector .ensures .vectors })))))))
 
 pub accept-with-callback-spec : {M : Type 1} → statement M
 accept-with-callback-spec =

@@ -151,7 +151,7 @@ returns-7 c =
     let c₂ = c₃ .before .before .before in
     let c₁ = c₂ .before .before in
     past _ _ (passes (c₁ .before .known .ensures) (c₁ .if1 .left)) (past _ _ (passes (c₂ .before .sized .ensures) (c₂ .if2 .left)) (past _ _ (passes (c₃ .before .whole-area .ensures) (c₃ .if3 .left)) (past _ _ (passes (c₄ .before .may-attempt .ensures) (c₄ .if4 .left)) (past _ _ (passes (c₅ .before .good-times .ensures) (c₅ .if5 .left)) (past _ _ (passes (c₆ .before .good-tolerances .ensures) (c₆ .if6 .left)) (keeps (family-of (r .family)) (r .n) _ (same-length-5 c ∙ area-long (r .family) (r .n) (a .area .now) (passes (c .before .before .before .before .before .before .before .before .before .before .before .before .before .before .before .before .before .before .whole-area .ensures) (c .before .before .before .before .before .before .before .before .before .before .before .before .before .before .before .before .before .if3 .left)))
-    (attempts r _ (a .arguments) (c .before .before .before .before .before .before .before .before .before .perturbation .ensures) on (c .before .before .before .before .before .before .before .choose-direction .ensures .0) (measured _ _ _ (ap (λ (y : Record). y .n) on) (c .before .before .ask-pass .ensures)))))))))
+    (attempts r _ (a .arguments) (c .before .before .before .before .before .before .before .before .before .perturbation .ensures) on (c .before .before .before .before .before .before .before .choose-direction .ensures .0 .vectors) (measured _ _ _ (ap (λ (y : Record). y .n) on) (c .before .before .ask-pass .ensures)))))))))
 
 pub attempt-spec : {M : Type 1} → statement M
 attempt-spec =

@@ -121,7 +121,7 @@ returns-6 c =
     let c₂ = c₃ .before .before .before in
     let c₁ = c₂ .before .before in
     past _ _ (passes (c₁ .before .known .ensures) (c₁ .if1 .left)) (past _ _ (passes (c₂ .before .sized .ensures) (c₂ .if2 .left)) (past _ _ (passes (c₃ .before .both-long .ensures) (c₃ .if3 .left)) (past _ _ (passes (c₄ .before .all-finite .ensures) (c₄ .if4 .left)) (past _ _ (passes (c₅ .before .is-finite .ensures) (c₅ .if5 .left)) (keeps (family-of (a .family)) (a .n) _ (same-length-4 c ∙ both-long (a .family) (a .n) (a .area .now) (a .state .now) (passes (c .before .before .before .before .before .before .before .before .before .before .before .before .before .before .both-long .ensures) (c .before .before .before .before .before .before .before .before .before .before .before .before .before .if3 .left)) .0)
-    (record { answer = says refl; kept = c .first-at .ensures; vectors = c .before .before .before .fill-vector .ensures ∙ ap (λ (v : Vectors). v with eigenvector ≔ replicate (a .n) nought) (c .before .before .before .before .before .before .before .put-vector .ensures) }))))))
+    (record { answer = says refl; kept = c .first-at .ensures; vectors = c .before .before .before .fill-vector .ensures .vectors ∙ ap (λ (v : Vectors). v with eigenvector ≔ replicate (a .n) nought) (c .before .before .before .before .before .before .before .put-vector .ensures .vectors) }))))))
 
 pub start-spec : {M : Type 1} → statement M
 start-spec =

@@ -1,18 +1,25 @@
--- `timed::timed_root_chain` is safe and ends: i runs to the length. Assumes nothing.
+-- `timed::timed_root_chain` meets its contract: at the loop's head it is the chain of the first i. Assumes nothing.
+use mathlib.Core.Path.{_≡_, refl, ap, _∙_}
 use Prim.Native.Nat.{_-_, _≤_}
-use lib.ListN.{length}
+use native.Mathlib.Omega.{arith}
+use lib.ListN.{length, take}
+use lib.Seq.{take-all}
+use lib.Ieee.{ofBits}
+use Rattle.timed.specs.Left.{root-chain}
+use Rattle.timed.proofs.Roots.{chain-turn}
 use borrow.Author.Needs.{needs}
 use Rattle.timed.proofs.timed_root_chain.Statement.{statement}
 use Rattle.timed.proofs.timed_root_chain.Tie as tie
 
 abbrev Inv-loop : tie.InvT-loop
-Inv-loop x a₀ i₀ a i = i ≤ length x
+Inv-loop x a₀ i₀ a i = (i ≤ length x) × (a ≡ root-chain (take i x))
 
 abbrev μ-loop : tie.MeasureT-loop
 μ-loop x a₀ i₀ a i = length x - i
 
 loop-holds : tie.Need-loop-holds Inv-loop μ-loop
-loop-holds c = search needs
+unfolding root-chain ofBits
+loop-holds c = (omega arith, refl)
 
 mul-sqrt : tie.Need-mul-sqrt Inv-loop μ-loop
 mul-sqrt c = search needs
@@ -30,10 +37,12 @@ loop-less : tie.Need-loop-less Inv-loop μ-loop
 loop-less c = search needs
 
 loop-again : tie.Need-loop-again Inv-loop μ-loop
-loop-again c = search needs
+loop-again c =
+    let l = c .before .before .before .loop in
+    (omega arith, chain-turn (c .before .before .before .before .before .args .x .now) (l .i) (omega arith) (l .inv .1) (c .sqrt .ensures))
 
 returns : tie.Need-returns Inv-loop μ-loop
-returns c = search needs
+returns c = c .before .loop .inv .1 ∙ ap root-chain (take-all _ _ (c .loop-test .left))
 
 pub timed-root-chain-spec : {M : Type 1} → statement M
 timed-root-chain-spec =

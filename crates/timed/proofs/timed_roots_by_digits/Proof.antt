@@ -1,13 +1,15 @@
--- `timed::timed_roots_by_digits` is safe and ends: i runs to a length that neither slice is shorter than. Assumes nothing.
-use mathlib.Core.Path.{_≡_}
-use Prim.Native.Nat.{_-_, _≤_}
-use lib.ListN.{length}
+-- `timed::timed_roots_by_digits` meets its contract: at the loop's head the first i roots are written. Assumes nothing.
+use mathlib.Core.Path.{_≡_, refl}
+use Prim.Native.Nat.{_-_, _≤_, min}
+use native.Mathlib.Omega.{arith}
+use lib.ListN.{length, length-set}
+use Rattle.timed.proofs.Roots.{Rooted, roots-start, roots-turn, roots-end}
 use borrow.Author.Needs.{needs}
 use Rattle.timed.proofs.timed_roots_by_digits.Statement.{statement}
 use Rattle.timed.proofs.timed_roots_by_digits.Tie as tie
 
 abbrev Inv-loop : tie.InvT-loop
-Inv-loop out₀ x n i₀ out i = (i ≤ n) × (n ≤ length out) × (n ≤ length x) × (length out ≡ length out₀)
+Inv-loop out₀ x n i₀ out i = (i ≤ n) × (n ≡ min (length out₀) (length x)) × (length out ≡ length out₀) × Rooted x out₀ out i
 
 abbrev μ-loop : tie.MeasureT-loop
 μ-loop out₀ x n i₀ out i = n - i
@@ -16,7 +18,7 @@ shorter-requires : tie.Need-shorter-requires Inv-loop μ-loop
 shorter-requires c κs = search needs
 
 loop-holds : tie.Need-loop-holds Inv-loop μ-loop
-loop-holds c = search needs
+loop-holds c = (omega arith, c .shorter .ensures, refl, roots-start (c .before .before .before .args .x .now) _)
 
 mul-sqrt-by-digits : tie.Need-mul-sqrt-by-digits Inv-loop μ-loop
 mul-sqrt-by-digits c = search needs
@@ -40,13 +42,18 @@ loop-less : tie.Need-loop-less Inv-loop μ-loop
 loop-less c = search needs
 
 loop-again : tie.Need-loop-again Inv-loop μ-loop
-loop-again c = search needs
+loop-again c =
+    let a = c .before .before .before .before .before .before .before .args in
+    let l = c .before .before .before .loop in
+    (omega arith, l .inv .1, simp length-set (omega arith), roots-turn (a .x .now) (a .out .now) (l .i) (omega arith) (omega arith) (l .inv .3) (c .sqrt-by-digits .ensures))
 
 same-length : tie.Need-same-length Inv-loop μ-loop
 same-length c = search needs
 
 returns : tie.Need-returns Inv-loop μ-loop
-returns c = search needs
+returns c =
+    let a = c .before .before .before .before .before .args in
+    roots-end (a .x .now) (a .out .now) (c .before .loop .i) (omega arith) (c .before .loop .inv .3)
 
 pub timed-roots-by-digits-spec : {M : Type 1} → statement M
 timed-roots-by-digits-spec =

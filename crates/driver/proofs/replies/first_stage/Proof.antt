@@ -25,7 +25,7 @@ same-length c = search needs
 returns : tie.Need-returns
 returns c =
     let a = c .before .before .before .before .before .before .before .before .before .args in
-    begun (a .«record») _ (a .scaled-radius) (a .stages) (c .before .before .before .before .before .before .before .first-recurrence .ensures) (c .before .before .with-radius .ensures) (c .before .at-stage .ensures) (c .before .before .before .before .before .first-stage .ensures) (c .ask-stage .ensures _)
+    begun (a .«record») _ (a .scaled-radius) (a .stages) (c .before .before .before .before .before .before .before .first-recurrence .ensures) (c .before .before .with-radius .ensures) (c .before .at-stage .ensures) (c .before .before .before .before .before .first-stage .ensures .vectors) (c .ask-stage .ensures _)
 
 pub first-stage-spec : {M : Type 1} → statement M
 first-stage-spec =

@@ -28,7 +28,7 @@ unfolding ask-stage at-stage
 returns c =
     let a = c .before .before .before .before .before .before .before .before .before .args in
     let r = a .«record» in
-    stages-on r (unpack (r .n) (a .area .now)) (a .derivative .now) (c .before .before .before .before .before .row-coefficients .ensures) (c .before .before .before .before .before .before .before .before .before .pre .1 .1 .0 .1) (c .before .before .before .row-and-exchange .ensures) (c .next-recurrence .ensures) refl (record { answer = says refl; kept = refl; vectors = refl })
+    stages-on r (unpack (r .n) (a .area .now)) (a .derivative .now) (c .before .before .before .before .before .row-coefficients .ensures) (c .before .before .before .before .before .before .before .before .before .pre .1 .1 .0 .1) (c .before .before .before .row-and-exchange .ensures .vectors) (c .next-recurrence .ensures) refl (record { answer = says refl; kept = refl; vectors = refl })
 
 pub next-stage-spec : {M : Type 1} → statement M
 next-stage-spec =

@@ -26,9 +26,9 @@ unfolding take-candidate
 returns c =
     let r = c .before .before .before .before .before .before .before .before .before .before .args .«record» in
     record {
-      answer = says (ap Finished (c .before .error-norm .ensures ∙ ap (error-norm (family-of (r .family)) (r .n) (r .staging .stages) (r .arguments)) (c .before .before .before .before .before .last .ensures)));
+      answer = says (ap Finished (c .before .error-norm .ensures ∙ ap (error-norm (family-of (r .family)) (r .n) (r .staging .stages) (r .arguments)) (c .before .before .before .before .before .last .ensures .vectors)));
       kept = c .in-phase .ensures;
-      vectors = c .before .before .before .before .before .last .ensures;
+      vectors = c .before .before .before .before .before .last .ensures .vectors;
     }
 
 pub take-candidate-spec : {M : Type 1} → statement M

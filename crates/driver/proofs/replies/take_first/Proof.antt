@@ -17,7 +17,7 @@ same-length c = search needs
 
 returns : tie.Need-returns
 unfolding take-first
-returns c = record { answer = says refl; kept = c .in-phase .ensures; vectors = c .before .before .before .put-vector .ensures }
+returns c = record { answer = says refl; kept = c .in-phase .ensures; vectors = c .before .before .before .put-vector .ensures .vectors }
 
 pub take-first-spec : {M : Type 1} → statement M
 take-first-spec = tie.close (tie.spec put-vector-requires in-phase-requires same-length returns)

@@ -30,7 +30,7 @@ returns : tie.Need-returns
 returns c =
     let a = c .before .before .before .before .before .before .before .before .before .before .before .before .args in
     let r = a .«record» in
-    stages-on r (unpack (r .n) (a .area .now)) (a .derivative .now) (c .before .before .before .before .before .before .before .before .row-coefficients .ensures) (c .before .before .before .before .before .before .before .if1 .taken) (c .before .before .before .before .before .row-and-exchange .ensures) (c .before .before .next-recurrence .ensures) (c .before .at-stage .ensures) (c .ask-stage .ensures _)
+    stages-on r (unpack (r .n) (a .area .now)) (a .derivative .now) (c .before .before .before .before .before .before .before .before .row-coefficients .ensures) (c .before .before .before .before .before .before .before .if1 .taken) (c .before .before .before .before .before .row-and-exchange .ensures .vectors) (c .before .before .next-recurrence .ensures) (c .before .at-stage .ensures) (c .ask-stage .ensures _)
 
 row-requires : tie.Need-row-requires
 row-requires c κs = search needs
@@ -48,7 +48,7 @@ returns-2 : tie.Need-returns-2
 returns-2 c =
     let a = c .before .before .before .before .before .before .before .before .before .before .before .before .before .before .before .args in
     let r = a .«record» in
-    stages-end r (unpack (r .n) (a .area .now)) (a .derivative .now) (c .before .before .before .before .before .before .before .before .before .before .before .row-coefficients .ensures) (c .before .before .before .before .before .before .before .before .before .before .if1 .left) (c .before .before .before .before .before .before .before .before .row .ensures) (c .before .before .before .before .keep-candidate .ensures) (c .ask-candidate .ensures)
+    stages-end r (unpack (r .n) (a .area .now)) (a .derivative .now) (c .before .before .before .before .before .before .before .before .before .before .before .row-coefficients .ensures) (c .before .before .before .before .before .before .before .before .before .before .if1 .left) (c .before .before .before .before .before .before .before .before .row .ensures .vectors) (c .before .before .before .before .keep-candidate .ensures .vectors) (c .ask-candidate .ensures)
 
 pub take-stage-spec : {M : Type 1} → statement M
 take-stage-spec =

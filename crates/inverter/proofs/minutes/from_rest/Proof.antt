@@ -41,7 +41,7 @@ returns c = let s = c .before .before .before .before .before .before .before .b
     let f = c .before .before .before .before .before .before .before .before .before .before .before .before .before .before .before .fill-vector in
     let r = c .before .before .before .before .before .before .before .before .run in
     let l : length (s .args .area .now) ≡ 11 * m .n = ap length (s .pre .1 .0) ∙ length-replicate (11 * m .n) nought in
-    let e = f .ensures ∙ ap (λ (a : List Float). unpack (m .n) a with state ≔ replicate (m .n) (m .initial)) (s .pre .1 .0) in
+    let e = f .ensures .vectors ∙ ap (λ (a : List Float). unpack (m .n) a with state ≔ replicate (m .n) (m .initial)) (s .pre .1 .0) in
     let q = outset-area m (f .last .0) (f .kept .0 ∙ l) e in
     subst (λ (a : List Float). Gives-total (run m 0 (s .args .readings .now) (outset a)) (r .result) (r .last .1 .1 .1 .1 .0) (r .last .1 .1 .1 .1 .1 .0)) q (r .ensures)
 

@@ -1,11 +1,11 @@
 -- `copy_vector` meets its contract, by the law of a loop over columns with one rule: the element of `from`.
-use mathlib.Core.Path.{refl, ap, _∙_, subst}
+use mathlib.Core.Path.{refl, ap, subst}
 use mathlib.Core.List.{List, [], _∷_}
 use Prim.Native.Nat.{ℕ, _+_, _-_, _*_, _≤_, _<_}
 use lib.ListN.{length, getD, set}
 use lib.Ieee.{Float, nan}
 use Rattle.workspace.specs.Vectors.{named, number, unpack, _with_≔_}
-use Rattle.workspace.proofs.Areas.{room, number-named, long-unpack}
+use Rattle.workspace.proofs.Areas.{room, number-named, long-unpack, becomes-as}
 use Rattle.workspace.proofs.Lists.{each-same}
 use Rattle.workspace.proofs.Columns.{Rules, Working, begin, turn, finish}
 use native.Mathlib.Omega.{arith}
@@ -17,15 +17,15 @@ abbrev rules : ℕ → ℕ → Rules
 rules from to = (named to, λ x. x (named from)) ∷ []
 
 -- a turn, where the numbers are known when the program runs
-turned : {n from to i : ℕ} {a area : List Float} → from < 11 → to < 11 → Working 11 n (rules from to) a area i → i < n
-    → Working 11 n (rules from to) a (set area (to * n + i) (getD area (from * n + i) nan)) (i + 1)
+turned : {n from to i : ℕ} {a area : List Float} → from < 11 → to < 11 → Working n (rules from to) a area i → i < n
+    → Working n (rules from to) a (set area (to * n + i) (getD area (from * n + i) nan)) (i + 1)
 turned {n} {from} {to} {i} {a} {area} p q W h =
-    subst (λ (k : ℕ). Working 11 n (rules from to) a (set area (k * n + i) (getD area (from * n + i) nan)) (i + 1)) (number-named to q)
-    (subst (λ (k : ℕ). Working 11 n (rules from to) a (set area (number (named to) * n + i) (getD area (k * n + i) nan)) (i + 1)) (number-named from p)
+    subst (λ (k : ℕ). Working n (rules from to) a (set area (k * n + i) (getD area (from * n + i) nan)) (i + 1)) (number-named to q)
+    (subst (λ (k : ℕ). Working n (rules from to) a (set area (number (named to) * n + i) (getD area (k * n + i) nan)) (i + 1)) (number-named from p)
     (turn (_ ∷ []) W h (refl, tt)))
 
 abbrev Inv-loop : tie.InvT-loop
-Inv-loop area₀ n from to a b i₀ area i = Working 11 n (rules from to) area₀ area i × (from < 11) × (to < 11) × (from * n + n ≤ length area₀) × (to * n + n ≤ length area₀)
+Inv-loop area₀ n from to a b i₀ area i = Working n (rules from to) area₀ area i × (from < 11) × (to < 11) × (from * n + n ≤ length area₀) × (to * n + n ≤ length area₀)
 
 abbrev μ-loop : tie.MeasureT-loop
 μ-loop area₀ n from to a b i₀ area i = n - i
@@ -83,8 +83,8 @@ returns c =
     let n = c .before .before .args .n in
     let v = unpack n a in
     let from = named (c .before .before .args .from) in
-    finish (c .before .loop .inv .0) (c .loop-test .left)
-    ∙ ap (λ (x : List Float). v with named (c .before .before .args .to) ≔ x) (each-same n v from (long-unpack n a (omega arith) from))
+    becomes-as (finish (c .before .loop .inv .0) (c .loop-test .left))
+    (ap (λ (x : List Float). v with named (c .before .before .args .to) ≔ x) (each-same n v from (long-unpack n a (omega arith) from)))
 
 pub copy-vector-spec : {M : Type 1} → statement M
 copy-vector-spec =

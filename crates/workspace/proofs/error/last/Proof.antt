@@ -1,5 +1,5 @@
 -- `last` meets its contract, with and without `adaptive`.
-use mathlib.Core.Path.{_≡_, sym, ap, _∙_}
+use mathlib.Core.Path.{_≡_, sym, ap}
 use mathlib.Core.Bool.{Bool, cond}
 use mathlib.Core.List.{List}
 use Prim.Native.Nat.{ℕ}
@@ -8,6 +8,7 @@ use Rattle.family.specs.Family.{Family, family-of}
 use Rattle.workspace.specs.declared.Arguments.{Arguments}
 use Rattle.workspace.specs.Vectors.{Vectors, _with_≔_, each, unpack, derivative, last-derivative}
 use Rattle.workspace.specs.Kernel.{with-last, error}
+use Rattle.workspace.proofs.Areas.{becomes-as, becomes-then}
 use borrow.Author.Needs.{needs}
 use Rattle.workspace.proofs.error.last.Statement.{statement}
 use Rattle.workspace.proofs.error.last.Tie as tie
@@ -29,9 +30,8 @@ same-length c = search needs
 returns : tie.Need-returns
 returns c =
     let x = c .before .before .before .before .before .before .before .before .before .before .before .args in
-    c .before .before .put-error .ensures
-    ∙ ap (λ (w : Vectors). w with derivative ≔ each (x .n) w (error (family-of (x .family)) (x .arguments .step))) (c .before .before .before .before .before .before .before .put-vector .ensures)
-    ∙ taken (family-of (x .family)) (x .n) (x .arguments) (unpack (x .n) (x .area .now)) (x .derivative .now) (c .before .before .before .before .if1 .taken)
+    becomes-as (becomes-then (c .before .before .before .before .before .before .before .put-vector .ensures) (c .before .before .put-error .ensures))
+    (taken (family-of (x .family)) (x .n) (x .arguments) (unpack (x .n) (x .area .now)) (x .derivative .now) (c .before .before .before .before .if1 .taken))
 
 same-length-2 : tie.Need-same-length-2
 same-length-2 c = search needs
@@ -39,7 +39,7 @@ same-length-2 c = search needs
 returns-2 : tie.Need-returns-2
 returns-2 c =
     let x = c .before .before .before .before .before .before .before .args in
-    c .before .before .before .put-vector .ensures ∙ taken (family-of (x .family)) (x .n) (x .arguments) (unpack (x .n) (x .area .now)) (x .derivative .now) (c .if1 .left)
+    becomes-as (c .before .before .before .put-vector .ensures) (taken (family-of (x .family)) (x .n) (x .arguments) (unpack (x .n) (x .area .now)) (x .derivative .now) (c .if1 .left))
 
 pub last-spec : {M : Type 1} → statement M
 last-spec =

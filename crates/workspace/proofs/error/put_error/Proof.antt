@@ -10,7 +10,7 @@ use Rattle.workspace.proofs.error.put_error.Statement.{statement}
 use Rattle.workspace.proofs.error.put_error.Tie as tie
 
 abbrev Inv-loop : tie.InvT-loop
-Inv-loop area₀ n family step i₀ area i = Working 11 n ((derivative, error (family-of family) step) ∷ []) area₀ area i
+Inv-loop area₀ n family step i₀ area i = Working n ((derivative, error (family-of family) step) ∷ []) area₀ area i
 
 abbrev μ-loop : tie.MeasureT-loop
 μ-loop area₀ n family step i₀ area i = n - i

@@ -7,6 +7,7 @@ use lib.Ieee.{Float, binary64, le, ofBits}
 use Rattle.ieee.specs.Double.{one, min-positive, nearest}
 use Rattle.workspace.specs.Vectors.{Vectors, unpack, _with_≔_, vector-norm, eigenvector, first-derivative}
 use Rattle.workspace.specs.Kernel.{with-direction}
+use Rattle.workspace.proofs.Areas.{becomes-as}
 use borrow.Author.Needs.{needs}
 use Rattle.workspace.proofs.iteration.choose_direction.Statement.{statement}
 use Rattle.workspace.proofs.iteration.choose_direction.Tie as tie
@@ -40,8 +41,8 @@ returns : tie.Need-returns
 unfolding ofBits
 returns c =
     let a = c .before .before .before .before .before .before .before .before .before .before .before .before .before .args in (
-      c .before .before .before .before .fill-vector .ensures
-          ∙ chosen (a .n) (unpack (a .n) (a .area .now)) true true (small (c .before .before .before .before .before .before .before .before .before .before .direction-norm .ensures) (c .before .before .before .before .before .before .before .before .before .if1 .taken)) (small (c .before .before .before .before .before .before .before .norm-of .ensures) (c .before .before .before .before .before .before .if2 .taken)),
+      becomes-as (c .before .before .before .before .fill-vector .ensures)
+          (chosen (a .n) (unpack (a .n) (a .area .now)) true true (small (c .before .before .before .before .before .before .before .before .before .before .direction-norm .ensures) (c .before .before .before .before .before .before .before .before .before .if1 .taken)) (small (c .before .before .before .before .before .before .before .norm-of .ensures) (c .before .before .before .before .before .before .if2 .taken))),
       c .direction-norm2 .ensures,
     )
 
@@ -56,9 +57,9 @@ returns-2 c =
     let a = c .before .before .before .before .before .before .before .before .before .before .before .args in
     let first = c .before .before .before .before .before .norm-of .ensures in
     let moved = c .before .before .copy-vector .ensures in (
-      moved
-          ∙ chosen (a .n) (unpack (a .n) (a .area .now)) true false (small (c .before .before .before .before .before .before .before .before .direction-norm .ensures) (c .before .before .before .before .before .before .before .if1 .taken)) (small first (c .before .before .before .before .if2 .left)),
-      first ∙ sym (ap (λ (v : Vectors). vector-norm (v eigenvector)) moved),
+      becomes-as moved
+          (chosen (a .n) (unpack (a .n) (a .area .now)) true false (small (c .before .before .before .before .before .before .before .before .direction-norm .ensures) (c .before .before .before .before .before .before .before .if1 .taken)) (small first (c .before .before .before .before .if2 .left))),
+      first ∙ sym (ap (λ (v : Vectors). vector-norm (v eigenvector)) (moved .vectors)),
     )
 
 same-length-3 : tie.Need-same-length-3
@@ -68,7 +69,8 @@ returns-3 : tie.Need-returns-3
 returns-3 c =
     let a = c .before .before .before .before .args in
     let v = unpack (a .n) (a .area .now) in
-    (chosen (a .n) v false (le (vector-norm (v first-derivative)) min-positive) (small (c .before .direction-norm .ensures) (c .if1 .left)) refl, c .before .direction-norm .ensures)
+    let kept = chosen (a .n) v false (le (vector-norm (v first-derivative)) min-positive) (small (c .before .direction-norm .ensures) (c .if1 .left)) refl in
+    (record { vectors = kept; rest = refl }, c .before .direction-norm .ensures)
 
 pub choose-direction-spec : {M : Type 1} → statement M
 choose-direction-spec =

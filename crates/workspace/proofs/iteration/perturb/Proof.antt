@@ -1,11 +1,12 @@
 -- `perturb` meets its contract, by the law of a loop over columns with one rule.
-use mathlib.Core.Path.{refl, ap, _∙_}
+use mathlib.Core.Path.{refl, ap}
 use mathlib.Core.List.{[], _∷_}
 use Prim.Native.Nat.{_-_}
 use lib.Ieee.{Float, ofBits}
 use Rattle.ieee.specs.Double.{_⊕_, _⊗_, _⊘_, min-positive, nearest}
 use Rattle.workspace.specs.Vectors.{unpack, _with_≔_, each, perturbed-state, state, eigenvector}
 use Rattle.workspace.specs.Kernel.{perturbed-by}
+use Rattle.workspace.proofs.Areas.{becomes-as}
 use Rattle.workspace.proofs.Columns.{Rules, Working, begin, turn, finish}
 use native.Mathlib.Omega.{arith}
 use Rattle.workspace.proofs.iteration.perturb.Statement.{statement}
@@ -15,7 +16,7 @@ abbrev rules : Float → Rules
 rules scale = (perturbed-state, λ x. x state ⊕ scale ⊗ x eigenvector) ∷ []
 
 abbrev Inv-loop : tie.InvT-loop
-Inv-loop area₀ n perturbation norm scale i₀ area i = Working 11 n (rules scale) area₀ area i
+Inv-loop area₀ n perturbation norm scale i₀ area i = Working n (rules scale) area₀ area i
 
 abbrev μ-loop : tie.MeasureT-loop
 μ-loop area₀ n perturbation norm scale i₀ area i = n - i
@@ -79,9 +80,8 @@ unfolding perturbed-by min-positive nearest ofBits
 returns c =
     let a = c .before .before .before .before .args in
     let v = unpack (a .n) (a .area .now) in
-    finish (c .before .loop .inv) (c .loop-test .left)
-    ∙ ap (λ (m : Float). v with perturbed-state ≔ each (a .n) v (λ x. x state ⊕ a .perturbation ⊘ m ⊗ x eigenvector))
-    (c .before .before .max .ensures)
+    becomes-as (finish (c .before .loop .inv) (c .loop-test .left))
+    (ap (λ (m : Float). v with perturbed-state ≔ each (a .n) v (λ x. x state ⊕ a .perturbation ⊘ m ⊗ x eigenvector)) (c .before .before .max .ensures))
 
 pub perturb-spec : {M : Type 1} → statement M
 perturb-spec =

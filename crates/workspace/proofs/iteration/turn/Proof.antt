@@ -1,10 +1,11 @@
 -- `turn` meets its contract: the derivative written, then the law of a loop over columns.
-use mathlib.Core.Path.{refl, ap, _∙_}
+use mathlib.Core.Path.{refl}
 use mathlib.Core.List.{[], _∷_}
 use Prim.Native.Nat.{_-_}
 use Rattle.ieee.specs.Double.{_⊖_}
-use Rattle.workspace.specs.Vectors.{Vectors, _with_≔_, each, eigenvector, perturbed-derivative, first-derivative}
+use Rattle.workspace.specs.Vectors.{eigenvector, perturbed-derivative, first-derivative}
 use Rattle.workspace.specs.Kernel.{turned}
+use Rattle.workspace.proofs.Areas.{becomes-then}
 use Rattle.workspace.proofs.Columns.{Rules, Working, begin, turn, finish}
 use native.Mathlib.Omega.{arith}
 use Rattle.workspace.proofs.iteration.turn.Statement.{statement}
@@ -14,7 +15,7 @@ abbrev rules : Rules
 rules = (eigenvector, λ x. x perturbed-derivative ⊖ x first-derivative) ∷ []
 
 abbrev Inv-loop : tie.InvT-loop
-Inv-loop area₀ n derivative i₀ area i = Working 11 n rules area₀ area i
+Inv-loop area₀ n derivative i₀ area i = Working n rules area₀ area i
 
 abbrev μ-loop : tie.MeasureT-loop
 μ-loop area₀ n derivative i₀ area i = n - i
@@ -75,10 +76,7 @@ same-length c = omega arith
 
 returns : tie.Need-returns Inv-loop μ-loop
 unfolding turned
-returns c =
-    let a = c .before .before .before .before .before .before .before .before .args in
-    finish (c .before .loop .inv) (c .loop-test .left)
-    ∙ ap (λ (w : Vectors). w with eigenvector ≔ each (a .n) w (λ x. x perturbed-derivative ⊖ x first-derivative)) (c .before .before .before .before .put-vector .ensures)
+returns c = becomes-then (c .before .before .before .before .put-vector .ensures) (finish (c .before .loop .inv) (c .loop-test .left))
 
 pub turn-spec : {M : Type 1} → statement M
 turn-spec =

@@ -1,5 +1,5 @@
 -- `first_stage` meets its contract, by the law of a loop over columns with two rules.
-use mathlib.Core.Path.{refl, ap, _∙_}
+use mathlib.Core.Path.{refl, ap}
 use mathlib.Core.List.{List, [], _∷_}
 use Prim.Native.Nat.{_-_}
 use lib.ListN.{length-set}
@@ -7,7 +7,7 @@ use lib.Ieee.{Float}
 use Rattle.ieee.specs.Double.{_⊕_, _⊗_}
 use Rattle.workspace.specs.Vectors.{unpack, _with_≔_, each, state, previous-one, previous-two, first-derivative}
 use Rattle.workspace.specs.Kernel.{first-stage}
-use Rattle.workspace.proofs.Areas.{long-unpack}
+use Rattle.workspace.proofs.Areas.{long-unpack, becomes-as}
 use Rattle.workspace.proofs.Lists.{each-same}
 use Rattle.workspace.proofs.Columns.{Rules, Working, begin, turn, finish}
 use native.Mathlib.Omega.{arith}
@@ -18,7 +18,7 @@ abbrev rules : Float → Float → Rules
 rules step mu~ = (previous-two, λ x. x state) ∷ (previous-one, λ x. x state ⊕ step ⊗ mu~ ⊗ x first-derivative) ∷ []
 
 abbrev Inv-loop : tie.InvT-loop
-Inv-loop area₀ n step mu-tilde i₀ area i = Working 11 n (rules step mu-tilde) area₀ area i
+Inv-loop area₀ n step mu-tilde i₀ area i = Working n (rules step mu-tilde) area₀ area i
 
 abbrev μ-loop : tie.MeasureT-loop
 μ-loop area₀ n step mu-tilde i₀ area i = n - i
@@ -91,9 +91,9 @@ unfolding first-stage
 returns c =
     let a = c .before .before .args in
     let v = unpack (a .n) (a .area .now) in
-    finish (c .before .loop .inv) (c .loop-test .left)
-    ∙ ap (λ (x : List Float). v with previous-two ≔ x with previous-one ≔ each (a .n) v (λ y. y state ⊕ a .step ⊗ a .mu-tilde ⊗ y first-derivative))
-    (each-same (a .n) v state (long-unpack (a .n) (a .area .now) (omega arith) state))
+    becomes-as (finish (c .before .loop .inv) (c .loop-test .left))
+    (ap (λ (x : List Float). v with previous-two ≔ x with previous-one ≔ each (a .n) v (λ y. y state ⊕ a .step ⊗ a .mu-tilde ⊗ y first-derivative))
+    (each-same (a .n) v state (long-unpack (a .n) (a .area .now) (omega arith) state)))
 
 pub first-stage-spec : {M : Type 1} → statement M
 first-stage-spec =

@@ -1,5 +1,5 @@
 -- `row_in` meets its contract, by the law of a loop over columns that takes the derivative in, with one rule.
-use mathlib.Core.Path.{_≡_, refl, _∙_}
+use mathlib.Core.Path.{_≡_, refl}
 use mathlib.Core.List.{[], _∷_}
 use Prim.Native.Nat.{_-_, _*_}
 use lib.ListN.{length, length-set}
