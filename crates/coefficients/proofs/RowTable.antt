@@ -14,7 +14,7 @@ use Rattle.family.specs.Family.{Orthogonal, Legendre1, Legendre2, Gegenbauer1, 
 use Rattle.coefficients.specs.Paper as Paper
 use Rattle.coefficients.specs.Paper.{omega-one, mu, nu, a, b, b-later, b-zero, b-one, value-at-one, mu-factor, nu-factor}
 use Rattle.ieee.specs.Double.{double, square}
-use Rattle.coefficients.specs.Closeness.{gamma-zero}
+use Rattle.coefficients.specs.Closeness.{gamma-zero, Both-zero}
 use Rattle.coefficients.specs.Rows.{omega-one-of, first-mu-tilde, recurrence, legendre-two-b, gegenbauer-one-b, gegenbauer-two-b}
 use Rattle.ieee.specs.Close.{signed, sign}
 use Rattle.ieee.proofs.Rounding.{P}
@@ -84,11 +84,6 @@ is-zero (negsuc n) = false
 
 unfoldable pub a-fits : Bool → Frac → Float → Bool
 a-fits z q x = cond z (is-zero (q .num) && finite x && eqb (num x) 0) (fits false x q)
-
-pub record Both-zero (x : Float) (q : Frac) : Type 0 where
-  pub fraction : q .num ≡ pos 0
-  pub number : T (finite x)
-  pub double-so : num x ≡ 0
 
 unfoldable pub Zero-or-fit : Bool → ℕ → ℕ → Bool → Float → Frac → Type 0
 Zero-or-fit true k n s x q = Both-zero x q

@@ -24,7 +24,7 @@ not-zero k n s x q h e = lt-irrefl 0 (subst (λ (m : ℕ). 0 < m) e (num-pos k x
 
 zero-as : (z : Bool) (k n : ℕ) (s : Bool) (x : Float) (q : Frac) → n ≤ 26 → Zero-or-fit z k n s x q → Zero-as z x q
 unfolding Zero-or-fit Zero-as
-zero-as true k n s x q l h = (h .fraction, h .double-so)
+zero-as true k n s x q l h = h
 zero-as false k n s x q l h = (λ e. not-zero k n s x q h (zero-where 48 x q (fit-close k n s x q l h) e), not-zero k n s x q h)
 
 pub zeros : (f : Orthogonal) (s j : ℕ) → T (permitted (made-of f) s) → 2 ≤ j → j ≤ s

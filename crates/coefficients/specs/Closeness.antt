@@ -2,10 +2,11 @@
 use mathlib.Core.Path.{_≡_}
 use Prim.Native.Nat.{ℕ}
 use mathlib.Core.Bool.{Bool, true, false}
-use lib.Dec.{eqb}
+use lib.Dec.{T, eqb}
 use lib.IntN.{pos}
 use lib.Ieee.{Float}
 use lib.Ieee.Positive.{num}
+use lib.Ieee.Scale.{finite}
 use Rattle.fractions.specs.Frac.{Frac}
 use Rattle.ieee.specs.Close.{Close}
 use Rattle.family.specs.Family.{Orthogonal, Legendre1, Legendre2, Gegenbauer1, Gegenbauer2}
@@ -26,9 +27,14 @@ gamma-zero Legendre2 j = false
 gamma-zero Gegenbauer1 j = true
 gamma-zero Gegenbauer2 j = eqb j 2
 
--- a fraction and its double: both are 0, or neither is
+-- a fraction and its double: both are 0, or neither is. (`num` is 0 of a NaN and an infinity too.)
+pub record Both-zero (x : Float) (q : Frac) : Type 0 where
+  pub fraction : q .num ≡ pos 0
+  pub number : T (finite x)
+  pub double-so : num x ≡ 0
+
 unfoldable pub Zero-as : Bool → Float → Frac → Type 0
-Zero-as true x q = (q .num ≡ pos 0) × (num x ≡ 0)
+Zero-as true x q = Both-zero x q
 Zero-as false x q = (q .num ≡ pos 0 → ⊥) × (num x ≡ 0 → ⊥)
 
 -- the row of stage j in an attempt of s stages: no coefficient is 0 but those listed
