@@ -1,5 +1,5 @@
 -- The stage counts serve every finite r that is not below 0 (`serves`), and every count of every family is permitted (`stage-count-permitted`). Assumes nothing.
-use mathlib.Core.Path.{_≡_, refl, sym, ap, _∙_, subst}
+use mathlib.Core.Path.{_≡_, sym, ap, _∙_, subst}
 use mathlib.Core.Logic.{_⊎_, inl, inr}
 use Prim.Native.Nat.{ℕ, zero, suc, _+_, _-_, _*_, _≤_, _<_}
 use native.Mathlib.Nat.{le-trans, le-of-eq, lt-of-lt-of-le, lt-of-not-le, not-le-of-lt, mul-right-comm, mul-assoc, mul-le-mul-left, mul-le-mul-right, le-of-mul-le-mul-right, mul-pos, zero-lt-suc}
@@ -7,16 +7,17 @@ use native.Mathlib.Omega.{arith}
 use mathlib.Core.Bool.{Bool, true, false, cond, true≢false}
 use lib.IntN.{ℤ, pos}
 use lib.Dec.{T, ltb, lt→ltb}
-use lib.Ieee.{Float, nan, inf, fin, binary64, up, down, lt, le, add, mul, round}
+use lib.Ieee.{Float, nan, inf, fin, up, down, lt, le, add, mul}
 use lib.Ieee.Fits.{up-pos, down-pos}
 use lib.Ieee.Bits.{is-true}
 use lib.Ieee.Positive.{num, den, den-pos}
-use lib.Ieee.Scale.{finite, round-same}
+use lib.Ieee.Scale.{finite}
 use Rattle.ieee.specs.Double.{_⊕_, _⊗_, nought}
 use Rattle.ieee.specs.Sqrt.{sqrt}
 use Rattle.ieee.specs.Whole as Whole
 use Rattle.ieee.proofs.Monotone.{NonNeg, infinite, number, le-of-cross}
-use Rattle.ieee.proofs.Rounding.{order}
+use Rattle.ieee.proofs.Logic.{le-or-le}
+use Rattle.ieee.proofs.Value.{round-none}
 use Rattle.family.specs.Family.{Family, Orthogonal, Legendre1, Legendre2, Gegenbauer1, Gegenbauer2, made-of, largest-count, permitted, before-limits, limited, stage-count}
 use Rattle.family.specs.Reach.{reach-num, reach-den, parts, Serves}
 use Rattle.family.proofs.Rule.{offset, slope, inner, after, rule-is, more-from, less-to, nearest-nonneg}
@@ -42,7 +43,7 @@ carry-back p q under n d n' d' D h k = le-of-mul-le-mul-right
 split : (x y : Float) → NonNeg x → NonNeg y → T (finite x) → T (finite y) → T (le x y) ⊎ (num y * den x ≤ num x * den y)
 split x y infinite q i j = absurd i
 split x y (number m e) infinite i j = absurd j
-split x y (number m e) (number n d) i j = go (order (m * up e * down d) (n * up d * down e))
+split x y (number m e) (number n d) i j = go (le-or-le (m * up e * down d) (n * up d * down e))
   where
     go : (m * up e * down d ≤ n * up d * down e) ⊎ (n * up d * down e ≤ m * up e * down d) → T (le (fin false m e) (fin false n d)) ⊎ (n * up d * down e ≤ m * up e * down d)
     go (inl h) = inl (le-of-cross m e n d h)
@@ -95,9 +96,9 @@ module _ (f : Orthogonal) (r : Float) (p : NonNeg r) (i : T (finite r)) where
 -- ---- −0 counts as 0
 minus-zero : (n : ℕ) (d : ℤ) (e : ℤ) → fin false n d ⊗ fin true 0 e ≡ fin true 0 (pos 0)
 unfolding mul
-minus-zero n d e = round-same binary64 true (n * up d * (0 * up e)) (down d * down e) 0 1 (mul-pos (down-pos d) (down-pos e)) (zero-lt-suc 0) (flat (n * up d) (up e)) ∙ (unfold round in refl)
+minus-zero n d e = round-none true (n * up d * (0 * up e)) (down d * down e) (mul-pos (down-pos d) (down-pos e)) (flat (n * up d) (up e))
   where
-    flat : (a u : ℕ) → a * (0 * u) * 1 ≡ 0 * (down d * down e)
+    flat : (a u : ℕ) → a * (0 * u) ≡ 0
     flat a u = omega arith
 
 inner-zero : (f : Orthogonal) (e : ℤ) → inner f (fin true 0 e) ≡ inner f nought

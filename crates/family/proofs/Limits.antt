@@ -6,7 +6,7 @@ use native.Mathlib.Nat.{min-eq-left, min-eq-right, le-trans, le-antisymm}
 use native.Mathlib.Omega.{arith}
 use mathlib.Core.Bool.{Bool, true, false}
 use lib.Dec.{T}
-use Rattle.ieee.proofs.Rounding.{order}
+use Rattle.ieee.proofs.Logic.{le-or-le}
 use Rattle.family.specs.Family.{Family, smallest-count, largest-count, odd-only, permitted, odd-step, limited}
 use Rattle.family.proofs.Range.{Permitted, permitted-says, permitted-if, largest-permitted}
 
@@ -40,7 +40,7 @@ limits f n = go (odd-step f m) (odd-step-is f m) (largest-permitted f)
     m = max n (smallest-count f)
 
     go : (q : ℕ) → Stepped (odd-only f) m q → Permitted f (largest-count f) → Limited f n (min q (largest-count f))
-    go q i l = elim (order (largest-count f) q) [
+    go q i l = elim (le-or-le (largest-count f) q) [
       | inl h ↦ subst (λ (s : ℕ). Limited f n s) (sym (min-eq-right h)) (record { allowed = permitted-if f (largest-count f) l; own = inl refl; lowest = lowest-from (largest-count f) h })
       | inr h ↦ subst (λ (s : ℕ). Limited f n s) (sym (min-eq-left h)) (record { allowed = permitted-if f q (record { from = omega arith; to = h; odd = i .odd }); own = inr (omega arith); lowest = lowest-from q (omega arith) })
     ]

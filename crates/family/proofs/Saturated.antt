@@ -7,7 +7,7 @@ use native.Mathlib.Omega.{arith}
 use mathlib.Core.Bool.{true, false}
 use lib.Dec.{lit≤}
 use lib.Ieee.{Float, nan, inf, fin, toUnsigned}
-use Rattle.ieee.proofs.Rounding.{order}
+use Rattle.ieee.proofs.Logic.{le-or-le}
 use Rattle.family.specs.Family.{Family, largest-count, limited}
 use Rattle.family.proofs.Range.{largest-to}
 use Rattle.family.proofs.Limits.{limited-largest}
@@ -27,7 +27,7 @@ largest-small : (f : Family) → largest-count f ≤ 2 ^ 64 - 1
 largest-small f = le-trans (largest-to f) (lit≤ tt)
 
 pub limited-saturated : (f : Family) (m : ℕ) → limited f (min m (2 ^ 64 - 1)) ≡ limited f m
-limited-saturated f m = elim (order m (2 ^ 64 - 1)) [
+limited-saturated f m = elim (le-or-le m (2 ^ 64 - 1)) [
   | inl h ↦ ap (limited f) (min-eq-left h)
   | inr h ↦ ap (limited f) (min-eq-right h) ∙ limited-largest f (2 ^ 64 - 1) (largest-small f) ∙ sym (limited-largest f m (le-trans (largest-small f) h))
 ]

@@ -4,9 +4,9 @@ use mathlib.Core.Path.{_≡_, refl, sym, ap, _∙_, subst}
 use Prim.Native.Nat.{ℕ, zero, suc, _+_, _-_, _*_, _/_, _%_, _^_, _≤_, _<_, compare, Ordering, Ordering·lt, Ordering·eq, Ordering·gt}
 use native.Mathlib.Nat.{le-trans, le-of-eq, le-of-lt, lt-of-le-of-lt, le-of-mul-le-mul-right, mul-comm, mul-assoc, mul-left-comm, mul-right-comm, mul-mul-mul-comm, mul-le-mul, mul-le-mul-right, mul-le-mul-left, mul-pos, mul-sub, lt-of-mul-lt-mul-right, add-mul, mod-lt, div-add-mod', le-div-iff-mul-le}
 use native.Mathlib.Omega.{arith}
-use mathlib.Core.Logic.{_⊎_, inl, inr}
-use mathlib.Core.Bool.{Bool, true, false, not}
-use lib.Dec.{T, leb, isLe, isEq, leb→le, nleb→lt, eqb→eq, lit<, lit≤}
+use mathlib.Core.Logic.{inl, inr}
+use mathlib.Core.Bool.{Bool, not}
+use lib.Dec.{T, isLe, isEq, leb→le, nleb→lt, eqb→eq, lit<, lit≤}
 use lib.Pow.{pow-add, pow-pos, pow-mono}
 use lib.Ieee.{Float, nan, inf, fin, binary64, up, down, size, round, nearest}
 use lib.Ieee.Digits.{size-reaches}
@@ -16,6 +16,7 @@ use lib.Ieee.Nearest.{closest}
 use lib.Ieee.Positive.{num, den}
 use lib.Ieee.Scale.{finite, normal-of-fraction}
 use Rattle.ieee.specs.Close.{sign}
+use Rattle.ieee.proofs.Logic.{le-or-le}
 
 -- ---- u and v are within n parts in p of each other
 abbrev pub P : ℕ
@@ -109,15 +110,8 @@ pub record Off (u v : ℕ) : Type 0 where
   pub over : u * P ≤ v * P + v
   pub under : v * P ≤ u * P + v
 
-pub order : (b a : ℕ) → (b ≤ a) ⊎ (a ≤ b)
-order b a = go (leb b a) (leb→le b a) (nleb→lt b a)
-  where
-    go : (c : Bool) → (T c → b ≤ a) → (T (not c) → a < b) → (b ≤ a) ⊎ (a ≤ b)
-    go true y n = inl (y tt)
-    go false y n = inr (le-of-lt (n tt))
-
 pub rel-off : {u v : ℕ} → Off u v → Rel 1 u v
-rel-off {u} {v} h = record { to = elim (order u v) [ inl l ↦ below u v P l | inr l ↦ above u v P l (h .over) ]; from = less v (u * P) P (h .under) }
+rel-off {u} {v} h = record { to = elim (le-or-le u v) [ inl l ↦ below u v P l | inr l ↦ above u v P l (h .over) ]; from = less v (u * P) P (h .under) }
   where
     less : (v w p : ℕ) → v * p ≤ w + v → v * (p - 1) ≤ w
     less v w p h = let e : v * (p - 1) ≡ v * p - v * 1 = mul-sub v p 1 in omega arith

@@ -78,6 +78,13 @@ exact s (suc m) e h =
 pub round-own : (s : Bool) (m : ℕ) (e : ℤ) → T (fits binary64 (fin s m e)) → round binary64 s (m * up e) (down e) ≡ fin s m e
 round-own s m e h = same-value (round binary64 s (m * up e) (down e)) (fin s m e) s (m * up e) (down e) (down-pos e) (round-fits binary64 s (m * up e) (down e)) h (exact s m e h) (refl, refl)
 
+-- 0 rounds to 0, whatever it is over
+pub round-none : (s : Bool) (a c : ℕ) → 0 < c → a ≡ 0 → round binary64 s a c ≡ fin s 0 (pos 0)
+round-none s a c h e = round-same binary64 s a c 0 1 h (lit< tt) (flat a c e) ∙ (unfold round in refl)
+  where
+    flat : (a c : ℕ) → a ≡ 0 → a * 1 ≡ 0 * c
+    flat a c e = omega arith
+
 -- ---- dividing by 1
 own : (s : Bool) → unlike s false ≡ s
 own true = refl

@@ -3,7 +3,7 @@
 -- element-wise loop over the area cites this.
 use mathlib.Core.Path.{_≡_, refl, sym, ap, _∙_, subst, fun-ext}
 use mathlib.Core.Logic.{_⊎_, inl, inr, ⊎-elim}
-use mathlib.Core.Bool.{Bool, true, false, cond, _&&_, false≢true}
+use mathlib.Core.Bool.{Bool, true, false, cond, _&&_}
 use mathlib.Core.List.{List, [], _∷_}
 use Prim.Native.Nat.{ℕ, _+_, _-_, _*_, _≤_, _<_, min, zero-le}
 use native.Mathlib.Nat.{mul-le-mul-right, suc-mul, eq-or-lt-of-le, not-suc-le-zero}
@@ -13,9 +13,10 @@ use lib.Dec.{eqb, ltb}
 use lib.ListN.{length, getD, drop, set, length-set, length-take, length-drop}
 use lib.Seq.{getD-set-same, getD-set-other, drop-set-lt, ext-getD, getD-take, getD-drop, length-take-le}
 use lib.Ieee.{Float, nan}
+use Rattle.ieee.proofs.Logic.{both, le-or-lt}
 use Rattle.workspace.specs.Vectors.{Vector, Vectors, _with_≔_, number, named, column, unpack, extent, beyond, Becomes, each}
 use Rattle.workspace.proofs.Areas.{number-below, named-number, room, length-each}
-use Rattle.workspace.proofs.Lists.{split, each-at}
+use Rattle.workspace.proofs.Lists.{each-at}
 
 -- which vectors are worked out, and the rule of an element of each, from its column
 abbrev pub Rules : Type 0
@@ -37,7 +38,7 @@ pub data Order (q k : ℕ) : Type 0 where
   other : (k < q) ⊎ (q < k) → Order q k
 
 pub order : (q k : ℕ) → Order q k
-order q k = ⊎-elim (λ (p : q ≤ k). ⊎-elim (λ e. same e) (λ l. other (inr l)) (eq-or-lt-of-le p)) (λ (p : k < q). other (inl p)) (split q k)
+order q k = ⊎-elim (λ (p : q ≤ k). ⊎-elim (λ e. same e) (λ l. other (inr l)) (eq-or-lt-of-le p)) (λ (p : k < q). other (inl p)) (le-or-lt q k)
 
 pub differ : {q k : ℕ} → (k < q) ⊎ (q < k) → k ≡ q → ⊥
 differ (inl p) e = omega arith
@@ -101,19 +102,12 @@ unfoldable pub Room : ℕ → ℕ → Rules → Type 0
 Room n l [] = Unit
 Room n l ((k, f) ∷ rs) = (number k * n + n ≤ l) × Room n l rs
 
-both : (m : ℕ) (k : Vector) (t : Bool) → ltb (number k) m && t ≡ true → (number k < m) × (t ≡ true)
-both m k t e = go (ltb (number k) m) refl e
-  where
-    go : (u : Bool) → ltb (number k) m ≡ u → u && t ≡ true → (number k < m) × (t ≡ true)
-    go true p q = (ltb-true (number k) m p, q)
-    go false p q = absurd (false≢true q)
-
 pub roomy : (m n l : ℕ) (rs : Rules) → among m rs ≡ true → m * n ≤ l → Room n l rs
 unfolding Room
 roomy m n l [] e h = tt
 roomy m n l ((k, f) ∷ rs) e h =
-    let b = both m k (among m rs) e in
-    (omega (arith, h, room m (number k) n (b .0)), roomy m n l rs (b .1) h)
+    let b = both (ltb (number k) m) (among m rs) e in
+    (omega (arith, h, room m (number k) n (ltb-true (number k) m (b .0))), roomy m n l rs (b .1) h)
 
 pub length-stores : (n i : ℕ) (ws : List (Vector × Float)) (l : List Float) → length (stores n i ws l) ≡ length l
 length-stores n i [] l = refl

@@ -11,10 +11,10 @@ use borrow.Author.Tests.{eq-eqb, ne-eqb}
 use lib.ListN.{length, getD, set, length-set}
 use lib.Seq.{getD-set-same, getD-set-other}
 use lib.Ieee.{Float, nan}
+use Rattle.ieee.proofs.Logic.{le-or-lt}
 use Rattle.workspace.specs.declared.stages.Four.{Four}
 use Rattle.workspace.specs.Vectors.{Vector, number, column, first-derivative, derivative, previous-two, previous-one, next-stage, state}
 use Rattle.workspace.specs.Reads.{taking, Reads, moved, Moved, element, Holds, Put, picked}
-use Rattle.workspace.proofs.Lists.{split}
 use Rattle.workspace.proofs.Columns.{Order, same, other, order, differ, with-at, set-here, set-there, written}
 use Rattle.workspace.proofs.Rows.{exchange-rules}
 use Rattle.workspace.proofs.Taking.{Taking}
@@ -218,7 +218,7 @@ module _ (n : ℕ) (g : (Vector → Float) → Float) (d : List Float) where
       within j p q = ⊎-elim
           (λ (r : i + k ≤ j). O .1 j r (omega arith) ∙ ap (λ (w : Vector → Float). moved g (taking (getD d j nan) w)) (M .2 j (omega arith) (inr r)))
           (λ (r : j < i + k). O .2 j (omega arith) (inl r) ∙ M .1 j p r)
-          (split (i + k) j)
+          (le-or-lt (i + k) j)
 
       outside : (j : ℕ) → j < n → (j < i) ⊎ (i + (k + e) ≤ j) → column n o j ≡ column n l j
       outside j h (inl r) = O .2 j h (inl (omega arith)) ∙ M .2 j h (inl r)
@@ -248,6 +248,6 @@ goes-on d n a g area later i k W h M = record {
   past = λ j p. ⊎-elim
       (λ (q : i ≤ j). M .1 j q p ∙ ap (λ (w : Vector → Float). moved g (taking (getD d j nan) w)) (W .ahead j q (omega arith)))
       (λ (q : j < i). M .2 j (omega arith) (inl q) ∙ W .past j q)
-      (split i j);
+      (le-or-lt i j);
   ahead = λ j p q. M .2 j q (inr p) ∙ W .ahead j (omega arith) q;
 }

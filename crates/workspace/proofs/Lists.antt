@@ -1,8 +1,7 @@
--- Laws of numbers and of lists of doubles that the proofs of the loops cite.
+-- Laws of lists of doubles that the proofs of the loops cite.
 use mathlib.Core.Path.{_≡_, refl, sym, ap, ap₂, _∙_}
-use mathlib.Core.Logic.{_⊎_, inl, inr, ⊎-elim}
 use mathlib.Core.List.{List, [], _∷_, foldl}
-use Prim.Native.Nat.{ℕ, zero, suc, _+_, _≤_, _<_, zero-le, suc-le-suc}
+use Prim.Native.Nat.{ℕ, zero, suc, _+_, _<_}
 use native.Mathlib.Nat.{add-suc, suc-add, add-zero, zero-add, not-suc-le-zero, le-of-suc-le-suc}
 use native.Mathlib.Numerals.{add-one}
 use native.Mathlib.Omega.{arith}
@@ -12,11 +11,6 @@ use lib.Ieee.{Float, nan, binary64, add, mul}
 use Rattle.ieee.specs.Double.{_⊕_, nought, square}
 use Rattle.workspace.specs.Vectors.{Vector, Vectors, tabulate, each, sum-of-squares}
 use Rattle.workspace.proofs.Areas.{length-each}
-
-pub split : (a b : ℕ) → (a ≤ b) ⊎ (b < a)
-split zero b = inl zero-le
-split (suc a) zero = inr (suc-le-suc zero-le)
-split (suc a) (suc b) = ⊎-elim (λ p. inl (suc-le-suc p)) (λ q. inr (suc-le-suc q)) (split a b)
 
 pub getD-tabulate : (f : ℕ → Float) (i n j : ℕ) → j < n → getD (tabulate f i n) j nan ≡ f (i + j)
 getD-tabulate f i zero j h = absurd (not-suc-le-zero h)

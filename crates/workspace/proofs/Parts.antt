@@ -12,9 +12,9 @@ use lib.Dec.{eqb, ltb}
 use lib.ListN.{length, take, drop, length-drop}
 use lib.Seq.{take-nil, take-take, drop-drop, take-at, drop-at, length-take-le, drop-append-le, take-append-le}
 use lib.Ieee.{Float}
+use Rattle.ieee.proofs.Logic.{le-or-lt}
 use Rattle.workspace.specs.Vectors.{Vector, Vectors, _with_≔_, number, named, unpack, extent, beyond, Becomes}
 use Rattle.workspace.proofs.Areas.{number-below, number-named, room, long-unpack}
-use Rattle.workspace.proofs.Lists.{split}
 
 -- ---- what stands from p on in two lists that are the same there, and n elements of it
 
@@ -76,7 +76,7 @@ module _ (b : Vector) (n : ℕ) (a x : List Float) (long : length x ≡ n) (fits
 
   unpack-back : unpack n back ≡ (unpack n a with b ≔ x)
   unfolding unpack
-  unpack-back = fun-ext (λ c. go c (split (number b) (number c)))
+  unpack-back = fun-ext (λ c. go c (le-or-lt (number b) (number c)))
     where
       apart : (c : Vector) → (number c < number b) ⊎ (number b < number c) → (number b ≡ number c → ⊥) → take n (drop (number c * n) back) ≡ cond (eqb (number b) (number c)) x (take n (drop (number c * n) a))
       apart c d e = there (number c) d ∙ sym (ap (λ (t : Bool). cond t x (take n (drop (number c * n) a))) (ne-eqb (number b) (number c) e))

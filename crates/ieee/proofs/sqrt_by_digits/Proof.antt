@@ -3,7 +3,8 @@ use borrow.Author.Needs.{needs}
 use mathlib.Core.Path.{_∙_}
 use lib.Dec.{T}
 use lib.Ieee.{fits, binary64, ofBits, div}
-use Rattle.ieee.proofs.Cases.{yes, negative-root, Above, positive, above-no-nan, neither-root, high-root, low-digits, low-root, mid-root, low-bits}
+use Rattle.ieee.proofs.Logic.{yes}
+use Rattle.ieee.proofs.Cases.{negative-root, Above, positive, above-no-nan, neither-root, high-root, low-digits, low-root, mid-root, low-bits}
 use Rattle.ieee.proofs.sqrt_by_digits.Statement.{statement}
 use Rattle.ieee.proofs.sqrt_by_digits.Tie as tie
 
