@@ -5,7 +5,8 @@ use mathlib.Core.Bool.{Bool, true, false, cond, _||_, false≢true}
 use mathlib.Core.List.{List}
 use Prim.Native.Nat.{ℕ, zero, suc, _+_, _≤_}
 use native.Mathlib.Omega.{arith}
-use lib.Dec.{ltb, eqb}
+use lib.Dec.{leb, ltb, eqb}
+use borrow.Author.Tests.{leb-true}
 use lib.Ieee.{Float}
 use Rattle.ieee.specs.Double.{_⊕_}
 use Rattle.family.specs.Family.{Family, family-of}
@@ -23,9 +24,11 @@ use Rattle.driver.specs.declared.Counters.{Counters}
 use Rattle.driver.specs.declared.Need.{Need}
 use Rattle.driver.specs.declared.Need.the-variants.{Met, Unmet}
 use Rattle.driver.specs.Calls as calls
-use Rattle.driver.specs.Calls.{Held, Called, check}
+use Rattle.driver.specs.Calls.{Held, Called, Test, Verdict, goes-on, refused-with, first-failing, decide, guarded}
 use Rattle.session.specs.Refusals.{largest-number}
 use Rattle.session.proofs.Needs.{Needed, need-holds}
+use Rattle.session.proofs.Guards.{low, low-fails}
+use Rattle.session.proofs.Truth.{and-left, and-right}
 use Rattle.heat_sink.specs.declared.Inverter.{Inverter}
 use Rattle.inverter.specs.Day.{time-of, begun, go-on, next, driven, most-calls, passed, finished, refusal}
 use Rattle.inverter.specs.Day as day
@@ -107,37 +110,26 @@ module _ (n : ℕ) where
   counts Empty c h e = h
 
   module _ (h : Held) (e : h .counters .«finished_attempts» ≡ n) where
-    checked : (i : ℕ) (t : Bool) (go : Called) → 1 ≤ i → i ≤ largest-number → Stands n go → Stands n (check h i t go)
-    unfolding check Stand
-    checked i true go l m s = s
-    checked i false go l m s = (l, m, e)
+    guarded-stands : (ts : List Test) (go : Called) → low ts ≡ true → Stands n go → Stands n (guarded h ts go)
+    unfolding guarded decide Stand
+    guarded-stands ts go l s = by (first-failing ts) refl
+      where
+        by : (v : Verdict) → first-failing ts ≡ v → Stands n (decide v h go)
+        by goes-on q = s
+        by (refused-with i) q = let t = low-fails ts i l q in
+            (leb-true 1 i (and-left (leb 1 i) (leb i 8) t), omega (arith, leb-true i 8 (and-right (leb 1 i) (leb i 8) t)), e)
 
     start-stands : (f k : ℕ) (y : List Float) (t : Float) → Stands n (calls.start h f k y t)
-    unfolding calls.start Stand
-    start-stands f k y t =
-        checked 1 _ _ (omega arith) (omega arith)
-        (checked 2 _ _ (omega arith) (omega arith)
-        (checked 3 _ _ (omega arith) (omega arith)
-        (checked 5 _ _ (omega arith) (omega arith)
-        (checked 6 _ _ (omega arith) (omega arith) e))))
+    unfolding calls.start calls.start-tests Stand
+    start-stands f k y t = guarded-stands (calls.start-tests f k (h .area) y t) _ refl e
 
     accept-stands : Stands n (calls.accept h)
-    unfolding calls.accept calls.going-on calls.accepted Stand
-    accept-stands =
-        checked 1 _ _ (omega arith) (omega arith)
-        (checked 2 _ _ (omega arith) (omega arith)
-        (checked 3 _ _ (omega arith) (omega arith)
-        (checked 4 _ _ (omega arith) (omega arith) e)))
+    unfolding calls.accept calls.accept-tests calls.going-on calls.accepted Stand
+    accept-stands = guarded-stands (calls.accept-tests (h .kept) (h .area)) _ refl e
 
     attempt-stands : (a : Arguments) → Stands n (calls.attempt h a)
-    unfolding calls.attempt calls.going-on calls.attempted calls.ask-pass Stand
-    attempt-stands a =
-        checked 1 _ _ (omega arith) (omega arith)
-        (checked 2 _ _ (omega arith) (omega arith)
-        (checked 3 _ _ (omega arith) (omega arith)
-        (checked 4 _ _ (omega arith) (omega arith)
-        (checked 6 _ _ (omega arith) (omega arith)
-        (checked 7 _ _ (omega arith) (omega arith) e)))))
+    unfolding calls.attempt calls.attempt-tests calls.going-on calls.attempted calls.ask-pass Stand
+    attempt-stands a = guarded-stands (calls.attempt-tests (h .kept) (h .area) a) _ refl e
 
     taken : (d : List Float) (t : Bool)
         → Stands n (cond t (calls.settled (h .counters) (calls.replied (h .kept .phase) (h .kept) (unpack (h .kept .n) (h .area)) d)) (calls.spoiled h))
@@ -147,13 +139,8 @@ module _ (n : ℕ) where
     taken d false = (omega arith, omega arith, e)
 
     reply-stands : (d : List Float) → Stands n (calls.reply h d)
-    unfolding calls.reply
-    reply-stands d =
-        checked 1 _ _ (omega arith) (omega arith)
-        (checked 2 _ _ (omega arith) (omega arith)
-        (checked 3 _ _ (omega arith) (omega arith)
-        (checked 4 _ _ (omega arith) (omega arith)
-        (checked 8 _ _ (omega arith) (omega arith) (taken d (all-finite d))))))
+    unfolding calls.reply calls.reply-tests
+    reply-stands d = guarded-stands (calls.reply-tests (h .kept) (h .counters) (h .area) d) _ refl (taken d (all-finite d))
 
 -- ---- a minute
 

@@ -1,14 +1,12 @@
 -- Which number a call is turned away with: that of the first of its tests that fails. Document 01, "When a call is turned away".
 use Prim.Native.Nat.{ℕ, _+_, _≤_}
 use mathlib.Core.Path.{_≡_}
-use mathlib.Core.Bool.{Bool, false, cond, _&&_, _||_}
-use mathlib.Core.List.{List, [], _∷_}
+use mathlib.Core.Bool.{false, cond, _||_}
+use mathlib.Core.List.{List, [], _∷_, _++_}
 use lib.Dec.{ltb, eqb}
 use lib.Ieee.{Float}
-use lib.Ieee.Scale.{finite}
-use Rattle.family.specs.Family.{known, family-of}
+use Rattle.family.specs.Family.{family-of}
 use Rattle.coefficients.specs.Rows.{coefficients}
-use Rattle.workspace.specs.declared.Arguments.{Arguments}
 use Rattle.workspace.specs.Vectors.{Vectors, unpack, all-finite, last-derivative, next-stage}
 use Rattle.workspace.specs.Kernel.{turned, radius-of, ended, scaled, with-row}
 use Rattle.driver.specs.declared.Phase.{Phase}
@@ -18,16 +16,11 @@ use Rattle.driver.specs.declared.Need.{Need}
 use Rattle.driver.specs.declared.Need.the-variants.{Met, Unmet}
 use Rattle.driver.specs.declared.Answer.{Answer}
 use Rattle.driver.specs.declared.Answer.the-variants.{Evaluate, Finished, Ready, Refused, Empty}
-use Rattle.driver.specs.Calls.{Held, in-phase, stage-need, sized, whole-area, as-long, awaiting, may-attempt, may-accept, good-times, good-tolerances, has-room, Call, Start, Attempt, Reply, Accept, Accept-with-callback, Abandon}
+use Rattle.driver.specs.Calls.{Held, in-phase, stage-need, Test, _∶_, Verdict, goes-on, refused-with, start-tests, attempt-tests, reply-tests, accept-tests, callback-tests, abandon-tests, Call, Start, Attempt, Reply, Accept, Accept-with-callback, Abandon}
 
 -- the numbers are 1 to this
 abbrev pub largest-number : ℕ
 largest-number = 10
-
--- turned away with a number, or not
-pub data Verdict : Type 0 where
-  goes-on : Verdict
-  refused-with : ℕ → Verdict
 
 abbrev pub verdict-of : Answer → Verdict
 verdict-of (Evaluate t b) = goes-on
@@ -35,39 +28,6 @@ verdict-of (Finished e) = goes-on
 verdict-of Ready = goes-on
 verdict-of (Refused i) = refused-with i
 verdict-of Empty = goes-on
-
--- a test's number, and whether it passes
-pub record Test : Type 0 where
-  pub number : ℕ
-  pub passes : Bool
-
-infix 90 _∶_
-abbrev pub _∶_ : ℕ → Bool → Test
-number ∶ passes = record { number = number; passes = passes }
-
--- by the first test that fails
-abbrev pub first-failing : List Test → Verdict
-first-failing [] = goes-on
-first-failing (t ∷ ts) = cond (t .passes) (first-failing ts) (refused-with (t .number))
-
-unfoldable pub start-tests : Held → ℕ → ℕ → List Float → Float → List Test
-start-tests h f n y t =
-    1 ∶ known f
-    ∷ 2 ∶ sized n
-    ∷ 3 ∶ (whole-area f n (h .area) && as-long n y)
-    ∷ 5 ∶ all-finite y
-    ∷ 6 ∶ finite t
-    ∷ []
-
-unfoldable pub attempt-tests : Held → Arguments → List Test
-attempt-tests h a = let r = h .kept in
-    1 ∶ known (r .family)
-    ∷ 2 ∶ sized (r .n)
-    ∷ 3 ∶ whole-area (r .family) (r .n) (h .area)
-    ∷ 4 ∶ may-attempt (r .phase)
-    ∷ 6 ∶ good-times a
-    ∷ 7 ∶ good-tolerances a
-    ∷ []
 
 -- a reply that ends the power iteration has the need of stages tested (no family's need is refused yet: `Unmet` is empty today)
 unfoldable pub need-tests : Need → List Test
@@ -101,49 +61,13 @@ replied-tests P.Candidate r v d = []
 replied-tests P.Finished r v d = []
 replied-tests P.Callback r v d = []
 
-unfoldable pub reply-tests : Held → List Float → List Test
-reply-tests h d = let r = h .kept in
-    1 ∶ known (r .family)
-    ∷ 2 ∶ sized (r .n)
-    ∷ 3 ∶ (whole-area (r .family) (r .n) (h .area) && as-long (r .n) d)
-    ∷ 4 ∶ awaiting r
-    ∷ 8 ∶ has-room (r .phase) (h .counters)
-    ∷ 9 ∶ all-finite d
-    ∷ replied-tests (r .phase) r (unpack (r .n) (h .area)) d
-
-unfoldable pub accept-tests : Held → List Test
-accept-tests h = let r = h .kept in
-    1 ∶ known (r .family)
-    ∷ 2 ∶ sized (r .n)
-    ∷ 3 ∶ whole-area (r .family) (r .n) (h .area)
-    ∷ 4 ∶ may-accept (r .phase)
-    ∷ []
-
-unfoldable pub callback-tests : Held → List Float → Float → List Test
-callback-tests h y t = let r = h .kept in
-    1 ∶ known (r .family)
-    ∷ 2 ∶ sized (r .n)
-    ∷ 3 ∶ (whole-area (r .family) (r .n) (h .area) && as-long (r .n) y)
-    ∷ 4 ∶ may-accept (r .phase)
-    ∷ 5 ∶ all-finite y
-    ∷ 6 ∶ finite t
-    ∷ []
-
-unfoldable pub abandon-tests : Held → List Test
-abandon-tests h = let r = h .kept in
-    1 ∶ known (r .family)
-    ∷ 2 ∶ sized (r .n)
-    ∷ 3 ∶ whole-area (r .family) (r .n) (h .area)
-    ∷ 4 ∶ awaiting r
-    ∷ []
-
 unfoldable pub tests-of : Held → Call → List Test
-tests-of h (Start f n y t) = start-tests h f n y t
-tests-of h (Attempt a) = attempt-tests h a
-tests-of h (Reply d) = reply-tests h d
-tests-of h Accept = accept-tests h
-tests-of h (Accept-with-callback y t) = callback-tests h y t
-tests-of h Abandon = abandon-tests h
+tests-of h (Start f n y t) = start-tests f n (h .area) y t
+tests-of h (Attempt a) = attempt-tests (h .kept) (h .area) a
+tests-of h (Reply d) = reply-tests (h .kept) (h .counters) (h .area) d ++ 9 ∶ all-finite d ∷ replied-tests (h .kept .phase) (h .kept) (unpack (h .kept .n) (h .area)) d
+tests-of h Accept = accept-tests (h .kept) (h .area)
+tests-of h (Accept-with-callback y t) = callback-tests (h .kept) (h .area) y t
+tests-of h Abandon = abandon-tests (h .kept) (h .area)
 
 -- the numbers that a call can answer, and no other
 unfoldable pub numbers-of : Call → List ℕ
