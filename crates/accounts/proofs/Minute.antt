@@ -24,7 +24,8 @@ use Rattle.driver.specs.declared.Counters.{Counters}
 use Rattle.driver.specs.declared.Need.{Need}
 use Rattle.driver.specs.declared.Need.the-variants.{Met, Unmet}
 use Rattle.driver.specs.Calls as calls
-use Rattle.driver.specs.Calls.{Held, Called, Test, Verdict, goes-on, refused-with, first-failing, decide, guarded}
+use Rattle.driver.specs.Calls.{Held, Called, Test, guarded}
+use Rattle.driver.proofs.Ladder.{by-tests}
 use Rattle.session.specs.Refusals.{largest-number}
 use Rattle.session.proofs.Needs.{Needed, need-holds}
 use Rattle.session.proofs.Guards.{low, low-fails}
@@ -111,13 +112,10 @@ module _ (n : ℕ) where
 
   module _ (h : Held) (e : h .counters .«finished_attempts» ≡ n) where
     guarded-stands : (ts : List Test) (go : Called) → low ts ≡ true → Stands n go → Stands n (guarded h ts go)
-    unfolding guarded decide Stand
-    guarded-stands ts go l s = by (first-failing ts) refl
-      where
-        by : (v : Verdict) → first-failing ts ≡ v → Stands n (decide v h go)
-        by goes-on q = s
-        by (refused-with i) q = let t = low-fails ts i l q in
-            (leb-true 1 i (and-left (leb 1 i) (leb i 8) t), omega (arith, leb-true i 8 (and-right (leb 1 i) (leb i 8) t)), e)
+    unfolding Stand
+    guarded-stands ts go l s = by-tests (Stands n) h ts go (λ _. s)
+        (λ k q. let t = low-fails ts k l q in
+        (leb-true 1 k (and-left (leb 1 k) (leb k 8) t), omega (arith, leb-true k 8 (and-right (leb 1 k) (leb k 8) t)), e))
 
     start-stands : (f k : ℕ) (y : List Float) (t : Float) → Stands n (calls.start h f k y t)
     unfolding calls.start calls.start-tests Stand

@@ -1,56 +1,47 @@
--- What a call that no test turns away knows, from the code's 0: that none fails, and the lengths.
-use mathlib.Core.Path.{_≡_, refl}
-use mathlib.Core.List.{List}
+-- What a call knows that the code has found no cause for: no test fails, each passes, and, from test 3, how long the area and the vector it brings are. From
+-- the code's 0, for any list that begins with the three tests of family, n and lengths.
+use mathlib.Core.Path.{_≡_, sym, _∙_}
+use mathlib.Core.Bool.{Bool, true, _&&_}
+use mathlib.Core.List.{List, _∷_}
 use Prim.Native.Nat.{ℕ, _*_}
 use lib.ListN.{length}
 use lib.Ieee.{Float}
-use Rattle.family.specs.Family.{family-of}
-use Rattle.workspace.specs.declared.Arguments.{Arguments}
+use Rattle.family.specs.Family.{known, family-of}
 use Rattle.workspace.specs.Vectors.{vector-count}
-use Rattle.driver.specs.declared.Record.{Record}
-use Rattle.driver.specs.declared.Counters.{Counters}
-use Rattle.driver.specs.Calls.{Test, goes-on, first-failing, cause-of, start-tests, attempt-tests, reply-tests, accept-tests, callback-tests}
-use Rattle.driver.proofs.Ladder.{Passing, all-pass, none-fails}
+use Rattle.driver.specs.Calls.{Test, _∶_, admitted, first-failing, cause-of, sized, whole-area, as-long}
+use Rattle.driver.proofs.Ladder.{Passing, each-passes, numbered, none-fails}
 use Rattle.driver.proofs.Sizes.{area-long, both-long}
 
--- the area of this family and n
 pub record Clear (f n : ℕ) (area : List Float) (tests : List Test) : Type 0 where
-  pub none : first-failing tests ≡ goes-on
+  pub none : first-failing tests ≡ admitted
   pub passing : Passing tests
   pub long : length area ≡ vector-count (family-of f) * n
 
 -- and the vector that the call brings
 pub record Brings (f n : ℕ) (area v : List Float) (tests : List Test) : Type 0 where
-  pub none : first-failing tests ≡ goes-on
+  pub none : first-failing tests ≡ admitted
   pub passing : Passing tests
   pub long : length area ≡ vector-count (family-of f) * n
   pub brought : length v ≡ n
 
-module _ (r : Record) (area : List Float) {k : ℕ} where
-  pub attempt-clear : (a : Arguments) → k ≡ cause-of (first-failing (attempt-tests r area a)) → k ≡ 0 → Clear (r .family) (r .n) area (attempt-tests r area a)
-  unfolding attempt-tests
-  attempt-clear a e z = let none = none-fails (attempt-tests r area a) refl e z in let p = all-pass (attempt-tests r area a) none in
-      record { none = none; passing = p; long = area-long (r .family) (r .n) area (p .1 .1 .0) }
+abbrev from-three : ℕ → ℕ → Bool → List Test → List Test
+from-three f n lengths more = 1 ∶ known f ∷ 2 ∶ sized n ∷ 3 ∶ lengths ∷ more
 
-  pub accept-clear : k ≡ cause-of (first-failing (accept-tests r area)) → k ≡ 0 → Clear (r .family) (r .n) area (accept-tests r area)
-  unfolding accept-tests
-  accept-clear e z = let none = none-fails (accept-tests r area) refl e z in let p = all-pass (accept-tests r area) none in
-      record { none = none; passing = p; long = area-long (r .family) (r .n) area (p .1 .1 .0) }
+module _ (f n : ℕ) (area : List Float) where
+  pub clear : (more : List Test) {k : ℕ} → numbered more ≡ true → k ≡ cause-of (first-failing (from-three f n (whole-area f n area) more)) → k ≡ 0
+      → Clear f n area (from-three f n (whole-area f n area) more)
+  clear more m e z =
+      let ts = from-three f n (whole-area f n area) more in
+      let none = none-fails ts m (sym e ∙ z) in
+      let p = each-passes ts none in
+      record { none = none; passing = p; long = area-long f n area (p .1 .1 .0) }
 
-  pub reply-clear : (c : Counters) (d : List Float) → k ≡ cause-of (first-failing (reply-tests r c area d)) → k ≡ 0 → Brings (r .family) (r .n) area d (reply-tests r c area d)
-  unfolding reply-tests
-  reply-clear c d e z = let none = none-fails (reply-tests r c area d) refl e z in let p = all-pass (reply-tests r c area d) none in
-      let l = both-long (r .family) (r .n) area d (p .1 .1 .0) in
+  pub brings : (v : List Float) (more : List Test) {k : ℕ} → numbered more ≡ true
+      → k ≡ cause-of (first-failing (from-three f n (whole-area f n area && as-long n v) more)) → k ≡ 0
+      → Brings f n area v (from-three f n (whole-area f n area && as-long n v) more)
+  brings v more m e z =
+      let ts = from-three f n (whole-area f n area && as-long n v) more in
+      let none = none-fails ts m (sym e ∙ z) in
+      let p = each-passes ts none in
+      let l = both-long f n area v (p .1 .1 .0) in
       record { none = none; passing = p; long = l .0; brought = l .1 }
-
-  pub callback-clear : (y : List Float) (t : Float) → k ≡ cause-of (first-failing (callback-tests r area y t)) → k ≡ 0 → Brings (r .family) (r .n) area y (callback-tests r area y t)
-  unfolding callback-tests
-  callback-clear y t e z = let none = none-fails (callback-tests r area y t) refl e z in let p = all-pass (callback-tests r area y t) none in
-      let l = both-long (r .family) (r .n) area y (p .1 .1 .0) in
-      record { none = none; passing = p; long = l .0; brought = l .1 }
-
-pub start-clear : (f n : ℕ) (area y : List Float) (t : Float) {k : ℕ} → k ≡ cause-of (first-failing (start-tests f n area y t)) → k ≡ 0 → Brings f n area y (start-tests f n area y t)
-unfolding start-tests
-start-clear f n area y t e z = let none = none-fails (start-tests f n area y t) refl e z in let p = all-pass (start-tests f n area y t) none in
-    let l = both-long f n area y (p .1 .1 .0) in
-    record { none = none; passing = p; long = l .0; brought = l .1 }

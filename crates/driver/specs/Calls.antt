@@ -227,7 +227,9 @@ finishes P.Callback = false
 unfoldable pub has-room : Phase → Counters → Bool
 has-room p c = room (c .evaluations) && (not (finishes p) || room (c .«finished_attempts»))
 
--- a test's number, and whether it passes
+-- ---- the tests of a call, in order
+
+-- a test: the number of its cause, and whether it passes
 pub record Test : Type 0 where
   pub cause : ℕ
   pub passes : Bool
@@ -236,30 +238,31 @@ infix 90 _∶_
 abbrev pub _∶_ : ℕ → Bool → Test
 cause ∶ passes = record { cause = cause; passes = passes }
 
--- turned away with a number, or not
 pub data Verdict : Type 0 where
-  goes-on : Verdict
+  admitted : Verdict
   refused-with : ℕ → Verdict
 
 -- by the first test that fails
 unfoldable pub first-failing : List Test → Verdict
-first-failing [] = goes-on
+first-failing [] = admitted
 first-failing (t ∷ ts) = cond (t .passes) (first-failing ts) (refused-with (t .cause))
 
--- a call turned away leaves everything as it was
+-- the code's number for a verdict: 0 where no test fails
+unfoldable pub cause-of : Verdict → ℕ
+cause-of admitted = 0
+cause-of (refused-with k) = k
+
+-- a call that is turned away leaves everything as it was
 unfoldable pub decide : Verdict → Held → Called → Called
-decide goes-on h go = go
+decide admitted h go = go
 decide (refused-with k) h go = record { answer = Refused k; held = h }
 
 unfoldable pub guarded : Held → List Test → Called → Called
 guarded h tests go = decide (first-failing tests) h go
 
--- the number that the code has for it, 0 for none
-unfoldable pub cause-of : Verdict → ℕ
-cause-of goes-on = 0
-cause-of (refused-with k) = k
-
--- ---- the calls
+-- These six lists are the table of "When a call is turned away", call by call. "Tests run in this order. Every call has 1 to 4 (start: on what it brings, and
+-- no phase); start and accept with a callback 5 and time in 6; attempt 6 and 7, with or without `adaptive`; every reply 8". Numbers 9 and 10 are no tests
+-- here: a reply that comes to them is counted and ends its phase (`spoiled`, `ask-candidate`). session/specs/Refusals spells that sentence by itself.
 
 unfoldable pub start-tests : ℕ → ℕ → List Float → List Float → Float → List Test
 start-tests f n area y t =
@@ -269,6 +272,53 @@ start-tests f n area y t =
     ∷ 5 ∶ all-finite y
     ∷ 6 ∶ finite t
     ∷ []
+
+unfoldable pub attempt-tests : Record → List Float → Arguments → List Test
+attempt-tests r area a =
+    1 ∶ known (r .family)
+    ∷ 2 ∶ sized (r .n)
+    ∷ 3 ∶ whole-area (r .family) (r .n) area
+    ∷ 4 ∶ may-attempt (r .phase)
+    ∷ 6 ∶ good-times a
+    ∷ 7 ∶ good-tolerances a
+    ∷ []
+
+unfoldable pub reply-tests : Record → Counters → List Float → List Float → List Test
+reply-tests r c area d =
+    1 ∶ known (r .family)
+    ∷ 2 ∶ sized (r .n)
+    ∷ 3 ∶ (whole-area (r .family) (r .n) area && as-long (r .n) d)
+    ∷ 4 ∶ awaiting r
+    ∷ 8 ∶ has-room (r .phase) c
+    ∷ []
+
+unfoldable pub accept-tests : Record → List Float → List Test
+accept-tests r area =
+    1 ∶ known (r .family)
+    ∷ 2 ∶ sized (r .n)
+    ∷ 3 ∶ whole-area (r .family) (r .n) area
+    ∷ 4 ∶ may-accept (r .phase)
+    ∷ []
+
+unfoldable pub callback-tests : Record → List Float → List Float → Float → List Test
+callback-tests r area y t =
+    1 ∶ known (r .family)
+    ∷ 2 ∶ sized (r .n)
+    ∷ 3 ∶ (whole-area (r .family) (r .n) area && as-long (r .n) y)
+    ∷ 4 ∶ may-accept (r .phase)
+    ∷ 5 ∶ all-finite y
+    ∷ 6 ∶ finite t
+    ∷ []
+
+unfoldable pub abandon-tests : Record → List Float → List Test
+abandon-tests r area =
+    1 ∶ known (r .family)
+    ∷ 2 ∶ sized (r .n)
+    ∷ 3 ∶ whole-area (r .family) (r .n) area
+    ∷ 4 ∶ awaiting r
+    ∷ []
+
+-- ---- the calls
 
 -- allowed in every phase; what it does not bring stands in the record too
 unfoldable pub start : Held → ℕ → ℕ → List Float → Float → Called
@@ -289,16 +339,6 @@ unfoldable pub attempted : Held → Arguments → Step
 attempted h a = let r = h .kept in
     let v = unpack (r .n) (h .area) in
     ask-pass (at-pass a 1 (perturbation-of v) nought r) (with-direction (r .n) v)
-
-unfoldable pub attempt-tests : Record → List Float → Arguments → List Test
-attempt-tests r area a =
-    1 ∶ known (r .family)
-    ∷ 2 ∶ sized (r .n)
-    ∷ 3 ∶ whole-area (r .family) (r .n) area
-    ∷ 4 ∶ may-attempt (r .phase)
-    ∷ 6 ∶ good-times a
-    ∷ 7 ∶ good-tolerances a
-    ∷ []
 
 unfoldable pub attempt : Held → Arguments → Called
 attempt h a = guarded h (attempt-tests (h .kept) (h .area) a) (going-on (h .counters) (attempted h a))
@@ -321,15 +361,6 @@ spoiled h = record { answer = Refused 9; held = record { kept = in-phase P.Empty
 unfoldable pub settled : Counters → Step → Called
 settled c x = going-on (counted (x .answer) c) x
 
-unfoldable pub reply-tests : Record → Counters → List Float → List Float → List Test
-reply-tests r c area d =
-    1 ∶ known (r .family)
-    ∷ 2 ∶ sized (r .n)
-    ∷ 3 ∶ (whole-area (r .family) (r .n) area && as-long (r .n) d)
-    ∷ 4 ∶ awaiting r
-    ∷ 8 ∶ has-room (r .phase) c
-    ∷ []
-
 unfoldable pub reply : Held → List Float → Called
 reply h d = let r = h .kept in
     guarded h (reply-tests r (h .counters) (h .area) d)
@@ -341,14 +372,6 @@ reply h d = let r = h .kept in
 unfoldable pub accepted : Record → Vectors → Step
 accepted r v = step-to Ready (in-phase P.Ready r) (v with first-derivative ≔ v last-derivative with state ≔ v candidate)
 
-unfoldable pub accept-tests : Record → List Float → List Test
-accept-tests r area =
-    1 ∶ known (r .family)
-    ∷ 2 ∶ sized (r .n)
-    ∷ 3 ∶ whole-area (r .family) (r .n) area
-    ∷ 4 ∶ may-accept (r .phase)
-    ∷ []
-
 unfoldable pub accept : Held → Called
 accept h = guarded h (accept-tests (h .kept) (h .area)) (going-on (h .counters) (accepted (h .kept) (unpack (h .kept .n) (h .area))))
 
@@ -356,27 +379,9 @@ accept h = guarded h (accept-tests (h .kept) (h .area)) (going-on (h .counters) 
 unfoldable pub called-back : Record → List Float → Float → Vectors → Step
 called-back r y t v = step-to (Evaluate t (number state)) (first-at P.Callback (r .family) (r .n) t r) (v with state ≔ y)
 
-unfoldable pub callback-tests : Record → List Float → List Float → Float → List Test
-callback-tests r area y t =
-    1 ∶ known (r .family)
-    ∷ 2 ∶ sized (r .n)
-    ∷ 3 ∶ (whole-area (r .family) (r .n) area && as-long (r .n) y)
-    ∷ 4 ∶ may-accept (r .phase)
-    ∷ 5 ∶ all-finite y
-    ∷ 6 ∶ finite t
-    ∷ []
-
 unfoldable pub accept-with-callback : Held → List Float → Float → Called
 accept-with-callback h y t = let r = h .kept in
     guarded h (callback-tests r (h .area) y t) (going-on (h .counters) (called-back r y t (unpack (r .n) (h .area))))
-
-unfoldable pub abandon-tests : Record → List Float → List Test
-abandon-tests r area =
-    1 ∶ known (r .family)
-    ∷ 2 ∶ sized (r .n)
-    ∷ 3 ∶ whole-area (r .family) (r .n) area
-    ∷ 4 ∶ awaiting r
-    ∷ []
 
 -- the pending evaluation ends uncounted
 unfoldable pub abandon : Held → Called

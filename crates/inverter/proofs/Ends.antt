@@ -24,9 +24,9 @@ use Rattle.driver.specs.declared.Record.{Record}
 use Rattle.driver.specs.declared.Need.{Need}
 use Rattle.driver.specs.declared.Need.the-variants.{Met, Unmet}
 use Rattle.driver.specs.Calls as calls
-use Rattle.driver.specs.Calls.{Held, Called, Step, Test, Verdict, goes-on, refused-with, first-failing, decide, guarded}
+use Rattle.driver.specs.Calls.{Held, Called, Step, Test, guarded}
 use Rattle.driver.proofs.Sizes.{both}
-use Rattle.driver.proofs.Ladder.{all-pass}
+use Rattle.driver.proofs.Ladder.{Passing, each-passes, by-tests}
 use Rattle.driver.proofs.Ranges.{pass-in, need-most}
 use Rattle.heat_sink.specs.declared.Inverter.{Inverter}
 use Rattle.inverter.specs.Day.{begun, go-on, next, driven, settled, asked, passed, time-of, most-calls}
@@ -149,13 +149,9 @@ module _ (k : ℕ) (r : Record) (v : Vectors) (d : List Float) where
 -- ---- the calls
 
 -- turned away, or not
-guarded-follows : (k : ℕ) (h : Held) (ts : List Test) (go : Called) → (first-failing ts ≡ goes-on → Follows k go) → Follows k (guarded h ts go)
-unfolding guarded decide Follow
-guarded-follows k h ts go f = by (first-failing ts) refl
-  where
-    by : (v : Verdict) → first-failing ts ≡ v → Follows k (decide v h go)
-    by goes-on e = f e
-    by (refused-with i) e = tt
+guarded-follows : (k : ℕ) (h : Held) (ts : List Test) (go : Called) → (Passing ts → Follows k go) → Follows k (guarded h ts go)
+unfolding Follow
+guarded-follows k h ts go f = by-tests (Follows k) h ts go (λ e. f (each-passes ts e)) (λ i e. tt)
 
 module _ (k : ℕ) (h : Held) where
   taken : (d : List Float) → calls.awaiting (h .kept) ≡ true → calls-left (h .kept .phase) (h .kept) ≤ suc k → (t : Bool)
@@ -167,7 +163,7 @@ module _ (k : ℕ) (h : Held) where
 
   reply-follows : (d : List Float) → calls-left (h .kept .phase) (h .kept) ≤ suc k → Follows k (calls.reply h d)
   unfolding calls.reply calls.reply-tests
-  reply-follows d l = let ts = calls.reply-tests (h .kept) (h .counters) (h .area) d in guarded-follows k h ts _ (λ e. taken d (all-pass ts e .1 .1 .1 .0) l (all-finite d))
+  reply-follows d l = let ts = calls.reply-tests (h .kept) (h .counters) (h .area) d in guarded-follows k h ts _ (λ p. taken d (p .1 .1 .1 .0) l (all-finite d))
 
   attempted : (a : Arguments) → most-calls - 2 ≤ k → Follows k (calls.going-on (h .counters) (calls.attempted h a))
   unfolding calls.going-on calls.attempted Goes

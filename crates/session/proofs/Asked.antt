@@ -22,7 +22,8 @@ use Rattle.driver.specs.declared.Staging.{Staging}
 use Rattle.driver.specs.declared.Record.{Record}
 use Rattle.driver.specs.declared.Counters.{Counters}
 use Rattle.driver.specs.declared.Answer.the-variants.{Evaluate}
-use Rattle.driver.specs.Calls.{Held, Called, step-to, in-phase, replied, sized, as-long, awaiting, finishes, has-room, going-on, counted, spoiled, settled, reply, first-failing, decide, guarded, reply-tests}
+use Rattle.driver.specs.Calls.{Held, Called, step-to, in-phase, replied, sized, as-long, awaiting, finishes, has-room, going-on, counted, spoiled, settled}
+use Rattle.driver.specs.Calls.{reply, first-failing, decide, guarded, reply-tests}
 use Rattle.session.specs.Attempt.{Purpose, closes, Asking, done, stopped, ask, Finished-attempt, evaluated}
 use Rattle.session.specs.Claim.{called-for}
 use Rattle.session.proofs.Lengths.{whole-pack}

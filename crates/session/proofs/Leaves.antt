@@ -24,17 +24,22 @@ use Rattle.driver.specs.declared.Need.the-variants.{Met, Unmet}
 use Rattle.driver.specs.declared.Answer.{Answer}
 use Rattle.driver.specs.declared.Answer.the-variants.{Evaluate, Refused}
 use Rattle.driver.specs.Answers.{Says}
-use Rattle.driver.proofs.Ladder.{all-pass}
-use Rattle.driver.specs.Calls.{Held, Called, Step, step-to, in-phase, at-pass, at-stage, take-first, take-callback, ask-pass, ask-stage, stage-need, by-need, begin-stages, take-pass, ask-candidate, take-stage, take-candidate, replied, whole-area, as-long, Test, Verdict, goes-on, refused-with, first-failing, decide, guarded, start-tests, attempt-tests, reply-tests, accept-tests, callback-tests, abandon-tests, start, attempted, going-on, attempt, counted, spoiled, settled, reply, accepted, accept, called-back, accept-with-callback, abandon, Call, Start, Attempt, Reply, Accept, Accept-with-callback, Abandon, made}
+use Rattle.driver.proofs.Ladder.{is-refused, each-passes, by-tests}
+use Rattle.driver.specs.Calls.{Held, Called, Step, step-to, in-phase, whole-area, as-long, Test, admitted, first-failing, guarded, counted}
+use Rattle.driver.specs.Calls.{start-tests, attempt-tests, reply-tests, accept-tests, callback-tests, abandon-tests}
+use Rattle.driver.specs.Calls.{at-pass, at-stage, take-first, take-callback, ask-pass, ask-stage, stage-need, by-need, begin-stages, take-pass, ask-candidate}
+use Rattle.driver.specs.Calls.{take-stage, take-candidate, replied, going-on, spoiled, settled, attempted, accepted, called-back}
+use Rattle.driver.specs.Calls.{start, attempt, reply, accept, accept-with-callback, abandon, made}
+use Rattle.driver.specs.Calls.{Call, Start, Attempt, Reply, Accept, Accept-with-callback, Abandon}
 use Rattle.session.specs.Refusals.{verdict-of, Left}
 use Rattle.session.proofs.Truth.{and-left, and-right}
 use Rattle.session.proofs.Needs.{Needed, need-holds}
 use Rattle.session.proofs.Lengths.{long-area, replied-long}
 use Rattle.session.proofs.Guards.{low, low-fails}
-use Rattle.session.proofs.Refused.{is-refused, same-number, says-refused}
+use Rattle.session.proofs.Refused.{same-number, says-refused}
 
 -- not refused at all
-unrefused : (y : Answer) (i : ℕ) → verdict-of y ≡ goes-on → y ≡ Refused i → ⊥
+unrefused : (y : Answer) (i : ℕ) → verdict-of y ≡ admitted → y ≡ Refused i → ⊥
 unrefused y i g e = subst is-refused (ap verdict-of (sym e) ∙ g) tt
 
 -- ---- a reply that passed its tests
@@ -48,7 +53,7 @@ pub record High (r : Record) (v : Vectors) (i : ℕ) (x : Step) : Type 0 where
 abbrev pub Refuses-high : Record → Vectors → Step → Type 0
 Refuses-high r v x = (i : ℕ) → x .answer ≡ Refused i → High r v i x
 
-on : (r : Record) (v : Vectors) (x : Step) → verdict-of (x .answer) ≡ goes-on → Refuses-high r v x
+on : (r : Record) (v : Vectors) (x : Step) → verdict-of (x .answer) ≡ admitted → Refuses-high r v x
 on r v x g i e = absurd (unrefused (x .answer) i g e)
 
 candidate-high : (r : Record) (v w : Vectors) → w last-derivative ≡ v last-derivative → Refuses-high r v (ask-candidate r w)
@@ -104,15 +109,11 @@ same h i low = record {
 }
 
 -- behind a list of tests of 1 to 8
-guards-leave : (h : Held) (ts : List Test) (go : Called) → low ts ≡ true → (first-failing ts ≡ goes-on → Leaves h go) → Leaves h (guarded h ts go)
-unfolding guarded decide
-guards-leave h ts go l on = by (first-failing ts) refl
-  where
-    by : (v : Verdict) → first-failing ts ≡ v → Leaves h (decide v h go)
-    by goes-on e = on e
-    by (refused-with k) e = λ i q. same h i (omega (arith, same-number k i q, leb-true k 8 (and-right (leb 1 k) (leb k 8) (low-fails ts k l e))))
+guards-leave : (h : Held) (ts : List Test) (go : Called) → low ts ≡ true → (first-failing ts ≡ admitted → Leaves h go) → Leaves h (guarded h ts go)
+guards-leave h ts go l on = by-tests (Leaves h) h ts go on
+    (λ k e i q. same h i (omega (arith, same-number k i q, leb-true k 8 (and-right (leb 1 k) (leb k 8) (low-fails ts k l e)))))
 
-passed : (h : Held) (x : Called) → verdict-of (x .answer) ≡ goes-on → Leaves h x
+passed : (h : Held) (x : Called) → verdict-of (x .answer) ≡ admitted → Leaves h x
 passed h x g i e = absurd (unrefused (x .answer) i g e)
 
 start-leaves : (h : Held) (f n : ℕ) (y : List Float) (t : Float) → Leaves h (start h f n y t)
@@ -125,7 +126,7 @@ attempt-leaves h a = guards-leave h (attempt-tests (h .kept) (h .area) a) _ refl
 
 reply-leaves : (h : Held) (d : List Float) → Leaves h (reply h d)
 unfolding reply reply-tests settled going-on counted spoiled as-long
-reply-leaves h d = let ts = reply-tests (h .kept) (h .counters) (h .area) d in guards-leave h ts _ refl (λ e. go (all-pass ts e .1 .1 .0) (all-finite d))
+reply-leaves h d = let ts = reply-tests (h .kept) (h .counters) (h .area) d in guards-leave h ts _ refl (λ e. go (each-passes ts e .1 .1 .0) (all-finite d))
   where
     v : Vectors
     v = unpack (h .kept .n) (h .area)

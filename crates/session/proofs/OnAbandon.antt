@@ -5,17 +5,17 @@ use lib.ListN.{length}
 use Rattle.driver.specs.declared.Phase.the-variants as P
 use Rattle.driver.specs.declared.Answer.the-variants.{Empty}
 use Rattle.driver.specs.Calls.{Held, Called, in-phase, pending, awaiting, abandon, Abandon, taken, abandon-tests}
-use Rattle.driver.proofs.Ladder as Ladder
+use Rattle.driver.proofs.Ladder.{each-passes, goes-ahead}
 use Rattle.session.specs.Attempt.{done, stopped, ask}
 use Rattle.session.specs.Session.{ready-with, tried, answer-shown, Doing, none, within, Session, waiting, doing-now, session-after, doing-shown, waits}
 use Rattle.session.proofs.Truth.{differ}
 use Rattle.session.proofs.Shows.{Shows, Does, Good}
-use Rattle.session.proofs.Guards.{guards-tell, guards-taken, guards-go}
+use Rattle.session.proofs.Guards.{taken-exactly, taken-passes}
 use Rattle.session.proofs.Standing.{all-pass, none-pass, idle, K, N, W, standing, Place, inside, outside, place}
 
 abandon-tells : (h : Held) → taken (abandon h .answer) ≡ K h && (N h && (W h && awaiting (h .kept)))
 unfolding abandon abandon-tests taken
-abandon-tells h = guards-tell h (abandon-tests (h .kept) (h .area)) _ refl refl
+abandon-tells h = taken-exactly h (abandon-tests (h .kept) (h .area)) _ refl refl
 
 pub abandon-agrees : (h : Held) (σ : Session) → Does (σ .family) (σ .n) (σ .doing) h → taken (abandon h .answer) ≡ waits (σ .doing)
 abandon-agrees h σ does =
@@ -31,7 +31,7 @@ abandon-agrees h σ does =
 abandoned : (h : Held) → taken (abandon h .answer) ≡ true
     → (awaiting (h .kept) ≡ true) × (abandon h ≡ record { answer = Empty; held = record { kept = in-phase P.Empty (h .kept); counters = h .counters; area = h .area } })
 unfolding abandon abandon-tests
-abandoned h q = let ts = abandon-tests (h .kept) (h .area) in let none = guards-taken h ts _ refl q in (Ladder.all-pass ts none .1 .1 .1 .0, guards-go h ts _ none)
+abandoned h q = let ts = abandon-tests (h .kept) (h .area) in let none = taken-passes h ts _ refl q in (each-passes ts none .1 .1 .1 .0, goes-ahead h ts _ none)
 
 pub abandon-good : (h : Held) (σ : Session) → h .counters ≡ σ .counts → Does (σ .family) (σ .n) (σ .doing) h → taken (abandon h .answer) ≡ true → Good (session-after σ Abandon) (abandon h)
 unfolding session-after Does Shows waiting doing-now pending answer-shown doing-shown in-phase

@@ -11,21 +11,23 @@ use Rattle.ieee.specs.Double.{nought}
 use Rattle.workspace.specs.Vectors.{Vectors, _with_≔_, unpack, pack, all-finite, first-derivative, last-derivative, eigenvector, state, candidate}
 use Rattle.workspace.proofs.Areas.{Long, unpack-pack, long-with}
 use Rattle.driver.specs.declared.Phase.the-variants as P
-use Rattle.driver.specs.Calls.{Held, Called, in-phase, at-time, first-at, take-callback, replied, as-long, pending, in-range, awaiting, may-accept, finishes, going-on, accepted, accept, called-back, accept-with-callback, Accept, Accept-with-callback, taken, accept-tests, callback-tests}
-use Rattle.driver.proofs.Ladder as Ladder
+use Rattle.driver.specs.Calls.{Held, Called, in-phase, at-time, first-at, take-callback, replied, as-long, pending, in-range, awaiting, may-accept}
+use Rattle.driver.specs.Calls.{finishes, going-on, accepted, accept, called-back, accept-with-callback, Accept, Accept-with-callback, taken, accept-tests}
+use Rattle.driver.specs.Calls.{callback-tests}
+use Rattle.driver.proofs.Ladder.{each-passes, goes-ahead}
 use Rattle.session.specs.Attempt.{_>>=_, evaluate}
 use Rattle.session.specs.Session.{evaluates, ready-at, answer-shown, accept-step, callback-step, Doing, within, Session, at-rest, after-attempt, doing-now, session-after, doing-shown, has-tried}
 use Rattle.session.proofs.Truth.{and-left, and-right, and-none}
 use Rattle.session.proofs.Lengths.{whole-pack, long-area, pack-length}
 use Rattle.session.proofs.Shows.{Shows, Does, Good, once}
-use Rattle.session.proofs.Guards.{guards-tell, guards-taken, guards-go}
+use Rattle.session.proofs.Guards.{taken-exactly, taken-passes}
 use Rattle.session.proofs.Standing.{all-pass, none-pass, K, N, W, standing, Place, inside, outside, place, Finished-at, finished-at, rested}
 
 -- ---- which are taken
 
 accept-tells : (h : Held) → taken (accept h .answer) ≡ K h && (N h && (W h && may-accept (h .kept .phase)))
 unfolding accept accept-tests accepted going-on taken
-accept-tells h = guards-tell h (accept-tests (h .kept) (h .area)) _ refl refl
+accept-tells h = taken-exactly h (accept-tests (h .kept) (h .area)) _ refl refl
 
 pub accept-agrees : (h : Held) (σ : Session) → Does (σ .family) (σ .n) (σ .doing) h → taken (accept h .answer) ≡ has-tried (σ .doing)
 accept-agrees h σ does =
@@ -39,7 +41,7 @@ accept-agrees h σ does =
 
 callback-tells : (h : Held) (y : List Float) (t : Float) → taken (accept-with-callback h y t .answer) ≡ K h && (N h && (W h && as-long (h .kept .n) y && (may-accept (h .kept .phase) && (all-finite y && finite t))))
 unfolding accept-with-callback callback-tests called-back going-on taken
-callback-tells h y t = guards-tell h (callback-tests (h .kept) (h .area) y t) _ refl refl
+callback-tells h y t = taken-exactly h (callback-tests (h .kept) (h .area) y t) _ refl refl
 
 pub callback-agrees : (h : Held) (σ : Session) → Does (σ .family) (σ .n) (σ .doing) h → (y : List Float) (t : Float)
     → taken (accept-with-callback h y t .answer) ≡ as-long (σ .n) y && (has-tried (σ .doing) && (all-finite y && finite t))
@@ -64,12 +66,12 @@ module _ (h : Held) (q : taken (accept h .answer) ≡ true) where
 
   passed : Passed
   unfolding accept accept-tests
-  passed = let p = Ladder.all-pass (accept-tests (h .kept) (h .area)) (guards-taken h _ _ refl q) in
+  passed = let p = each-passes (accept-tests (h .kept) (h .area)) (taken-passes h _ _ refl q) in
       record { family-known = p .0; n-sized = p .1 .0; area-whole = p .1 .1 .0; phase-allows = p .1 .1 .1 .0 }
 
   accept-is : accept h ≡ going-on (h .counters) (accepted (h .kept) (unpack (h .kept .n) (h .area)))
   unfolding accept accept-tests
-  accept-is = guards-go h (accept-tests (h .kept) (h .area)) _ (guards-taken h _ _ refl q)
+  accept-is = goes-ahead h (accept-tests (h .kept) (h .area)) _ (taken-passes h _ _ refl q)
 
   w : Vectors
   w = let v = unpack (h .kept .n) (h .area) in v with first-derivative ≔ v last-derivative with state ≔ v candidate
@@ -118,12 +120,19 @@ module _ (h : Held) (y : List Float) (t : Float) (q : taken (accept-with-callbac
 
   passed-both : Passed-both
   unfolding accept-with-callback callback-tests
-  passed-both = let p = Ladder.all-pass (callback-tests (h .kept) (h .area) y t) (guards-taken h _ _ refl q) in
-      record { family-known = p .0; n-sized = p .1 .0; lengths-good = p .1 .1 .0; phase-allows = p .1 .1 .1 .0; state-finite = p .1 .1 .1 .1 .0; time-finite = p .1 .1 .1 .1 .1 .0 }
+  passed-both = let p = each-passes (callback-tests (h .kept) (h .area) y t) (taken-passes h _ _ refl q) in
+      record {
+        family-known = p .0;
+        n-sized = p .1 .0;
+        lengths-good = p .1 .1 .0;
+        phase-allows = p .1 .1 .1 .0;
+        state-finite = p .1 .1 .1 .1 .0;
+        time-finite = p .1 .1 .1 .1 .1 .0;
+      }
 
   callback-is : accept-with-callback h y t ≡ going-on (h .counters) (called-back (h .kept) y t (unpack (h .kept .n) (h .area)))
   unfolding accept-with-callback callback-tests
-  callback-is = guards-go h (callback-tests (h .kept) (h .area) y t) _ (guards-taken h _ _ refl q)
+  callback-is = goes-ahead h (callback-tests (h .kept) (h .area) y t) _ (taken-passes h _ _ refl q)
 
   whole : W h ≡ true
   whole = and-left (W h) (as-long (h .kept .n) y) (passed-both .lengths-good)

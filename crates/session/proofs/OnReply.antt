@@ -12,8 +12,9 @@ use Rattle.workspace.specs.Vectors.{Vectors, unpack, all-finite}
 use Rattle.driver.specs.declared.Phase.the-variants as P
 use Rattle.driver.specs.declared.Answer.{Answer}
 use Rattle.driver.specs.declared.Answer.the-variants.{Evaluate, Finished, Ready, Refused, Empty}
-use Rattle.driver.specs.Calls.{Held, replied, as-long, pending, awaiting, has-room, going-on, spoiled, settled, reply, Reply, taken, first-failing, decide, guarded, reply-tests}
-use Rattle.driver.proofs.Ladder as Ladder
+use Rattle.driver.specs.Calls.{Held, replied, as-long, pending, awaiting, has-room, going-on, spoiled, settled, reply, Reply, taken, first-failing, decide}
+use Rattle.driver.specs.Calls.{guarded, reply-tests}
+use Rattle.driver.proofs.Ladder.{each-passes}
 use Rattle.session.specs.Attempt.{done, stopped, ask}
 use Rattle.session.specs.Claim.{room-in}
 use Rattle.session.specs.Session.{ready-with, tried, Doing, none, within, Session, waiting, counts-on, doing-now, replied-with, session-after, waits, waits-with-room}
@@ -21,7 +22,7 @@ use Rattle.session.proofs.Truth.{differ, and-left, and-right, and-none}
 use Rattle.session.proofs.Lengths.{long-area, pack-length, replied-long}
 use Rattle.session.proofs.Leaves.{replied-high}
 use Rattle.session.proofs.Shows.{Shows, Does, Good}
-use Rattle.session.proofs.Guards.{guards-tell, guards-taken}
+use Rattle.session.proofs.Guards.{taken-exactly, taken-passes}
 use Rattle.session.proofs.Standing.{all-pass, none-pass, idle, K, N, W, standing, Place, inside, outside, place, room-alike}
 
 -- refused from 9 on is taken
@@ -40,7 +41,7 @@ high-taken Empty high = refl
 
 reply-tells : (h : Held) (d : List Float) → taken (reply h d .answer) ≡ K h && (N h && (W h && as-long (h .kept .n) d && (awaiting (h .kept) && has-room (h .kept .phase) (h .counters))))
 unfolding reply reply-tests taken settled going-on spoiled
-reply-tells h d = guards-tell h (reply-tests (h .kept) (h .counters) (h .area) d) _ refl (go (all-finite d))
+reply-tells h d = taken-exactly h (reply-tests (h .kept) (h .counters) (h .area) d) _ refl (go (all-finite d))
   where
     go : (t : Bool) → taken (cond t (settled (h .counters) (replied (h .kept .phase) (h .kept) (unpack (h .kept .n) (h .area)) d)) (spoiled h) .answer) ≡ true
     go true = high-taken (replied (h .kept .phase) (h .kept) (unpack (h .kept .n) (h .area)) d .answer) (λ i e. replied-high (h .kept .phase) (h .kept) (unpack (h .kept .n) (h .area)) d i e .beyond)
@@ -76,7 +77,7 @@ module _ (h : Held) (d : List Float) (q : taken (reply h d .answer) ≡ true) wh
 
   passed : Passed
   unfolding reply reply-tests
-  passed = let p = Ladder.all-pass (reply-tests (h .kept) (h .counters) (h .area) d) (guards-taken h _ _ refl q) in
+  passed = let p = each-passes (reply-tests (h .kept) (h .counters) (h .area) d) (taken-passes h _ _ refl q) in
       record { family-known = p .0; n-sized = p .1 .0; lengths-good = p .1 .1 .0; awaits = p .1 .1 .1 .0; room-good = p .1 .1 .1 .1 .0 }
 
   long : length d ≡ h .kept .n

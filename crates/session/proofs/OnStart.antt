@@ -12,18 +12,19 @@ use Rattle.family.specs.Family.{known}
 use Rattle.workspace.specs.Vectors.{Vectors, _with_≔_, unpack, all-finite, first-derivative, eigenvector, state}
 use Rattle.workspace.proofs.Areas.{Long, unpack-pack, long-with}
 use Rattle.driver.specs.declared.Phase.the-variants as P
-use Rattle.driver.specs.Calls.{Held, in-phase, at-time, first-at, take-first, replied, sized, whole-area, as-long, pending, in-range, awaiting, finishes, start, Start, taken, first-failing, decide, guarded, start-tests}
-use Rattle.driver.proofs.Ladder.{all-pass}
+use Rattle.driver.specs.Calls.{Held, in-phase, at-time, first-at, take-first, replied, sized, whole-area, as-long, pending, in-range, awaiting, finishes}
+use Rattle.driver.specs.Calls.{start, Start, taken, first-failing, decide, guarded, start-tests}
+use Rattle.driver.proofs.Ladder.{each-passes}
 use Rattle.session.specs.Attempt.{_>>=_, evaluate}
 use Rattle.session.specs.Session.{evaluates, answer-shown, initialize, Session, session-after, doing-shown}
 use Rattle.session.proofs.Truth.{and-left, and-right}
 use Rattle.session.proofs.Lengths.{long-area, pack-length}
 use Rattle.session.proofs.Shows.{Does, Good, once}
-use Rattle.session.proofs.Guards.{guards-tell, guards-taken}
+use Rattle.session.proofs.Guards.{taken-exactly, taken-passes}
 
 pub start-tells : (h : Held) (f n : ℕ) (y : List Float) (t : Float) → taken (start h f n y t .answer) ≡ known f && (sized n && (whole-area f n (h .area) && as-long n y && (all-finite y && finite t)))
 unfolding start start-tests taken
-start-tells h f n y t = guards-tell h (start-tests f n (h .area) y t) _ refl refl
+start-tells h f n y t = taken-exactly h (start-tests f n (h .area) y t) _ refl refl
 
 module _ (h : Held) (f n : ℕ) (y : List Float) (t : Float) (q : taken (start h f n y t .answer) ≡ true) where
   -- it passed its tests
@@ -36,7 +37,7 @@ module _ (h : Held) (f n : ℕ) (y : List Float) (t : Float) (q : taken (start h
 
   passed : Passed
   unfolding start start-tests
-  passed = let p = all-pass (start-tests f n (h .area) y t) (guards-taken h _ _ refl q) in
+  passed = let p = each-passes (start-tests f n (h .area) y t) (taken-passes h _ _ refl q) in
       record { family-known = p .0; n-sized = p .1 .0; lengths-good = p .1 .1 .0; state-finite = p .1 .1 .1 .0; time-finite = p .1 .1 .1 .1 .0 }
 
   whole : whole-area f n (h .area) ≡ true

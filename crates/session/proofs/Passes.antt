@@ -19,7 +19,9 @@ use Rattle.driver.specs.declared.Staging.{Staging}
 use Rattle.driver.specs.declared.Need.{Need}
 use Rattle.driver.specs.declared.Need.the-variants.{Met, Unmet}
 use Rattle.driver.specs.declared.Counters.{Counters}
-use Rattle.driver.specs.Calls.{Held, Called, in-phase, at-pass, with-radius, at-stage, ask-pass, ask-stage, stage-need, by-need, begin-stages, take-pass, replied, sized, pending, in-range, awaiting, finishes, attempted, going-on, attempt, counted, settled, first-failing, decide, guarded, attempt-tests}
+use Rattle.driver.specs.Calls.{Held, Called, in-phase, at-pass, with-radius, at-stage, ask-pass, ask-stage, stage-need, by-need, begin-stages, take-pass}
+use Rattle.driver.specs.Calls.{replied, sized, pending, in-range, awaiting, finishes, attempted, going-on, attempt, counted, settled, first-failing}
+use Rattle.driver.specs.Calls.{decide, guarded, attempt-tests}
 use Rattle.session.specs.Attempt.{closes, Asking, done, _>>=_, evaluate, stages-for, Radius, Finished-attempt, iterate, spectral-radius, stage-loop, run-recurrence, close, attempt-step}
 use Rattle.session.specs.Claim.{Allowed, in-one-piece}
 use Rattle.session.proofs.Truth.{differ, both}

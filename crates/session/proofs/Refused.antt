@@ -1,4 +1,5 @@
--- A call is turned away with a number exactly when that is the number of its first failing test, and with no number outside the call's list.
+-- A call is turned away with a number exactly when that is the number of its first failing test, and with no number outside the call's list. From the call
+-- behind its list (Guards), for a reply also from the tests of its phase; the list that the call goes by is the one spelled in Refusals by computation.
 use mathlib.Core.Path.{_≡_, refl, sym, ap, _∙_, subst}
 use mathlib.Core.Logic.{_↔_}
 use mathlib.Core.Bool.{Bool, true, false, cond, not, _&&_, _||_}
@@ -22,11 +23,17 @@ use Rattle.driver.specs.declared.Need.the-variants.{Met, Unmet}
 use Rattle.driver.specs.declared.Answer.{Answer}
 use Rattle.driver.specs.declared.Answer.the-variants.{Evaluate, Finished, Ready, Refused, Empty}
 use Rattle.driver.specs.Answers.{case-number, case-values, Values, Says}
-use Rattle.driver.specs.Calls.{Held, Called, at-pass, at-stage, take-first, take-callback, ask-pass, ask-stage, stage-need, by-need, begin-stages, take-pass, ask-candidate, take-stage, take-candidate, replied, finishes, room, has-room, Verdict, goes-on, refused-with, Test, _∶_, first-failing, start-tests, attempt-tests, reply-tests, accept-tests, callback-tests, abandon-tests, start, attempted, going-on, attempt, spoiled, settled, reply, accepted, accept, called-back, accept-with-callback, abandon, Call, Start, Attempt, Reply, Accept, Accept-with-callback, Abandon, made}
+use Rattle.driver.specs.Calls.{Held, Called, Verdict, admitted, refused-with, Test, _∶_, first-failing, cause-of, finishes, room, has-room}
+use Rattle.driver.specs.Calls.{start-tests, attempt-tests, reply-tests, accept-tests, callback-tests, abandon-tests}
+use Rattle.driver.specs.Calls.{at-pass, at-stage, take-first, take-callback, ask-pass, ask-stage, stage-need, by-need, begin-stages, take-pass, ask-candidate}
+use Rattle.driver.specs.Calls.{take-stage, take-candidate, replied, going-on, spoiled, settled, attempted, accepted, called-back}
+use Rattle.driver.specs.Calls.{start, attempt, reply, accept, accept-with-callback, abandon, made}
+use Rattle.driver.specs.Calls.{Call, Start, Attempt, Reply, Accept, Accept-with-callback, Abandon}
+use Rattle.driver.proofs.Ladder.{is-refused}
 use Rattle.session.specs.Refusals.{verdict-of, need-tests, pass-tests, stage-tests, replied-tests, tests-of, numbers-of, _∈_, here, later, largest-number}
 use Rattle.session.proofs.Truth.{and-left, and-right}
 use Rattle.session.proofs.Needs.{need-is}
-use Rattle.session.proofs.Guards.{guards-alone, guards-decide}
+use Rattle.session.proofs.Guards.{verdict-alone, verdict-then}
 
 -- the call's answer is decided by its tests
 pub record Decided-by (tests : List Test) (x : Called) : Type 0 where
@@ -34,27 +41,28 @@ pub record Decided-by (tests : List Test) (x : Called) : Type 0 where
 
 start-decided : (h : Held) (f n : ℕ) (y : List Float) (t : Float) → Decided-by (start-tests f n (h .area) y t) (start h f n y t)
 unfolding start
-start-decided h f n y t = record { verdict-is = guards-alone h _ _ refl }
+start-decided h f n y t = record { verdict-is = verdict-alone h _ _ refl }
 
 attempt-decided : (h : Held) (a : Arguments) → Decided-by (attempt-tests (h .kept) (h .area) a) (attempt h a)
 unfolding attempt going-on attempted ask-pass
-attempt-decided h a = record { verdict-is = guards-alone h _ _ refl }
+attempt-decided h a = record { verdict-is = verdict-alone h _ _ refl }
 
 accept-decided : (h : Held) → Decided-by (accept-tests (h .kept) (h .area)) (accept h)
 unfolding accept going-on accepted
-accept-decided h = record { verdict-is = guards-alone h _ _ refl }
+accept-decided h = record { verdict-is = verdict-alone h _ _ refl }
 
 callback-decided : (h : Held) (y : List Float) (t : Float) → Decided-by (callback-tests (h .kept) (h .area) y t) (accept-with-callback h y t)
 unfolding accept-with-callback going-on called-back
-callback-decided h y t = record { verdict-is = guards-alone h _ _ refl }
+callback-decided h y t = record { verdict-is = verdict-alone h _ _ refl }
 
 abandon-decided : (h : Held) → Decided-by (abandon-tests (h .kept) (h .area)) (abandon h)
 unfolding abandon
-abandon-decided h = record { verdict-is = guards-alone h _ _ refl }
+abandon-decided h = record { verdict-is = verdict-alone h _ _ refl }
 
 -- ---- a reply: what its phase tests too
 
-candidate-verdict : (t : Bool) (r : Record) (v : Vectors) → all-finite (v candidate) ≡ t → verdict-of (ask-candidate r v .answer) ≡ cond t goes-on (refused-with 10)
+candidate-verdict : (t : Bool) (r : Record) (v : Vectors) → all-finite (v candidate) ≡ t
+    → verdict-of (ask-candidate r v .answer) ≡ cond t admitted (refused-with 10)
 unfolding ask-candidate
 candidate-verdict true r v e = rw e
 candidate-verdict false r v e = rw e
@@ -89,21 +97,26 @@ replied-verdict P.Candidate r v d = refl
 replied-verdict P.Finished r v d = refl
 replied-verdict P.Callback r v d = refl
 
-reply-decided : (h : Held) (d : List Float) → Decided-by (reply-tests (h .kept) (h .counters) (h .area) d ++ 9 ∶ all-finite d ∷ replied-tests (h .kept .phase) (h .kept) (unpack (h .kept .n) (h .area)) d) (reply h d)
+-- past its own tests, 9 and those of the phase
+abbrev beyond-eight : Held → List Float → List Test
+beyond-eight h d = 9 ∶ all-finite d ∷ replied-tests (h .kept .phase) (h .kept) (unpack (h .kept .n) (h .area)) d
+
+reply-decided : (h : Held) (d : List Float) → Decided-by (reply-tests (h .kept) (h .counters) (h .area) d ++ beyond-eight h d) (reply h d)
 unfolding reply settled going-on spoiled first-failing
-reply-decided h d = record { verdict-is = guards-decide h _ _ _ (go (all-finite d)) }
+reply-decided h d = record { verdict-is = verdict-then h _ (beyond-eight h d) _ (go (all-finite d)) }
   where
     v : Vectors
     v = unpack (h .kept .n) (h .area)
 
-    go : (t : Bool) → verdict-of (cond t (settled (h .counters) (replied (h .kept .phase) (h .kept) v d)) (spoiled h) .answer) ≡ cond t (first-failing (replied-tests (h .kept .phase) (h .kept) v d)) (refused-with 9)
+    go : (t : Bool) → verdict-of (cond t (settled (h .counters) (replied (h .kept .phase) (h .kept) v d)) (spoiled h) .answer)
+        ≡ cond t (first-failing (replied-tests (h .kept .phase) (h .kept) v d)) (refused-with 9)
     go true = replied-verdict (h .kept .phase) (h .kept) v d
     go false = refl
 
 -- ---- every call
 
 pub decided : (h : Held) (c : Call) → Decided-by (tests-of h c) (made h c)
-unfolding tests-of made
+unfolding tests-of made start-tests attempt-tests reply-tests accept-tests callback-tests abandon-tests
 decided h (Start f n y t) = start-decided h f n y t
 decided h (Attempt a) = attempt-decided h a
 decided h (Reply d) = reply-decided h d
@@ -124,32 +137,27 @@ says-refused (Refused i) k s = ap (λ (v : Values). Refused (first (v .numbers))
     first (i ∷ is) = i
 says-refused Empty k s = absurd (omega (arith, s .same-case))
 
-abbrev pub is-refused : Verdict → Type 0
-is-refused goes-on = ⊥
-is-refused (refused-with i) = Unit {0}
-
-abbrev pub refused-number : Verdict → ℕ
-refused-number goes-on = 0
-refused-number (refused-with i) = i
-
 pub same-number : (i j : ℕ) → Refused i ≡ Refused j → i ≡ j
-same-number i j e = ap (λ (y : Answer). refused-number (verdict-of y)) e
+unfolding cause-of
+same-number i j e = ap (λ (y : Answer). cause-of (verdict-of y)) e
 
 -- each number on its own cause and on no other
 pub refused : (h : Held) (c : Call) (k : ℕ) → Says (made h c .answer) (Refused k) ↔ first-failing (tests-of h c) ≡ refused-with k
+unfolding cause-of
 refused h c k = (λ s. sym (decided h c .verdict-is) ∙ ap verdict-of (says-refused (made h c .answer) k s), λ e. go (made h c .answer) (decided h c .verdict-is ∙ e))
   where
     go : (y : Answer) → verdict-of y ≡ refused-with k → Says y (Refused k)
     go (Evaluate s b) e = absurd (subst is-refused (sym e) tt)
     go (Finished s) e = absurd (subst is-refused (sym e) tt)
     go Ready e = absurd (subst is-refused (sym e) tt)
-    go (Refused i) e = let same : Refused i ≡ Refused k = ap (λ (x : Verdict). Refused (refused-number x)) e in record { same-case = ap case-number same; same-values = ap case-values same }
+    go (Refused i) e = let same : Refused i ≡ Refused k = ap (λ (x : Verdict). Refused (cause-of x)) e in
+        record { same-case = ap case-number same; same-values = ap case-values same }
     go Empty e = absurd (subst is-refused (sym e) tt)
 
 -- ---- no number outside the call's list
 
 abbrev Among : Verdict → List ℕ → Type 0
-Among goes-on ks = Unit {0}
+Among admitted ks = Unit {0}
 Among (refused-with i) ks = i ∈ ks
 
 -- the tests fail with a number of the list, or not at all
@@ -165,7 +173,7 @@ unfolding first-failing
 more t ts ks w = record { among = go (t .passes) (first-failing ts) (w .among) }
   where
     go : (b : Bool) (x : Verdict) → Among x ks → Among (cond b x (refused-with (t .cause))) (t .cause ∷ ks)
-    go true goes-on w = tt
+    go true admitted w = tt
     go true (refused-with i) w = later w
     go false x w = here
 
@@ -192,7 +200,7 @@ replied-within P.Finished r v d = last (10 ∷ [])
 replied-within P.Callback r v d = last (10 ∷ [])
 
 within : (h : Held) (c : Call) → Within (tests-of h c) (numbers-of c)
-unfolding tests-of numbers-of start-tests attempt-tests reply-tests accept-tests callback-tests abandon-tests
+unfolding tests-of numbers-of
 within h (Start f n y t) = more _ _ _ (more _ _ _ (more _ _ _ (more _ _ _ (more _ _ _ (last [])))))
 within h (Attempt a) = more _ _ _ (more _ _ _ (more _ _ _ (more _ _ _ (more _ _ _ (more _ _ _ (last []))))))
 within h (Reply d) = more _ _ _ (more _ _ _ (more _ _ _ (more _ _ _ (more _ _ _ (more _ _ _ (replied-within (h .kept .phase) (h .kept) (unpack (h .kept .n) (h .area)) d))))))

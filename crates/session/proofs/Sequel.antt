@@ -5,7 +5,8 @@ use Prim.Native.Nat.{ℕ}
 use Rattle.family.specs.Family.{known}
 use Rattle.workspace.specs.Vectors.{unpack}
 use Rattle.workspace.specs.declared.Arguments.{Arguments}
-use Rattle.driver.specs.Calls.{Held, Called, accepted, sized, whole-area, may-attempt, may-accept, good-times, good-tolerances, going-on, accept, first-failing, decide, guarded, accept-tests}
+use Rattle.driver.specs.Calls.{Held, Called, accepted, sized, whole-area, may-attempt, may-accept, good-times, good-tolerances, going-on, accept}
+use Rattle.driver.specs.Calls.{first-failing, decide, guarded, accept-tests}
 use Rattle.session.specs.Attempt.{Finished-attempt}
 use Rattle.session.specs.Claim.{Allowed, Finishes}
 use Rattle.workspace.proofs.Areas.{unpack-pack}

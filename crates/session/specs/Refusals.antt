@@ -1,11 +1,12 @@
 -- Which number a call is turned away with: that of the first of its tests that fails. Document 01, "When a call is turned away".
 use Prim.Native.Nat.{ℕ, _+_, _≤_}
 use mathlib.Core.Path.{_≡_}
-use mathlib.Core.Bool.{false, cond, _||_}
-use mathlib.Core.List.{List, [], _∷_, _++_}
+use mathlib.Core.Bool.{Bool, false, cond, _&&_, _||_}
+use mathlib.Core.List.{List, [], _∷_}
 use lib.Dec.{ltb, eqb}
 use lib.Ieee.{Float}
-use Rattle.family.specs.Family.{family-of}
+use lib.Ieee.Scale.{finite}
+use Rattle.family.specs.Family.{known, family-of}
 use Rattle.coefficients.specs.Rows.{coefficients}
 use Rattle.workspace.specs.Vectors.{Vectors, unpack, all-finite, last-derivative, next-stage}
 use Rattle.workspace.specs.Kernel.{turned, radius-of, ended, scaled, with-row}
@@ -16,18 +17,20 @@ use Rattle.driver.specs.declared.Need.{Need}
 use Rattle.driver.specs.declared.Need.the-variants.{Met, Unmet}
 use Rattle.driver.specs.declared.Answer.{Answer}
 use Rattle.driver.specs.declared.Answer.the-variants.{Evaluate, Finished, Ready, Refused, Empty}
-use Rattle.driver.specs.Calls.{Held, in-phase, stage-need, Test, _∶_, Verdict, goes-on, refused-with, start-tests, attempt-tests, reply-tests, accept-tests, callback-tests, abandon-tests, Call, Start, Attempt, Reply, Accept, Accept-with-callback, Abandon}
+use Rattle.driver.specs.Calls.{Held, in-phase, stage-need, Test, _∶_, Verdict, admitted, refused-with}
+use Rattle.driver.specs.Calls.{sized, whole-area, as-long, awaiting, may-attempt, may-accept, good-times, good-tolerances, has-room}
+use Rattle.driver.specs.Calls.{Call, Start, Attempt, Reply, Accept, Accept-with-callback, Abandon}
 
 -- the numbers are 1 to this
 abbrev pub largest-number : ℕ
 largest-number = 10
 
 abbrev pub verdict-of : Answer → Verdict
-verdict-of (Evaluate t b) = goes-on
-verdict-of (Finished e) = goes-on
-verdict-of Ready = goes-on
+verdict-of (Evaluate t b) = admitted
+verdict-of (Finished e) = admitted
+verdict-of Ready = admitted
 verdict-of (Refused i) = refused-with i
-verdict-of Empty = goes-on
+verdict-of Empty = admitted
 
 -- a reply that ends the power iteration has the need of stages tested (no family's need is refused yet: `Unmet` is empty today)
 unfoldable pub need-tests : Need → List Test
@@ -61,13 +64,33 @@ replied-tests P.Candidate r v d = []
 replied-tests P.Finished r v d = []
 replied-tests P.Callback r v d = []
 
+-- ---- the tests of every call, spelled from the document's sentence and not from the lists that the calls go by: `refused` holds those against these
+
+abbrev pub one-to-three : ℕ → ℕ → Bool → List Test → List Test
+one-to-three f n lengths more = 1 ∶ known f ∷ 2 ∶ sized n ∷ 3 ∶ lengths ∷ more
+
+abbrev pub one-to-four : Record → Bool → Bool → List Test → List Test
+one-to-four r lengths phase-allows more = one-to-three (r .family) (r .n) lengths (4 ∶ phase-allows ∷ more)
+
+-- "area not 11 × n"; "or vector not n long"
+abbrev pub area-good : Held → Bool
+area-good h = whole-area (h .kept .family) (h .kept .n) (h .area)
+
+abbrev pub lengths-good : Held → List Float → Bool
+lengths-good h v = area-good h && as-long (h .kept .n) v
+
+-- "Every call has 1 to 4 (start: on what it brings, and no phase); start and accept with a callback 5 and time in 6; attempt 6 and 7, with or without
+-- `adaptive`; every reply 8 and 9; the reply that ends stage s also 10."
 unfoldable pub tests-of : Held → Call → List Test
-tests-of h (Start f n y t) = start-tests f n (h .area) y t
-tests-of h (Attempt a) = attempt-tests (h .kept) (h .area) a
-tests-of h (Reply d) = reply-tests (h .kept) (h .counters) (h .area) d ++ 9 ∶ all-finite d ∷ replied-tests (h .kept .phase) (h .kept) (unpack (h .kept .n) (h .area)) d
-tests-of h Accept = accept-tests (h .kept) (h .area)
-tests-of h (Accept-with-callback y t) = callback-tests (h .kept) (h .area) y t
-tests-of h Abandon = abandon-tests (h .kept) (h .area)
+tests-of h (Start f n y t) = one-to-three f n (whole-area f n (h .area) && as-long n y) (5 ∶ all-finite y ∷ 6 ∶ finite t ∷ [])
+tests-of h (Attempt a) = one-to-four (h .kept) (area-good h) (may-attempt (h .kept .phase)) (6 ∶ good-times a ∷ 7 ∶ good-tolerances a ∷ [])
+tests-of h (Reply d) = let r = h .kept in
+    one-to-four r (lengths-good h d) (awaiting r)
+    (8 ∶ has-room (r .phase) (h .counters) ∷ 9 ∶ all-finite d ∷ replied-tests (r .phase) r (unpack (r .n) (h .area)) d)
+tests-of h Accept = one-to-four (h .kept) (area-good h) (may-accept (h .kept .phase)) []
+tests-of h (Accept-with-callback y t) =
+    one-to-four (h .kept) (lengths-good h y) (may-accept (h .kept .phase)) (5 ∶ all-finite y ∷ 6 ∶ finite t ∷ [])
+tests-of h Abandon = one-to-four (h .kept) (area-good h) (awaiting (h .kept)) []
 
 -- the numbers that a call can answer, and no other
 unfoldable pub numbers-of : Call → List ℕ

@@ -1,8 +1,8 @@
 -- `abandon` meets its contract: turned away by its cause; without one, only the phase changes.
-use mathlib.Core.Path.{refl}
+use mathlib.Core.Path.{refl, sym, _∙_}
 use borrow.Author.Needs.{needs}
 use Rattle.driver.specs.Calls.{abandon-tests, abandon}
-use Rattle.driver.proofs.Ladder.{none-fails, kept-away, let-through, says}
+use Rattle.driver.proofs.Ladder.{none-fails, refused-keeps, admitted-keeps, says}
 use Rattle.driver.proofs.abandon.Statement.{statement}
 use Rattle.driver.proofs.abandon.Tie as tie
 
@@ -14,7 +14,7 @@ refused-requires c κs = search needs
 
 returns : tie.Need-returns
 unfolding abandon
-returns c = kept-away _ _ _ (c .before .before .of-abandon .ensures) (c .before .if1 .taken) (c .refused .ensures)
+returns c = refused-keeps _ _ _ (c .before .before .of-abandon .ensures) (c .before .if1 .taken) (c .refused .ensures)
 
 in-phase-requires : tie.Need-in-phase-requires
 in-phase-requires c κs = search needs
@@ -22,7 +22,8 @@ in-phase-requires c κs = search needs
 returns-2 : tie.Need-returns-2
 unfolding abandon abandon-tests
 returns-2 c =
-    let-through _ _ (none-fails _ refl (c .before .before .of-abandon .ensures) (c .before .if1 .left)) (λ _. record { answer = says refl; kept = c .in-phase .ensures; counters = refl; area = refl })
+    admitted-keeps _ _ (none-fails _ refl (sym (c .before .before .of-abandon .ensures) ∙ c .before .if1 .left))
+    (λ _. record { answer = says refl; kept = c .in-phase .ensures; counters = refl; area = refl })
 
 pub abandon-spec : {M : Type 1} → statement M
 abandon-spec =

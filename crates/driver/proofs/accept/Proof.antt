@@ -5,10 +5,10 @@ use borrow.Author.Needs.{needs}
 use Rattle.family.specs.Family.{family-of}
 use Rattle.workspace.specs.Vectors.{Vectors, _with_≔_, state, candidate}
 use Rattle.workspace.proofs.Areas.{whole}
-use Rattle.driver.specs.Calls.{accept, accepted}
+use Rattle.driver.specs.Calls.{accept-tests, accept, accepted}
 use Rattle.driver.proofs.Steps.{keeps}
-use Rattle.driver.proofs.Clear.{accept-clear}
-use Rattle.driver.proofs.Ladder.{kept-away, let-through, says}
+use Rattle.driver.proofs.Clear.{clear}
+use Rattle.driver.proofs.Ladder.{refused-keeps, admitted-keeps, says}
 use Rattle.driver.proofs.accept.Statement.{statement}
 use Rattle.driver.proofs.accept.Tie as tie
 
@@ -23,19 +23,25 @@ same-length c = search needs
 
 returns : tie.Need-returns
 unfolding accept
-returns c = kept-away _ _ _ (c .before .before .of-accept .ensures) (c .before .if1 .taken) (c .refused .ensures)
+returns c = refused-keeps _ _ _ (c .before .before .of-accept .ensures) (c .before .if1 .taken) (c .refused .ensures)
 
 copy-vector-requires : tie.Need-copy-vector-requires
+unfolding accept-tests
 copy-vector-requires c κs =
-    let a = c .before .before .before .before .before .args in
+    let t = c .before in
+    let a = t .before .before .before .before .args in
     let r = a .«record» in
-    (whole (family-of (r .family)) (r .n) (a .area .now) (accept-clear r (a .area .now) (c .before .before .of-accept .ensures) (c .before .if1 .left) .long), search needs)
+    let l = clear (r .family) (r .n) (a .area .now) _ refl (t .before .of-accept .ensures) (t .if1 .left) in
+    (whole (family-of (r .family)) (r .n) (a .area .now) (l .long), search needs)
 
 copy-vector-requires-2 : tie.Need-copy-vector-requires-2
+unfolding accept-tests
 copy-vector-requires-2 c κs =
-    let a = c .before .before .before .before .before .before .before .before .before .args in
+    let t = c .before .before .before .before .before in
+    let a = t .before .before .before .before .args in
     let r = a .«record» in
-    (omega (arith, whole (family-of (r .family)) (r .n) (a .area .now) (accept-clear r (a .area .now) (c .before .before .before .before .before .before .of-accept .ensures) (c .before .before .before .before .before .if1 .left) .long), c .before .before .area .given), search needs)
+    let l = clear (r .family) (r .n) (a .area .now) _ refl (t .before .of-accept .ensures) (t .if1 .left) in
+    (omega (arith, whole (family-of (r .family)) (r .n) (a .area .now) (l .long), c .before .before .area .given), search needs)
 
 in-phase-requires : tie.Need-in-phase-requires
 in-phase-requires c κs = search needs
@@ -44,13 +50,20 @@ same-length-2 : tie.Need-same-length-2
 same-length-2 c = search needs
 
 returns-2 : tie.Need-returns-2
-unfolding accept accepted
+unfolding accept accept-tests accepted
 returns-2 c =
-    let a = c .before .before .before .before .before .before .before .before .before .before .before .before .before .args in
+    let t = c .before .before .before .before .before .before .before .before .before in
+    let a = t .before .before .before .before .args in
     let r = a .«record» in
-    let clear = accept-clear r (a .area .now) (c .before .before .before .before .before .before .before .before .before .before .of-accept .ensures) (c .before .before .before .before .before .before .before .before .before .if1 .left) in
-    let-through _ _ (clear .none) (keeps (family-of (r .family)) (r .n) _ (same-length-2 c ∙ clear .long)
-    (record { answer = says refl; kept = c .in-phase .ensures; vectors = c .before .before .before .copy-vector2 .ensures ∙ ap (λ (v : Vectors). v with state ≔ v candidate) (c .before .before .before .before .before .before .before .copy-vector .ensures) }))
+    let l = clear (r .family) (r .n) (a .area .now) _ refl (t .before .of-accept .ensures) (t .if1 .left) in
+    let first = c .before .before .before .before .before .before .before .copy-vector .ensures in
+    let second = c .before .before .before .copy-vector2 .ensures in
+    admitted-keeps _ _ (l .none)
+    (keeps (family-of (r .family)) (r .n) _ (same-length-2 c ∙ l .long) (record {
+      answer = says refl;
+      kept = c .in-phase .ensures;
+      vectors = second ∙ ap (λ (v : Vectors). v with state ≔ v candidate) first;
+    }))
 
 pub accept-spec : {M : Type 1} → statement M
 accept-spec =

@@ -1,14 +1,14 @@
 -- `attempt` meets its contract: turned away by its cause; without one, the first pass is begun.
-use mathlib.Core.Path.{_≡_, ap, _∙_}
+use mathlib.Core.Path.{_≡_, refl, ap, _∙_}
 use native.Mathlib.Omega.{arith}
 use borrow.Author.Needs.{needs}
 use lib.Ieee.{ofBits}
 use Rattle.family.specs.Family.{family-of}
 use Rattle.workspace.proofs.Areas.{whole}
 use Rattle.driver.specs.declared.Record.{Record}
-use Rattle.driver.specs.Calls.{attempt, attempted, at-pass}
-use Rattle.driver.proofs.Ladder.{kept-away, let-through}
-use Rattle.driver.proofs.Clear.{attempt-clear}
+use Rattle.driver.specs.Calls.{attempt-tests, attempt, attempted, at-pass}
+use Rattle.driver.proofs.Ladder.{refused-keeps, admitted-keeps}
+use Rattle.driver.proofs.Clear.{clear}
 use Rattle.driver.proofs.Steps.{keeps, attempts, measured}
 use Rattle.driver.proofs.attempt.Statement.{statement}
 use Rattle.driver.proofs.attempt.Tie as tie
@@ -24,43 +24,56 @@ same-length c = search needs
 
 returns : tie.Need-returns
 unfolding attempt
-returns c = kept-away _ _ _ (c .before .before .of-attempt .ensures) (c .before .if1 .taken) (c .refused .ensures)
+returns c = refused-keeps _ _ _ (c .before .before .of-attempt .ensures) (c .before .if1 .taken) (c .refused .ensures)
 
 perturbation-requires : tie.Need-perturbation-requires
+unfolding attempt-tests
 perturbation-requires c κs =
-    let a = c .before .before .before .before .before .args in
+    let t = c .before in
+    let a = t .before .before .before .before .args in
     let r = a .«record» in
-    whole (family-of (r .family)) (r .n) (a .area .now) (attempt-clear r (a .area .now) (a .arguments) (c .before .before .of-attempt .ensures) (c .before .if1 .left) .long)
+    let l = clear (r .family) (r .n) (a .area .now) _ refl (t .before .of-attempt .ensures) (t .if1 .left) in
+    whole (family-of (r .family)) (r .n) (a .area .now) (l .long)
 
 choose-direction-requires : tie.Need-choose-direction-requires
+unfolding attempt-tests
 choose-direction-requires c κs =
-    let a = c .before .before .before .before .before .before .before .args in
+    let t = c .before .before .before in
+    let a = t .before .before .before .before .args in
     let r = a .«record» in
-    whole (family-of (r .family)) (r .n) (a .area .now) (attempt-clear r (a .area .now) (a .arguments) (c .before .before .before .before .of-attempt .ensures) (c .before .before .before .if1 .left) .long)
+    let l = clear (r .family) (r .n) (a .area .now) _ refl (t .before .of-attempt .ensures) (t .if1 .left) in
+    whole (family-of (r .family)) (r .n) (a .area .now) (l .long)
 
 at-pass-requires : tie.Need-at-pass-requires
 at-pass-requires c κs = search needs
 
 ask-pass-requires : tie.Need-ask-pass-requires
-unfolding at-pass
+unfolding attempt-tests at-pass
 ask-pass-requires c κs =
-    let a = c .before .before .before .before .before .before .before .before .before .before .before .before .args in
+    let t = c .before .before .before .before .before .before .before .before in
+    let a = t .before .before .before .before .args in
     let r = a .«record» in
+    let l = clear (r .family) (r .n) (a .area .now) _ refl (t .before .of-attempt .ensures) (t .if1 .left) in
     let n : c .before .at-pass .result .n ≡ r .n = ap (λ (y : Record). y .n) (c .before .at-pass .ensures) in
-    rw n (omega (arith, whole (family-of (r .family)) (r .n) (a .area .now) (attempt-clear r (a .area .now) (a .arguments) (c .before .before .before .before .before .before .before .before .before .of-attempt .ensures) (c .before .before .before .before .before .before .before .before .if1 .left) .long), c .before .before .before .area .given), c .before .before .before .before .choose-direction .ensures .1)
+    let chosen = c .before .before .before in
+    rw n (omega (arith, whole (family-of (r .family)) (r .n) (a .area .now) (l .long), chosen .area .given), chosen .before .choose-direction .ensures .1)
 
 same-length-2 : tie.Need-same-length-2
 same-length-2 c = search needs
 
 returns-2 : tie.Need-returns-2
-unfolding attempt attempted at-pass ofBits
+unfolding attempt attempt-tests attempted at-pass ofBits
 returns-2 c =
-    let a = c .before .before .before .before .before .before .before .before .before .before .before .before .before .before .before .args in
+    let t = c .before .before .before .before .before .before .before .before .before .before .before in
+    let a = t .before .before .before .before .args in
     let r = a .«record» in
-    let clear = attempt-clear r (a .area .now) (a .arguments) (c .before .before .before .before .before .before .before .before .before .before .before .before .of-attempt .ensures) (c .before .before .before .before .before .before .before .before .before .before .before .if1 .left) in
+    let l = clear (r .family) (r .n) (a .area .now) _ refl (t .before .of-attempt .ensures) (t .if1 .left) in
     let on = c .before .before .before .before .at-pass .ensures in
-    let-through _ _ (clear .none) (keeps (family-of (r .family)) (r .n) _ (same-length-2 c ∙ clear .long)
-    (attempts r _ (a .arguments) (c .before .before .before .before .before .before .before .before .before .perturbation .ensures) on (c .before .before .before .before .before .before .before .choose-direction .ensures .0) (measured _ _ _ (ap (λ (y : Record). y .n) on) (c .before .before .ask-pass .ensures))))
+    let chosen = c .before .before .before .before .before .before .before .choose-direction .ensures .0 in
+    let perturbation = c .before .before .before .before .before .before .before .before .before .perturbation .ensures in
+    admitted-keeps _ _ (l .none)
+    (keeps (family-of (r .family)) (r .n) _ (same-length-2 c ∙ l .long)
+    (attempts r _ (a .arguments) perturbation on chosen (measured _ _ _ (ap (λ (y : Record). y .n) on) (c .before .before .ask-pass .ensures))))
 
 pub attempt-spec : {M : Type 1} → statement M
 attempt-spec =

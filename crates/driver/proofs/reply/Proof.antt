@@ -1,13 +1,13 @@
 -- `reply` meets its contract: turned away by its cause; without one, the derivative is spoiled or taken, and counted.
-use mathlib.Core.Path.{sym, _∙_}
+use mathlib.Core.Path.{refl, sym, _∙_}
 use borrow.Author.Needs.{needs}
 use Rattle.family.specs.Family.{family-of}
 use Rattle.workspace.proofs.Areas.{whole}
 use Rattle.workspace.specs.Vectors.{unpack}
 use Rattle.driver.specs.Calls.{reply-tests, reply, awaiting, pending, in-range}
-use Rattle.driver.proofs.Clear.{reply-clear}
+use Rattle.driver.proofs.Clear.{brings}
 use Rattle.driver.proofs.Counting.{evaluations-room, attempts-room, finishing, spoils, settles}
-use Rattle.driver.proofs.Ladder.{fails, passes, reply-away, reply-through}
+use Rattle.driver.proofs.Ladder.{fails, passes, refused-meets, admitted-meets}
 use Rattle.driver.proofs.Sizes.{both, most}
 use Rattle.driver.proofs.reply.Statement.{statement}
 use Rattle.driver.proofs.reply.Tie as tie
@@ -23,7 +23,7 @@ same-length c = search needs
 
 returns : tie.Need-returns
 unfolding reply
-returns c = reply-away _ _ _ (c .before .before .of-reply .ensures) (c .before .if1 .taken) (c .turned-away .ensures)
+returns c = refused-meets _ _ _ (c .before .before .of-reply .ensures) (c .before .if1 .taken) (c .turned-away .ensures)
 
 all-finite-requires : tie.Need-all-finite-requires
 all-finite-requires c κs = search needs
@@ -31,48 +31,61 @@ all-finite-requires c κs = search needs
 spoiled-requires : tie.Need-spoiled-requires
 unfolding reply-tests
 spoiled-requires c κs =
-    let a = c .before .before .before .before .before .before .before .args in
-    let l = reply-clear (a .«record») (a .area .now) (a .counters) (a .derivative .now) (c .before .before .before .of-reply .ensures) (c .before .before .if1 .left) in
+    let t = c .before .before in
+    let a = t .before .before .before .before .before .args in
+    let r = a .«record» in
+    let l = brings (r .family) (r .n) (a .area .now) (a .derivative .now) _ refl (t .before .of-reply .ensures) (t .if1 .left) in
     evaluations-room _ _ (l .passing .1 .1 .1 .1 .0)
 
 same-length-2 : tie.Need-same-length-2
 same-length-2 c = search needs
 
 returns-2 : tie.Need-returns-2
-unfolding reply
+unfolding reply reply-tests
 returns-2 c =
-    let a = c .before .before .before .before .before .before .before .before .args in
-    let l = reply-clear (a .«record») (a .area .now) (a .counters) (a .derivative .now) (c .before .before .before .before .of-reply .ensures) (c .before .before .before .if1 .left) in
-    reply-through _ _ (l .none) (spoils _ _ (fails (c .before .before .all-finite .ensures) (c .before .if2 .taken)) (c .spoiled .ensures))
+    let t = c .before .before .before in
+    let a = t .before .before .before .before .before .args in
+    let r = a .«record» in
+    let l = brings (r .family) (r .n) (a .area .now) (a .derivative .now) _ refl (t .before .of-reply .ensures) (t .if1 .left) in
+    admitted-meets _ _ (l .none) (spoils _ _ (fails (c .before .before .all-finite .ensures) (c .before .if2 .taken)) (c .spoiled .ensures))
 
 replied-requires : tie.Need-replied-requires
 unfolding reply-tests awaiting
 replied-requires c κs =
-    let a = c .before .before .before .before .before .before .before .before .args in
+    let t = c .before .before .before in
+    let a = t .before .before .before .before .before .args in
     let r = a .«record» in
-    let l = reply-clear r (a .area .now) (a .counters) (a .derivative .now) (c .before .before .before .before .of-reply .ensures) (c .before .before .before .if1 .left) in
+    let l = brings (r .family) (r .n) (a .area .now) (a .derivative .now) _ refl (t .before .of-reply .ensures) (t .if1 .left) in
     let p = l .passing in
-    (whole (family-of (r .family)) (r .n) (a .area .now) (l .long), (l .brought, (most _ (p .1 .0), both (pending (r .phase)) (in-range (r .phase) r) (p .1 .1 .1 .0) .1)))
+    let in-range = both (pending (r .phase)) (in-range (r .phase) r) (p .1 .1 .1 .0) .1 in
+    (whole (family-of (r .family)) (r .n) (a .area .now) (l .long), (l .brought, (most _ (p .1 .0), in-range)))
 
 counted-requires : tie.Need-counted-requires
 unfolding reply-tests
 counted-requires c κs =
-    let a = c .before .before .before .before .before .before .before .before .before .before .before .before .args in
+    let t = c .before .before .before .before .before .before .before in
+    let a = t .before .before .before .before .before .args in
     let r = a .«record» in
-    let l = reply-clear r (a .area .now) (a .counters) (a .derivative .now) (c .before .before .before .before .before .before .before .before .of-reply .ensures) (c .before .before .before .before .before .before .before .if1 .left) in
+    let l = brings (r .family) (r .n) (a .area .now) (a .derivative .now) _ refl (t .before .of-reply .ensures) (t .if1 .left) in
     let room = l .passing .1 .1 .1 .1 .0 in
-    (evaluations-room _ _ room, λ e. attempts-room (r .phase) (a .counters) room (finishing (r .phase) r (unpack (r .n) (a .area .now)) (a .derivative .now) (sym (c .before .before .before .replied .ensures .answer .same-case) ∙ e)))
+    let same-case = c .before .before .before .replied .ensures .answer .same-case in
+    let v = unpack (r .n) (a .area .now) in
+    (evaluations-room _ _ room, λ e. attempts-room (r .phase) (a .counters) room (finishing (r .phase) r v (a .derivative .now) (sym same-case ∙ e)))
 
 same-length-3 : tie.Need-same-length-3
 same-length-3 c = search needs
 
 returns-3 : tie.Need-returns-3
-unfolding reply
+unfolding reply reply-tests
 returns-3 c =
-    let a = c .before .before .before .before .before .before .before .before .before .before .before .before .before .args in
+    let t = c .before .before .before .before .before .before .before .before in
+    let a = t .before .before .before .before .before .args in
     let r = a .«record» in
-    let l = reply-clear r (a .area .now) (a .counters) (a .derivative .now) (c .before .before .before .before .before .before .before .before .before .of-reply .ensures) (c .before .before .before .before .before .before .before .before .if1 .left) in
-    reply-through _ _ (l .none) (settles _ (family-of (r .family)) (r .n) _ (passes (c .before .before .before .before .before .before .before .all-finite .ensures) (c .before .before .before .before .before .before .if2 .left)) (same-length-3 c ∙ l .long) (c .before .before .before .before .replied .ensures) (c .counted .ensures))
+    let l = brings (r .family) (r .n) (a .area .now) (a .derivative .now) _ refl (t .before .of-reply .ensures) (t .if1 .left) in
+    let f = c .before .before .before .before .before .before in
+    let finite = passes (f .before .all-finite .ensures) (f .if2 .left) in
+    admitted-meets _ _ (l .none)
+    (settles _ (family-of (r .family)) (r .n) _ finite (same-length-3 c ∙ l .long) (c .before .before .before .before .replied .ensures) (c .counted .ensures))
 
 pub reply-spec : {M : Type 1} → statement M
 reply-spec =

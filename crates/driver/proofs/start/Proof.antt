@@ -8,10 +8,10 @@ use Rattle.ieee.specs.Double.{nought}
 use Rattle.family.specs.Family.{family-of}
 use Rattle.workspace.specs.Vectors.{Vectors, _with_≔_, eigenvector}
 use Rattle.workspace.proofs.Areas.{whole}
-use Rattle.driver.specs.Calls.{start, going-on}
+use Rattle.driver.specs.Calls.{start-tests, start, going-on}
 use Rattle.driver.proofs.Steps.{keeps}
-use Rattle.driver.proofs.Clear.{start-clear}
-use Rattle.driver.proofs.Ladder.{kept-away, let-through, says}
+use Rattle.driver.proofs.Clear.{brings}
+use Rattle.driver.proofs.Ladder.{refused-keeps, admitted-keeps, says}
 use Rattle.driver.proofs.start.Statement.{statement}
 use Rattle.driver.proofs.start.Tie as tie
 
@@ -26,18 +26,22 @@ same-length c = search needs
 
 returns : tie.Need-returns
 unfolding start
-returns c = kept-away _ _ _ (c .before .before .of-start .ensures) (c .before .if1 .taken) (c .refused .ensures)
+returns c = refused-keeps _ _ _ (c .before .before .of-start .ensures) (c .before .if1 .taken) (c .refused .ensures)
 
 put-vector-requires : tie.Need-put-vector-requires
+unfolding start-tests
 put-vector-requires c κs =
-    let a = c .before .before .before .before .before .before .args in
-    let l = start-clear (a .family) (a .n) (a .area .now) (a .state .now) (a .time) (c .before .before .of-start .ensures) (c .before .if1 .left) in
+    let t = c .before in
+    let a = t .before .before .before .before .before .args in
+    let l = brings (a .family) (a .n) (a .area .now) (a .state .now) _ refl (t .before .of-start .ensures) (t .if1 .left) in
     (whole (family-of (a .family)) (a .n) (a .area .now) (l .long), (l .brought, search needs))
 
 fill-vector-requires : tie.Need-fill-vector-requires
+unfolding start-tests
 fill-vector-requires c κs =
-    let a = c .before .before .before .before .before .before .before .before .before .before .args in
-    let l = start-clear (a .family) (a .n) (a .area .now) (a .state .now) (a .time) (c .before .before .before .before .before .before .of-start .ensures) (c .before .before .before .before .before .if1 .left) in
+    let t = c .before .before .before .before .before in
+    let a = t .before .before .before .before .before .args in
+    let l = brings (a .family) (a .n) (a .area .now) (a .state .now) _ refl (t .before .of-start .ensures) (t .if1 .left) in
     (omega (arith, whole (family-of (a .family)) (a .n) (a .area .now) (l .long), c .before .before .area .given), search needs)
 
 first-at-requires : tie.Need-first-at-requires
@@ -47,12 +51,19 @@ same-length-2 : tie.Need-same-length-2
 same-length-2 c = search needs
 
 returns-2 : tie.Need-returns-2
-unfolding start going-on ofBits
+unfolding start start-tests going-on ofBits
 returns-2 c =
-    let a = c .before .before .before .before .before .before .before .before .before .before .before .before .before .before .args in
-    let l = start-clear (a .family) (a .n) (a .area .now) (a .state .now) (a .time) (c .before .before .before .before .before .before .before .before .before .before .of-start .ensures) (c .before .before .before .before .before .before .before .before .before .if1 .left) in
-    let-through _ _ (l .none) (keeps (family-of (a .family)) (a .n) _ (same-length-2 c ∙ l .long)
-    (record { answer = says refl; kept = c .first-at .ensures; vectors = c .before .before .before .fill-vector .ensures ∙ ap (λ (v : Vectors). v with eigenvector ≔ replicate (a .n) nought) (c .before .before .before .before .before .before .before .put-vector .ensures) }))
+    let t = c .before .before .before .before .before .before .before .before .before in
+    let a = t .before .before .before .before .before .args in
+    let l = brings (a .family) (a .n) (a .area .now) (a .state .now) _ refl (t .before .of-start .ensures) (t .if1 .left) in
+    let put = c .before .before .before .before .before .before .before .put-vector .ensures in
+    let filled = c .before .before .before .fill-vector .ensures in
+    admitted-keeps _ _ (l .none)
+    (keeps (family-of (a .family)) (a .n) _ (same-length-2 c ∙ l .long) (record {
+      answer = says refl;
+      kept = c .first-at .ensures;
+      vectors = filled ∙ ap (λ (v : Vectors). v with eigenvector ≔ replicate (a .n) nought) put;
+    }))
 
 pub start-spec : {M : Type 1} → statement M
 start-spec =
