@@ -10,8 +10,7 @@ use Rattle.driver.specs.declared.Phase.{Phase}
 use Rattle.driver.specs.declared.Phase.the-variants as P
 use Rattle.driver.specs.declared.Record.{Record}
 use Rattle.driver.specs.declared.Counters.{Counters}
-use Rattle.driver.specs.declared.Answer.the-variants.{Refused}
-use Rattle.driver.specs.Calls.{Held, Called, sized, whole-area, as-long, pending, in-range, awaiting, may-attempt, may-accept, room, has-room}
+use Rattle.driver.specs.Calls.{Held, sized, whole-area, as-long, pending, in-range, awaiting, may-attempt, may-accept, room, has-room}
 use Rattle.session.specs.Attempt.{done, stopped, ask, Finished-attempt}
 use Rattle.session.specs.Session.{ready-with, tried, Doing, none, within, Session, rests, has-tried, waits, waits-with-room}
 use Rattle.session.proofs.Truth.{differ, and-left}

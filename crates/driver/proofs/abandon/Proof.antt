@@ -1,4 +1,4 @@
--- `abandon` meets its contract: turned away by its cause; without one, only the phase changes.
+-- `abandon` meets its contract: turned away with the number of its cause (Ladder); without one, only the phase changes.
 use mathlib.Core.Path.{refl, sym, _∙_}
 use borrow.Author.Needs.{needs}
 use Rattle.driver.specs.Calls.{abandon-tests, abandon}

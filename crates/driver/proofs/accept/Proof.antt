@@ -1,4 +1,4 @@
--- `accept` meets its contract: turned away by its cause; without one, two vectors are copied.
+-- `accept` meets its contract: turned away with the number of its cause (Ladder); without one (Clear), two vectors are copied.
 use mathlib.Core.Path.{refl, ap, _∙_}
 use native.Mathlib.Omega.{arith}
 use borrow.Author.Needs.{needs}

@@ -1,4 +1,4 @@
--- `accept_with_callback` meets its contract: turned away by its cause; without one, the state is kept.
+-- `accept_with_callback` meets its contract: turned away with the number of its cause (Ladder); without one (Clear), the state is kept.
 use mathlib.Core.Path.{refl, _∙_}
 use borrow.Author.Needs.{needs}
 use Rattle.family.specs.Family.{family-of}

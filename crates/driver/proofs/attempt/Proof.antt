@@ -1,4 +1,4 @@
--- `attempt` meets its contract: turned away by its cause; without one, the first pass is begun.
+-- `attempt` meets its contract: turned away with the number of its cause (Ladder); without one (Clear), the first pass is begun.
 use mathlib.Core.Path.{_≡_, refl, ap, _∙_}
 use native.Mathlib.Omega.{arith}
 use borrow.Author.Needs.{needs}

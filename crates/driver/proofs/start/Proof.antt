@@ -1,4 +1,4 @@
--- `start` meets its contract: turned away by its cause; without one, the state is kept and the eigenvector zeroed.
+-- `start` meets its contract: turned away with the number of its cause (Ladder); without one (Clear), the state is kept and the eigenvector zeroed.
 use mathlib.Core.Path.{refl, ap, _∙_}
 use native.Mathlib.Omega.{arith}
 use borrow.Author.Needs.{needs}

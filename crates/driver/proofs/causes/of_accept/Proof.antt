@@ -1,4 +1,4 @@
--- `of_accept` meets its contract: by the test that fails, past those before it.
+-- `of_accept` gives the number of its call's first failing test: each answer by the ruleset `ladder`, from what the tests up to it have found.
 use borrow.Author.Needs.{needs}
 use Rattle.driver.specs.Calls.{accept-tests}
 use Rattle.driver.proofs.Ladder.{ladder, passes}
