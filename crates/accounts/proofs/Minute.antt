@@ -5,8 +5,8 @@ use mathlib.Core.Bool.{Bool, true, false, cond, _&&_, _||_, false≢true}
 use mathlib.Core.List.{List}
 use Prim.Native.Nat.{ℕ, zero, suc, _+_, _≤_}
 use native.Mathlib.Omega.{arith}
-use borrow.Author.Tests.{eqb-true}
-use lib.Dec.{ltb, eqb}
+use borrow.Author.Tests.{eqb-true, leb-true}
+use lib.Dec.{leb, ltb, eqb}
 use lib.ListN.{length}
 use lib.Ieee.{Float}
 use lib.Ieee.Scale.{finite}
@@ -26,11 +26,13 @@ use Rattle.driver.specs.declared.Record.{Record}
 use Rattle.driver.specs.declared.Need.{Need}
 use Rattle.driver.specs.declared.Need.the-variants.{Met, Unmet}
 use Rattle.driver.specs.Calls as calls
-use Rattle.driver.specs.Calls.{Held, Called, Step, check}
+use Rattle.driver.specs.Calls.{Held, Called, Step, Test, admitted, first-failing, guarded}
 use Rattle.driver.specs.Promises.{holding}
-use Rattle.driver.proofs.Sizes.{both}
+use Rattle.ieee.proofs.Logic.{both, and-left, and-right}
+use Rattle.driver.proofs.Ladder.{each-passes, admits, by-tests, goes-ahead}
 use Rattle.session.specs.Refusals.{largest-number}
 use Rattle.session.proofs.Needs.{Needed, need-holds}
+use Rattle.session.proofs.Guards.{low, low-fails}
 use Rattle.session.proofs.Lengths.{whole-pack, long-area, replied-long}
 use Rattle.heat_sink.specs.declared.Inverter.{Inverter}
 use Rattle.inverter.specs.Day.{time-of, called, begun, go-on, next, driven, most-calls, passed, taken, finished, refusal}
@@ -98,8 +100,8 @@ module _ (r : Record) where
 -- an accept whose tests pass
 accept-goes : (h : Held) → known (h .kept .family) ≡ true → calls.sized (h .kept .n) ≡ true → calls.whole-area (h .kept .family) (h .kept .n) (h .area) ≡ true
     → calls.may-accept (h .kept .phase) ≡ true → calls.accept h .answer ≡ Ready
-unfolding calls.accept check calls.going-on calls.accepted
-accept-goes h f n w p = rw (f, n, w, p) refl
+unfolding calls.accept calls.accept-tests calls.going-on calls.accepted
+accept-goes h f n w p = ap (λ (x : Called). x .answer) (goes-ahead h (calls.accept-tests (h .kept) (h .area)) _ (admits (calls.accept-tests (h .kept) (h .area)) (f, n, w, p, tt)))
 
 -- ---- where a call stands, in a minute that began with so many finished attempts
 
@@ -131,41 +133,26 @@ module _ (n : ℕ) (h : Held) (e : h .counters .«finished_attempts» ≡ n) whe
   counts Empty k v o f s l = o
 
   -- an accept that is not turned away
-  admitted : (i : ℕ) (t : Bool) (go : Called) → (go .answer ≡ Ready → Stands n go) → check h i t go .answer ≡ Ready → Stands n (check h i t go)
-  unfolding check
-  admitted i true go s q = s q
-  admitted i false go s q = let z : _≡_ {A = ℕ} 0 1 = cc in absurd (omega arith)
-
   accept-stands : calls.accept h .answer ≡ Ready → Stands n (calls.accept h)
   unfolding calls.accept calls.going-on calls.accepted calls.in-phase calls.may-accept Stand
-  accept-stands q = admitted 1 _ _ (admitted 2 _ _ (admitted 3 _ _ (admitted 4 _ _ (λ z. (e, refl))))) q
+  accept-stands =
+      by-tests (λ (x : Called). x .answer ≡ Ready → Stands n x) h (calls.accept-tests (h .kept) (h .area)) _ (λ _ _. (e, refl))
+      (λ k _ q. let z : _≡_ {A = ℕ} 0 1 = cc in absurd (omega arith))
 
   module _ (p : calls.may-accept (h .kept .phase) ≡ false) where
-    checked : (i : ℕ) (t : Bool) (go : Called) → 1 ≤ i → i ≤ largest-number → (t ≡ true → Stands n go) → Stands n (check h i t go)
-    unfolding check Stand
-    checked i true go l m s = s refl
-    checked i false go l m s = (l, m, e, p)
+    guarded-stands : (ts : List Test) (go : Called) → low ts ≡ true → (first-failing ts ≡ admitted → Stands n go) → Stands n (guarded h ts go)
+    unfolding Stand
+    guarded-stands ts go l s = by-tests (Stands n) h ts go s
+        (λ k q. let t = low-fails ts k l q in
+        (leb-true 1 k (and-left (leb 1 k) (leb k 8) t), omega (arith, leb-true k 8 (and-right (leb 1 k) (leb k 8) t)), e, p))
 
     start-stands : (f k : ℕ) (y : List Float) (t : Float) → Stands n (calls.start h f k y t)
-    unfolding calls.start calls.first-at calls.may-accept Stand
-    start-stands f k y t =
-        checked 1 _ _ (omega arith) (omega arith)
-        (λ a. checked 2 _ _ (omega arith) (omega arith)
-        (λ b. checked 3 _ _ (omega arith) (omega arith)
-        (λ c. checked 5 _ _ (omega arith) (omega arith)
-        (λ d. checked 6 _ _ (omega arith) (omega arith)
-        (λ g. (e, refl))))))
+    unfolding calls.start calls.start-tests calls.first-at calls.may-accept Stand
+    start-stands f k y t = guarded-stands (calls.start-tests f k (h .area) y t) _ refl (λ _. (e, refl))
 
     attempt-stands : (a : Arguments) → Stands n (calls.attempt h a)
-    unfolding calls.attempt calls.going-on calls.attempted calls.ask-pass calls.at-pass calls.may-accept Stand
-    attempt-stands a =
-        checked 1 _ _ (omega arith) (omega arith)
-        (λ b. checked 2 _ _ (omega arith) (omega arith)
-        (λ c. checked 3 _ _ (omega arith) (omega arith)
-        (λ d. checked 4 _ _ (omega arith) (omega arith)
-        (λ f. checked 6 _ _ (omega arith) (omega arith)
-        (λ g. checked 7 _ _ (omega arith) (omega arith)
-        (λ i. (e, refl)))))))
+    unfolding calls.attempt calls.attempt-tests calls.going-on calls.attempted calls.ask-pass calls.at-pass calls.may-accept Stand
+    attempt-stands a = guarded-stands (calls.attempt-tests (h .kept) (h .area) a) _ refl (λ _. (e, refl))
 
     replied-stands : (d : List Float) → known (h .kept .family) ≡ true → calls.sized (h .kept .n) ≡ true
         → calls.whole-area (h .kept .family) (h .kept .n) (h .area) && calls.as-long (h .kept .n) d ≡ true → (t : Bool)
@@ -181,14 +168,9 @@ module _ (n : ℕ) (h : Held) (e : h .counters .«finished_attempts» ≡ n) whe
     replied-stands d f s w false = (omega arith, omega arith, e, refl)
 
     reply-stands : (d : List Float) → Stands n (calls.reply h d)
-    unfolding calls.reply
-    reply-stands d =
-        checked 1 _ _ (omega arith) (omega arith)
-        (λ f. checked 2 _ _ (omega arith) (omega arith)
-        (λ s. checked 3 _ _ (omega arith) (omega arith)
-        (λ w. checked 4 _ _ (omega arith) (omega arith)
-        (λ g. checked 8 _ _ (omega arith) (omega arith)
-        (λ i. replied-stands d f s w (all-finite d))))))
+    unfolding calls.reply calls.reply-tests
+    reply-stands d = let ts = calls.reply-tests (h .kept) (h .counters) (h .area) d in
+        guarded-stands ts _ refl (λ q. let t = each-passes ts q in replied-stands d (t .0) (t .1 .0) (t .1 .1 .0) (all-finite d))
 
 -- ---- a minute
 

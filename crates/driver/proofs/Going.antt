@@ -13,9 +13,10 @@ use Rattle.driver.specs.declared.Phase.the-variants as P
 use Rattle.driver.specs.declared.Record.{Record}
 use Rattle.driver.specs.declared.Staging.{Staging}
 use Rattle.driver.specs.declared.Counters.{Counters}
-use Rattle.driver.specs.Calls.{reply, replied, take-stage, sized, whole-area, as-long, pending, in-range, good-stage, awaiting, finishes, room, has-room, one-more, counted}
+use Rattle.driver.specs.Calls.{sized, whole-area, as-long, pending, in-range, good-stage, awaiting, finishes, room, has-room}
+use Rattle.driver.specs.Calls.{reply-tests, reply, replied, take-stage, one-more, counted}
 use Rattle.driver.specs.Promises.{Meets, Steps, holding, asked-at, in-stages, goes-on}
-use Rattle.driver.proofs.Ladder.{beyond}
+use Rattle.driver.proofs.Ladder.{Passing, admits, admitted-meets}
 use Rattle.driver.proofs.Sizes.{both, three, four}
 use Rattle.driver.proofs.Steps.{as-step}
 use Rattle.driver.proofs.Counting.{settles}
@@ -78,11 +79,9 @@ roomy p c e h = ap (λ (p : Phase). has-room p c) e ∙ ap (λ (b : Bool). b && 
 pub goes : (r : Record) (c : Counters) (area d : List Float) (g : Staging) (left : List Float) → Passed r c area d
     → length left ≡ vector-count (family-of (r .family)) * r .n → Steps (take-stage r (unpack (r .n) area) d) (asked-at g r) (unpack (r .n) left)
     → Meets (reply (holding r c area) d) (asked-at g r .answer) (asked-at g r .«record») (one-more c) left
-unfolding reply replied counted
+unfolding reply reply-tests replied counted
 goes r c area d g left p h t =
-    beyond _ _ (p .family)
-    (beyond _ _ (p .size)
-    (beyond _ _ (p .lengths)
-    (beyond _ _ (awaits r (p .phase) (p .place))
-    (beyond _ _ (roomy (r .phase) c (p .phase) (p .more))
-    (settles _ (family-of (r .family)) (r .n) left (p .finite) h (as-step (sym (ap (λ (q : Phase). replied q r (unpack (r .n) area) d) (p .phase))) t) refl)))))
+    let ts = reply-tests r c area d in
+    let each : Passing ts = (p .family, (p .size, (p .lengths, (awaits r (p .phase) (p .place), (roomy (r .phase) c (p .phase) (p .more), tt))))) in
+    admitted-meets _ _ (admits ts each)
+    (settles _ (family-of (r .family)) (r .n) left (p .finite) h (as-step (sym (ap (λ (q : Phase). replied q r (unpack (r .n) area) d) (p .phase))) t) refl)

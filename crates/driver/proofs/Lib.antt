@@ -1,5 +1,6 @@
 pub mod Ladder
 pub mod Sizes
+pub mod Clear
 pub mod Ranges
 pub mod Steps
 pub mod Counting

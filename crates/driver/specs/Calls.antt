@@ -1,7 +1,7 @@
 -- The calls, one after another: what each answers, and what it leaves of record, counters and area. Document 01, "driver.rs: the calls" and "When a call is turned away".
 use Prim.Native.Nat.{ℕ, _+_, _-_, _*_, _^_}
 use mathlib.Core.Bool.{Bool, true, false, cond, not, _&&_, _||_}
-use mathlib.Core.List.{List}
+use mathlib.Core.List.{List, [], _∷_}
 use lib.Dec.{leb, ltb, eqb}
 use lib.ListN.{length, replicate}
 use lib.Ieee.{Float, eq, lt}
@@ -227,28 +227,109 @@ finishes P.Callback = false
 unfoldable pub has-room : Phase → Counters → Bool
 has-room p c = room (c .evaluations) && (not (finishes p) || room (c .«finished_attempts»))
 
--- turned away with this number, everything left as it was, unless the test passes
-unfoldable pub check : Held → ℕ → Bool → Called → Called
-check h i test go = cond test go (record { answer = Refused i; held = h })
+-- ---- the tests of a call, in order
+
+-- a test: the number of its cause, and whether it passes
+pub record Test : Type 0 where
+  pub cause : ℕ
+  pub passes : Bool
+
+infix 90 _∶_
+abbrev pub _∶_ : ℕ → Bool → Test
+cause ∶ passes = record { cause = cause; passes = passes }
+
+pub data Verdict : Type 0 where
+  admitted : Verdict
+  refused-with : ℕ → Verdict
+
+-- by the first test that fails
+unfoldable pub first-failing : List Test → Verdict
+first-failing [] = admitted
+first-failing (t ∷ ts) = cond (t .passes) (first-failing ts) (refused-with (t .cause))
+
+-- the code's number for a verdict: 0 where no test fails
+unfoldable pub cause-of : Verdict → ℕ
+cause-of admitted = 0
+cause-of (refused-with k) = k
+
+-- a call that is turned away leaves everything as it was
+unfoldable pub decide : Verdict → Held → Called → Called
+decide admitted h go = go
+decide (refused-with k) h go = record { answer = Refused k; held = h }
+
+unfoldable pub guarded : Held → List Test → Called → Called
+guarded h tests go = decide (first-failing tests) h go
+
+-- These six lists are the table of "When a call is turned away", call by call. "Tests run in this order. Every call has 1 to 4 (start: on what it brings, and
+-- no phase); start and accept with a callback 5 and time in 6; attempt 6 and 7, with or without `adaptive`; every reply 8". Numbers 9 and 10 are no tests
+-- here: a reply that comes to them is counted and ends its phase (`spoiled`, `ask-candidate`). session/specs/Refusals spells that sentence by itself.
+
+unfoldable pub start-tests : ℕ → ℕ → List Float → List Float → Float → List Test
+start-tests f n area y t =
+    1 ∶ known f
+    ∷ 2 ∶ sized n
+    ∷ 3 ∶ (whole-area f n area && as-long n y)
+    ∷ 5 ∶ all-finite y
+    ∷ 6 ∶ finite t
+    ∷ []
+
+unfoldable pub attempt-tests : Record → List Float → Arguments → List Test
+attempt-tests r area a =
+    1 ∶ known (r .family)
+    ∷ 2 ∶ sized (r .n)
+    ∷ 3 ∶ whole-area (r .family) (r .n) area
+    ∷ 4 ∶ may-attempt (r .phase)
+    ∷ 6 ∶ good-times a
+    ∷ 7 ∶ good-tolerances a
+    ∷ []
+
+unfoldable pub reply-tests : Record → Counters → List Float → List Float → List Test
+reply-tests r c area d =
+    1 ∶ known (r .family)
+    ∷ 2 ∶ sized (r .n)
+    ∷ 3 ∶ (whole-area (r .family) (r .n) area && as-long (r .n) d)
+    ∷ 4 ∶ awaiting r
+    ∷ 8 ∶ has-room (r .phase) c
+    ∷ []
+
+unfoldable pub accept-tests : Record → List Float → List Test
+accept-tests r area =
+    1 ∶ known (r .family)
+    ∷ 2 ∶ sized (r .n)
+    ∷ 3 ∶ whole-area (r .family) (r .n) area
+    ∷ 4 ∶ may-accept (r .phase)
+    ∷ []
+
+unfoldable pub callback-tests : Record → List Float → List Float → Float → List Test
+callback-tests r area y t =
+    1 ∶ known (r .family)
+    ∷ 2 ∶ sized (r .n)
+    ∷ 3 ∶ (whole-area (r .family) (r .n) area && as-long (r .n) y)
+    ∷ 4 ∶ may-accept (r .phase)
+    ∷ 5 ∶ all-finite y
+    ∷ 6 ∶ finite t
+    ∷ []
+
+unfoldable pub abandon-tests : Record → List Float → List Test
+abandon-tests r area =
+    1 ∶ known (r .family)
+    ∷ 2 ∶ sized (r .n)
+    ∷ 3 ∶ whole-area (r .family) (r .n) area
+    ∷ 4 ∶ awaiting r
+    ∷ []
 
 -- ---- the calls
 
 -- allowed in every phase; what it does not bring stands in the record too
 unfoldable pub start : Held → ℕ → ℕ → List Float → Float → Called
-start h f n y t =
-    check h 1 (known f)
-    (check h 2 (sized n)
-    (check h 3 (whole-area f n (h .area) && as-long n y)
-    (check h 5 (all-finite y)
-    (check h 6 (finite t)
-    (record {
-      answer = Evaluate t (number state);
-      held = record {
-        kept = first-at P.First f n t (h .kept);
-        counters = h .counters;
-        area = pack (unpack n (h .area) with state ≔ y with eigenvector ≔ replicate n nought);
-      };
-    })))))
+start h f n y t = guarded h (start-tests f n (h .area) y t) (record {
+  answer = Evaluate t (number state);
+  held = record {
+    kept = first-at P.First f n t (h .kept);
+    counters = h .counters;
+    area = pack (unpack n (h .area) with state ≔ y with eigenvector ≔ replicate n nought);
+  };
+})
 
 -- what follows, the counters being c
 unfoldable pub going-on : Counters → Step → Called
@@ -260,14 +341,7 @@ attempted h a = let r = h .kept in
     ask-pass (at-pass a 1 (perturbation-of v) nought r) (with-direction (r .n) v)
 
 unfoldable pub attempt : Held → Arguments → Called
-attempt h a = let r = h .kept in
-    check h 1 (known (r .family))
-    (check h 2 (sized (r .n))
-    (check h 3 (whole-area (r .family) (r .n) (h .area))
-    (check h 4 (may-attempt (r .phase))
-    (check h 6 (good-times a)
-    (check h 7 (good-tolerances a)
-    (going-on (h .counters) (attempted h a)))))))
+attempt h a = guarded h (attempt-tests (h .kept) (h .area) a) (going-on (h .counters) (attempted h a))
 
 abbrev pub one-more : Counters → Counters
 one-more c = record { evaluations = c .evaluations + 1; «finished_attempts» = c .«finished_attempts» }
@@ -289,26 +363,17 @@ settled c x = going-on (counted (x .answer) c) x
 
 unfoldable pub reply : Held → List Float → Called
 reply h d = let r = h .kept in
-    check h 1 (known (r .family))
-    (check h 2 (sized (r .n))
-    (check h 3 (whole-area (r .family) (r .n) (h .area) && as-long (r .n) d)
-    (check h 4 (awaiting r)
-    (check h 8 (has-room (r .phase) (h .counters))
+    guarded h (reply-tests r (h .counters) (h .area) d)
     (cond (all-finite d)
     (settled (h .counters) (replied (r .phase) r (unpack (r .n) (h .area)) d))
-    (spoiled h))))))
+    (spoiled h))
 
 -- the last derivative becomes the first, the candidate the kept state; the record's time stands
 unfoldable pub accepted : Record → Vectors → Step
 accepted r v = step-to Ready (in-phase P.Ready r) (v with first-derivative ≔ v last-derivative with state ≔ v candidate)
 
 unfoldable pub accept : Held → Called
-accept h = let r = h .kept in
-    check h 1 (known (r .family))
-    (check h 2 (sized (r .n))
-    (check h 3 (whole-area (r .family) (r .n) (h .area))
-    (check h 4 (may-accept (r .phase))
-    (going-on (h .counters) (accepted r (unpack (r .n) (h .area)))))))
+accept h = guarded h (accept-tests (h .kept) (h .area)) (going-on (h .counters) (accepted (h .kept) (unpack (h .kept .n) (h .area))))
 
 -- a new state is kept and evaluated
 unfoldable pub called-back : Record → List Float → Float → Vectors → Step
@@ -316,22 +381,12 @@ called-back r y t v = step-to (Evaluate t (number state)) (first-at P.Callback (
 
 unfoldable pub accept-with-callback : Held → List Float → Float → Called
 accept-with-callback h y t = let r = h .kept in
-    check h 1 (known (r .family))
-    (check h 2 (sized (r .n))
-    (check h 3 (whole-area (r .family) (r .n) (h .area) && as-long (r .n) y)
-    (check h 4 (may-accept (r .phase))
-    (check h 5 (all-finite y)
-    (check h 6 (finite t)
-    (going-on (h .counters) (called-back r y t (unpack (r .n) (h .area)))))))))
+    guarded h (callback-tests r (h .area) y t) (going-on (h .counters) (called-back r y t (unpack (r .n) (h .area))))
 
 -- the pending evaluation ends uncounted
 unfoldable pub abandon : Held → Called
 abandon h = let r = h .kept in
-    check h 1 (known (r .family))
-    (check h 2 (sized (r .n))
-    (check h 3 (whole-area (r .family) (r .n) (h .area))
-    (check h 4 (awaiting r)
-    (record { answer = Empty; held = record { kept = in-phase P.Empty r; counters = h .counters; area = h .area } }))))
+    guarded h (abandon-tests r (h .area)) (record { answer = Empty; held = record { kept = in-phase P.Empty r; counters = h .counters; area = h .area } })
 
 -- ---- any of them
 

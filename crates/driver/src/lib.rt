@@ -11,6 +11,7 @@ use coefficients::Polynomials;
 use coefficients::Recurrence;
 use workspace::Arguments;
 
+mod causes;
 mod checks;
 mod position;
 mod replies;
@@ -168,20 +169,9 @@ pub fn start(
 ) -> Next
     ensures { λ r. ⌜ Keeps (λ c. calls.start (holding «record» c (now (area .entry))) family n (now (state .entry)) time) r (now (area .exit)) ⌝ }
 {
-    if !checks::known(family) {
-        return refused(record, 1);
-    }
-    if !checks::sized(n) {
-        return refused(record, 2);
-    }
-    if !checks::both_long(family, n, area, state) {
-        return refused(record, 3);
-    }
-    if !workspace::all_finite(state) {
-        return refused(record, 5);
-    }
-    if !ieee::is_finite(time) {
-        return refused(record, 6);
+    let cause = causes::of_start(family, n, area, state, time);
+    if cause != 0 {
+        return refused(record, cause);
     }
     workspace::put_vector(area, n, workspace::STATE, state);
     workspace::fill_vector(area, n, workspace::EIGENVECTOR, 0.0);
@@ -199,26 +189,11 @@ pub fn start(
 pub fn attempt(record: Record, area: &mut [f64], arguments: Arguments) -> Next
     ensures { λ r. ⌜ Keeps (λ c. calls.attempt (holding «record» c (now (area .entry))) arguments) r (now (area .exit)) ⌝ }
 {
+    let cause = causes::of_attempt(record, area, arguments);
+    if cause != 0 {
+        return refused(record, cause);
+    }
     let n = record.n;
-    let phase = record.phase;
-    if !checks::known(record.family) {
-        return refused(record, 1);
-    }
-    if !checks::sized(n) {
-        return refused(record, 2);
-    }
-    if !checks::whole_area(record.family, n, area) {
-        return refused(record, 3);
-    }
-    if !checks::may_attempt(phase) {
-        return refused(record, 4);
-    }
-    if !checks::good_times(arguments) {
-        return refused(record, 6);
-    }
-    if !checks::good_tolerances(arguments) {
-        return refused(record, 7);
-    }
     let perturbation = workspace::perturbation(area, n);
     let norm = workspace::choose_direction(area, n);
     let begun = position::at_pass(record, arguments, 1, perturbation, 0.0);
@@ -286,22 +261,9 @@ fn spoiled(record: Record, counters: Counters) -> Replied
 pub fn reply(record: Record, counters: Counters, area: &mut [f64], derivative: &[f64]) -> Replied
     ensures { λ r. ⌜ Meets (calls.reply (holding «record» counters (now (area .entry))) (now (derivative .entry))) (r .answer) (r .«record») (r .counters) (now (area .exit)) ⌝ }
 {
-    let n = record.n;
-    let phase = record.phase;
-    if !checks::known(record.family) {
-        return turned_away(record, counters, 1);
-    }
-    if !checks::sized(n) {
-        return turned_away(record, counters, 2);
-    }
-    if !checks::both_long(record.family, n, area, derivative) {
-        return turned_away(record, counters, 3);
-    }
-    if !checks::awaiting(record) {
-        return turned_away(record, counters, 4);
-    }
-    if !checks::has_room(phase, counters) {
-        return turned_away(record, counters, 8);
+    let cause = causes::of_reply(record, counters, area, derivative);
+    if cause != 0 {
+        return turned_away(record, counters, cause);
     }
     if !workspace::all_finite(derivative) {
         return spoiled(record, counters);
@@ -346,20 +308,11 @@ pub fn stage_on(record: Record, counters: Counters, area: &mut [f64], derivative
 pub fn accept(record: Record, area: &mut [f64]) -> Next
     ensures { λ r. ⌜ Keeps (λ c. calls.accept (holding «record» c (now (area .entry)))) r (now (area .exit)) ⌝ }
 {
+    let cause = causes::of_accept(record, area);
+    if cause != 0 {
+        return refused(record, cause);
+    }
     let n = record.n;
-    let phase = record.phase;
-    if !checks::known(record.family) {
-        return refused(record, 1);
-    }
-    if !checks::sized(n) {
-        return refused(record, 2);
-    }
-    if !checks::whole_area(record.family, n, area) {
-        return refused(record, 3);
-    }
-    if !checks::may_accept(phase) {
-        return refused(record, 4);
-    }
     workspace::copy_vector(
         area,
         n,
@@ -378,26 +331,11 @@ pub fn accept(record: Record, area: &mut [f64]) -> Next
 pub fn accept_with_callback(record: Record, area: &mut [f64], state: &[f64], time: f64) -> Next
     ensures { λ r. ⌜ Keeps (λ c. calls.accept-with-callback (holding «record» c (now (area .entry))) (now (state .entry)) time) r (now (area .exit)) ⌝ }
 {
+    let cause = causes::of_callback(record, area, state, time);
+    if cause != 0 {
+        return refused(record, cause);
+    }
     let n = record.n;
-    let phase = record.phase;
-    if !checks::known(record.family) {
-        return refused(record, 1);
-    }
-    if !checks::sized(n) {
-        return refused(record, 2);
-    }
-    if !checks::both_long(record.family, n, area, state) {
-        return refused(record, 3);
-    }
-    if !checks::may_accept(phase) {
-        return refused(record, 4);
-    }
-    if !workspace::all_finite(state) {
-        return refused(record, 5);
-    }
-    if !ieee::is_finite(time) {
-        return refused(record, 6);
-    }
     workspace::put_vector(area, n, workspace::STATE, state);
     let waiting = position::first_at(record, Phase::Callback, record.family, n, time);
     Next {
@@ -413,18 +351,9 @@ pub fn accept_with_callback(record: Record, area: &mut [f64], state: &[f64], tim
 pub fn abandon(record: Record, area: &[f64]) -> Next
     ensures { λ r. ⌜ Keeps (λ c. calls.abandon (holding «record» c (now (area .entry)))) r (now (area .entry)) ⌝ }
 {
-    let n = record.n;
-    if !checks::known(record.family) {
-        return refused(record, 1);
-    }
-    if !checks::sized(n) {
-        return refused(record, 2);
-    }
-    if !checks::whole_area(record.family, n, area) {
-        return refused(record, 3);
-    }
-    if !checks::awaiting(record) {
-        return refused(record, 4);
+    let cause = causes::of_abandon(record, area);
+    if cause != 0 {
+        return refused(record, cause);
     }
     let empty = position::in_phase(record, Phase::Empty);
     Next {

@@ -24,8 +24,9 @@ use Rattle.driver.specs.declared.Record.{Record}
 use Rattle.driver.specs.declared.Need.{Need}
 use Rattle.driver.specs.declared.Need.the-variants.{Met, Unmet}
 use Rattle.driver.specs.Calls as calls
-use Rattle.driver.specs.Calls.{Held, Called, Step, check}
+use Rattle.driver.specs.Calls.{Held, Called, Step, Test, guarded}
 use Rattle.driver.proofs.Sizes.{both}
+use Rattle.driver.proofs.Ladder.{Passing, each-passes, by-tests}
 use Rattle.driver.proofs.Ranges.{pass-in, need-most}
 use Rattle.heat_sink.specs.declared.Inverter.{Inverter}
 use Rattle.inverter.specs.Day.{begun, go-on, next, driven, settled, asked, passed, time-of, most-calls}
@@ -148,10 +149,9 @@ module _ (k : ℕ) (r : Record) (v : Vectors) (d : List Float) where
 -- ---- the calls
 
 -- turned away, or not
-checked : (k : ℕ) (h : Held) (i : ℕ) (t : Bool) (go : Called) → (t ≡ true → Follows k go) → Follows k (check h i t go)
-unfolding check Follow
-checked k h i true go f = f refl
-checked k h i false go f = tt
+guarded-follows : (k : ℕ) (h : Held) (ts : List Test) (go : Called) → (Passing ts → Follows k go) → Follows k (guarded h ts go)
+unfolding Follow
+guarded-follows k h ts go f = by-tests (Follows k) h ts go (λ e. f (each-passes ts e)) (λ i e. tt)
 
 module _ (k : ℕ) (h : Held) where
   taken : (d : List Float) → calls.awaiting (h .kept) ≡ true → calls-left (h .kept .phase) (h .kept) ≤ suc k → (t : Bool)
@@ -162,9 +162,8 @@ module _ (k : ℕ) (h : Held) where
   taken d e l false = tt
 
   reply-follows : (d : List Float) → calls-left (h .kept .phase) (h .kept) ≤ suc k → Follows k (calls.reply h d)
-  unfolding calls.reply
-  reply-follows d l =
-      checked k h 1 _ _ (λ e. checked k h 2 _ _ (λ e. checked k h 3 _ _ (λ e. checked k h 4 _ _ (λ w. checked k h 8 _ _ (λ e. taken d w l (all-finite d))))))
+  unfolding calls.reply calls.reply-tests
+  reply-follows d l = let ts = calls.reply-tests (h .kept) (h .counters) (h .area) d in guarded-follows k h ts _ (λ p. taken d (p .1 .1 .1 .0) l (all-finite d))
 
   attempted : (a : Arguments) → most-calls - 2 ≤ k → Follows k (calls.going-on (h .counters) (calls.attempted h a))
   unfolding calls.going-on calls.attempted Goes
@@ -172,17 +171,15 @@ module _ (k : ℕ) (h : Held) where
 
   attempt-follows : (a : Arguments) → most-calls - 2 ≤ k → Follows k (calls.attempt h a)
   unfolding calls.attempt
-  attempt-follows a l =
-      checked k h 1 _ _ (λ e. checked k h 2 _ _ (λ e. checked k h 3 _ _ (λ e. checked k h 4 _ _ (λ e. checked k h 6 _ _ (λ e. checked k h 7 _ _ (λ e. attempted a l))))))
+  attempt-follows a l = guarded-follows k h _ _ (λ e. attempted a l)
 
   start-follows : (f n : ℕ) (y : List Float) (t : Float) → most-calls ≤ k → Follows k (calls.start h f n y t)
   unfolding calls.start calls.first-at Follow calls-left
-  start-follows f n y t l =
-      checked k h 1 _ _ (λ e. checked k h 2 _ _ (λ e. checked k h 3 _ _ (λ e. checked k h 5 _ _ (λ e. checked k h 6 _ _ (λ e. (omega arith, l))))))
+  start-follows f n y t l = guarded-follows k h _ _ (λ e. (omega arith, l))
 
   accept-follows : most-calls - 1 ≤ k → Follows k (calls.accept h)
   unfolding calls.accept calls.going-on calls.accepted Follow
-  accept-follows l = checked k h 1 _ _ (λ e. checked k h 2 _ _ (λ e. checked k h 3 _ _ (λ e. checked k h 4 _ _ (λ e. l))))
+  accept-follows l = guarded-follows k h _ _ (λ e. l)
 
 -- ---- a minute
 

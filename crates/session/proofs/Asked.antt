@@ -22,7 +22,8 @@ use Rattle.driver.specs.declared.Staging.{Staging}
 use Rattle.driver.specs.declared.Record.{Record}
 use Rattle.driver.specs.declared.Counters.{Counters}
 use Rattle.driver.specs.declared.Answer.the-variants.{Evaluate}
-use Rattle.driver.specs.Calls.{Held, Called, step-to, in-phase, replied, sized, as-long, awaiting, finishes, has-room, check, going-on, counted, spoiled, settled, reply}
+use Rattle.driver.specs.Calls.{Held, Called, step-to, in-phase, replied, sized, as-long, awaiting, finishes, has-room, going-on, counted, spoiled, settled}
+use Rattle.driver.specs.Calls.{reply, first-failing, decide, guarded, reply-tests}
 use Rattle.session.specs.Attempt.{Purpose, closes, Asking, done, stopped, ask, Finished-attempt, evaluated}
 use Rattle.session.specs.Claim.{called-for}
 use Rattle.session.proofs.Lengths.{whole-pack}
@@ -35,7 +36,7 @@ module _ (r : Record) (c : Counters) (v : Vectors) (hk : known (r .family) ≡ t
 
   pub reply-is : awaiting r ≡ true → has-room (r .phase) c ≡ true → (d : List Float) → length d ≡ r .n
       → reply held-at d ≡ cond (all-finite d) (settled c (replied (r .phase) r v d)) (spoiled held-at)
-  unfolding reply check as-long
+  unfolding reply reply-tests guarded decide first-failing as-long
   reply-is ha hr d hd = rw (hk, hs, whole-pack (r .family) (r .n) v hv, eq-eqb (length d) (r .n) hd, ha, hr, unpack-pack (r .n) v hv)
 
 module _ (h : Held) where

@@ -20,7 +20,8 @@ use Rattle.driver.specs.declared.Record.{Record}
 use Rattle.driver.specs.Calls.{Held, Called, pending, good-stage, in-range, awaiting}
 use Rattle.session.specs.Attempt.{Finished-attempt}
 use Rattle.session.specs.Claim.{Finishes}
-use Rattle.session.proofs.Truth.{holds, and-left, and-right}
+use Rattle.ieee.proofs.Logic.{and-left, and-right}
+use Rattle.session.proofs.Truth.{holds}
 
 -- ---- a reply to a stage
 

@@ -4,8 +4,8 @@ use mathlib.Core.Bool.{Bool, true, false, cond, _&&_, _||_}
 use mathlib.Core.List.{List}
 use Prim.Native.Nat.{ℕ, _+_, _≤_}
 use native.Mathlib.Omega.{arith}
-use lib.Dec.{ltb, eqb}
-use borrow.Author.Tests.{eqb-true}
+use lib.Dec.{leb, ltb, eqb}
+use borrow.Author.Tests.{eqb-true, leb-true}
 use lib.ListN.{length}
 use lib.Ieee.{Float}
 use Rattle.ieee.specs.Double.{_⊕_}
@@ -24,15 +24,22 @@ use Rattle.driver.specs.declared.Need.the-variants.{Met, Unmet}
 use Rattle.driver.specs.declared.Answer.{Answer}
 use Rattle.driver.specs.declared.Answer.the-variants.{Evaluate, Refused}
 use Rattle.driver.specs.Answers.{Says}
-use Rattle.driver.specs.Calls.{Held, Called, Step, step-to, in-phase, at-pass, at-stage, take-first, take-callback, ask-pass, ask-stage, stage-need, by-need, begin-stages, take-pass, ask-candidate, take-stage, take-candidate, replied, whole-area, as-long, check, start, attempted, going-on, attempt, counted, spoiled, settled, reply, accepted, accept, called-back, accept-with-callback, abandon, Call, Start, Attempt, Reply, Accept, Accept-with-callback, Abandon, made}
-use Rattle.session.specs.Refusals.{goes-on, verdict-of, Left}
-use Rattle.session.proofs.Truth.{and-left, and-right}
+use Rattle.driver.proofs.Ladder.{is-refused, each-passes, by-tests}
+use Rattle.driver.specs.Calls.{Held, Called, Step, step-to, in-phase, whole-area, as-long, Test, admitted, first-failing, guarded, counted}
+use Rattle.driver.specs.Calls.{start-tests, attempt-tests, reply-tests, accept-tests, callback-tests, abandon-tests}
+use Rattle.driver.specs.Calls.{at-pass, at-stage, take-first, take-callback, ask-pass, ask-stage, stage-need, by-need, begin-stages, take-pass, ask-candidate}
+use Rattle.driver.specs.Calls.{take-stage, take-candidate, replied, going-on, spoiled, settled, attempted, accepted, called-back}
+use Rattle.driver.specs.Calls.{start, attempt, reply, accept, accept-with-callback, abandon, made}
+use Rattle.driver.specs.Calls.{Call, Start, Attempt, Reply, Accept, Accept-with-callback, Abandon}
+use Rattle.session.specs.Refusals.{verdict-of, Left}
+use Rattle.ieee.proofs.Logic.{and-left, and-right}
 use Rattle.session.proofs.Needs.{Needed, need-holds}
 use Rattle.session.proofs.Lengths.{long-area, replied-long}
-use Rattle.session.proofs.Refused.{is-refused, same-number, says-refused}
+use Rattle.session.proofs.Guards.{low, low-fails}
+use Rattle.session.proofs.Refused.{same-number, says-refused}
 
 -- not refused at all
-unrefused : (y : Answer) (i : ℕ) → verdict-of y ≡ goes-on → y ≡ Refused i → ⊥
+unrefused : (y : Answer) (i : ℕ) → verdict-of y ≡ admitted → y ≡ Refused i → ⊥
 unrefused y i g e = subst is-refused (ap verdict-of (sym e) ∙ g) tt
 
 -- ---- a reply that passed its tests
@@ -46,7 +53,7 @@ pub record High (r : Record) (v : Vectors) (i : ℕ) (x : Step) : Type 0 where
 abbrev pub Refuses-high : Record → Vectors → Step → Type 0
 Refuses-high r v x = (i : ℕ) → x .answer ≡ Refused i → High r v i x
 
-on : (r : Record) (v : Vectors) (x : Step) → verdict-of (x .answer) ≡ goes-on → Refuses-high r v x
+on : (r : Record) (v : Vectors) (x : Step) → verdict-of (x .answer) ≡ admitted → Refuses-high r v x
 on r v x g i e = absurd (unrefused (x .answer) i g e)
 
 candidate-high : (r : Record) (v w : Vectors) → w last-derivative ≡ v last-derivative → Refuses-high r v (ask-candidate r w)
@@ -101,25 +108,25 @@ same h i low = record {
   area-stands = λ e. refl;
 }
 
-tested : (h : Held) (k : ℕ) (test : Bool) (go : Called) → k ≤ 8 → (test ≡ true → Leaves h go) → Leaves h (check h k test go)
-unfolding check
-tested h k true go low l = l refl
-tested h k false go low l = λ i e. let q = same-number k i e in same h i (omega arith)
+-- behind a list of tests of 1 to 8
+guards-leave : (h : Held) (ts : List Test) (go : Called) → low ts ≡ true → (first-failing ts ≡ admitted → Leaves h go) → Leaves h (guarded h ts go)
+guards-leave h ts go l on = by-tests (Leaves h) h ts go on
+    (λ k e i q. same h i (omega (arith, same-number k i q, leb-true k 8 (and-right (leb 1 k) (leb k 8) (low-fails ts k l e)))))
 
-passed : (h : Held) (x : Called) → verdict-of (x .answer) ≡ goes-on → Leaves h x
+passed : (h : Held) (x : Called) → verdict-of (x .answer) ≡ admitted → Leaves h x
 passed h x g i e = absurd (unrefused (x .answer) i g e)
 
 start-leaves : (h : Held) (f n : ℕ) (y : List Float) (t : Float) → Leaves h (start h f n y t)
-unfolding start
-start-leaves h f n y t = tested h 1 _ _ (omega arith) (λ _. tested h 2 _ _ (omega arith) (λ _. tested h 3 _ _ (omega arith) (λ _. tested h 5 _ _ (omega arith) (λ _. tested h 6 _ _ (omega arith) (λ _. passed h _ refl)))))
+unfolding start start-tests
+start-leaves h f n y t = guards-leave h (start-tests f n (h .area) y t) _ refl (λ _. passed h _ refl)
 
 attempt-leaves : (h : Held) (a : Arguments) → Leaves h (attempt h a)
-unfolding attempt going-on attempted ask-pass
-attempt-leaves h a = tested h 1 _ _ (omega arith) (λ _. tested h 2 _ _ (omega arith) (λ _. tested h 3 _ _ (omega arith) (λ _. tested h 4 _ _ (omega arith) (λ _. tested h 6 _ _ (omega arith) (λ _. tested h 7 _ _ (omega arith) (λ _. passed h _ refl))))))
+unfolding attempt attempt-tests going-on attempted ask-pass
+attempt-leaves h a = guards-leave h (attempt-tests (h .kept) (h .area) a) _ refl (λ _. passed h _ refl)
 
 reply-leaves : (h : Held) (d : List Float) → Leaves h (reply h d)
-unfolding reply settled going-on counted spoiled as-long
-reply-leaves h d = tested h 1 _ _ (omega arith) (λ _. tested h 2 _ _ (omega arith) (λ _. tested h 3 _ _ (omega arith) (λ lengths. tested h 4 _ _ (omega arith) (λ _. tested h 8 _ _ (omega arith) (λ _. go lengths (all-finite d))))))
+unfolding reply reply-tests settled going-on counted spoiled as-long
+reply-leaves h d = let ts = reply-tests (h .kept) (h .counters) (h .area) d in guards-leave h ts _ refl (λ e. go (each-passes ts e .1 .1 .0) (all-finite d))
   where
     v : Vectors
     v = unpack (h .kept .n) (h .area)
@@ -151,16 +158,16 @@ reply-leaves h d = tested h 1 _ _ (omega arith) (λ _. tested h 2 _ _ (omega ari
     }
 
 accept-leaves : (h : Held) → Leaves h (accept h)
-unfolding accept going-on accepted
-accept-leaves h = tested h 1 _ _ (omega arith) (λ _. tested h 2 _ _ (omega arith) (λ _. tested h 3 _ _ (omega arith) (λ _. tested h 4 _ _ (omega arith) (λ _. passed h _ refl))))
+unfolding accept accept-tests going-on accepted
+accept-leaves h = guards-leave h (accept-tests (h .kept) (h .area)) _ refl (λ _. passed h _ refl)
 
 callback-leaves : (h : Held) (y : List Float) (t : Float) → Leaves h (accept-with-callback h y t)
-unfolding accept-with-callback going-on called-back
-callback-leaves h y t = tested h 1 _ _ (omega arith) (λ _. tested h 2 _ _ (omega arith) (λ _. tested h 3 _ _ (omega arith) (λ _. tested h 4 _ _ (omega arith) (λ _. tested h 5 _ _ (omega arith) (λ _. tested h 6 _ _ (omega arith) (λ _. passed h _ refl))))))
+unfolding accept-with-callback callback-tests going-on called-back
+callback-leaves h y t = guards-leave h (callback-tests (h .kept) (h .area) y t) _ refl (λ _. passed h _ refl)
 
 abandon-leaves : (h : Held) → Leaves h (abandon h)
-unfolding abandon
-abandon-leaves h = tested h 1 _ _ (omega arith) (λ _. tested h 2 _ _ (omega arith) (λ _. tested h 3 _ _ (omega arith) (λ _. tested h 4 _ _ (omega arith) (λ _. passed h _ refl))))
+unfolding abandon abandon-tests
+abandon-leaves h = guards-leave h (abandon-tests (h .kept) (h .area)) _ refl (λ _. passed h _ refl)
 
 made-leaves : (h : Held) (c : Call) → Leaves h (made h c)
 unfolding made

@@ -12,6 +12,7 @@ pub mod Theorem
 pub mod Room
 pub mod Always
 pub mod Sequel
+pub mod Guards
 pub mod Refused
 pub mod Leaves
 pub mod Alikes

@@ -4,16 +4,18 @@ use mathlib.Core.Bool.{Bool, true, false, _&&_}
 use lib.ListN.{length}
 use Rattle.driver.specs.declared.Phase.the-variants as P
 use Rattle.driver.specs.declared.Answer.the-variants.{Empty}
-use Rattle.driver.specs.Calls.{Held, Called, in-phase, pending, awaiting, check, abandon, Abandon, taken}
+use Rattle.driver.specs.Calls.{Held, Called, in-phase, pending, awaiting, abandon, Abandon, taken, abandon-tests}
+use Rattle.driver.proofs.Ladder.{each-passes, goes-ahead}
 use Rattle.session.specs.Attempt.{done, stopped, ask}
 use Rattle.session.specs.Session.{ready-with, tried, answer-shown, Doing, none, within, Session, waiting, doing-now, session-after, doing-shown, waits}
 use Rattle.session.proofs.Truth.{differ}
 use Rattle.session.proofs.Shows.{Shows, Does, Good}
-use Rattle.session.proofs.Standing.{check-taken, check-tells, last-tells, all-pass, none-pass, idle, K, N, W, standing, Place, inside, outside, place}
+use Rattle.session.proofs.Guards.{taken-exactly, taken-passes}
+use Rattle.session.proofs.Standing.{all-pass, none-pass, idle, K, N, W, standing, Place, inside, outside, place}
 
 abandon-tells : (h : Held) → taken (abandon h .answer) ≡ K h && (N h && (W h && awaiting (h .kept)))
-unfolding abandon taken
-abandon-tells h = check-tells h 1 (K h) _ _ refl (check-tells h 2 (N h) _ _ refl (check-tells h 3 (W h) _ _ refl (last-tells h 4 (awaiting (h .kept)) _ refl refl)))
+unfolding abandon abandon-tests taken
+abandon-tells h = taken-exactly h (abandon-tests (h .kept) (h .area)) _ refl refl
 
 pub abandon-agrees : (h : Held) (σ : Session) → Does (σ .family) (σ .n) (σ .doing) h → taken (abandon h .answer) ≡ waits (σ .doing)
 abandon-agrees h σ does =
@@ -28,13 +30,8 @@ abandon-agrees h σ does =
 -- an evaluation was pending, and what it leaves
 abandoned : (h : Held) → taken (abandon h .answer) ≡ true
     → (awaiting (h .kept) ≡ true) × (abandon h ≡ record { answer = Empty; held = record { kept = in-phase P.Empty (h .kept); counters = h .counters; area = h .area } })
-unfolding abandon check taken
-abandoned h q =
-    let p1 = check-taken h 1 (K h) _ refl q in
-    let p2 = check-taken h 2 (N h) _ refl (p1 .1) in
-    let p3 = check-taken h 3 (W h) _ refl (p2 .1) in
-    let p4 = check-taken h 4 (awaiting (h .kept)) _ refl (p3 .1) in
-    (p4 .0, rw (p1 .0, p2 .0, p3 .0, p4 .0))
+unfolding abandon abandon-tests
+abandoned h q = let ts = abandon-tests (h .kept) (h .area) in let none = taken-passes h ts _ refl q in (each-passes ts none .1 .1 .1 .0, goes-ahead h ts _ none)
 
 pub abandon-good : (h : Held) (σ : Session) → h .counters ≡ σ .counts → Does (σ .family) (σ .n) (σ .doing) h → taken (abandon h .answer) ≡ true → Good (session-after σ Abandon) (abandon h)
 unfolding session-after Does Shows waiting doing-now pending answer-shown doing-shown in-phase

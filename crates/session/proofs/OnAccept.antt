@@ -11,19 +11,24 @@ use Rattle.ieee.specs.Double.{nought}
 use Rattle.workspace.specs.Vectors.{Vectors, _with_≔_, unpack, pack, all-finite, first-derivative, last-derivative, eigenvector, state, candidate}
 use Rattle.workspace.proofs.Areas.{Long, unpack-pack, long-with}
 use Rattle.driver.specs.declared.Phase.the-variants as P
-use Rattle.driver.specs.Calls.{Held, Called, in-phase, at-time, first-at, take-callback, replied, as-long, pending, in-range, awaiting, may-accept, finishes, check, going-on, accepted, accept, called-back, accept-with-callback, Accept, Accept-with-callback, taken}
+use Rattle.driver.specs.Calls.{Held, Called, in-phase, at-time, first-at, take-callback, replied, as-long, pending, in-range, awaiting, may-accept}
+use Rattle.driver.specs.Calls.{finishes, going-on, accepted, accept, called-back, accept-with-callback, Accept, Accept-with-callback, taken, accept-tests}
+use Rattle.driver.specs.Calls.{callback-tests}
+use Rattle.driver.proofs.Ladder.{each-passes, goes-ahead}
 use Rattle.session.specs.Attempt.{_>>=_, evaluate}
 use Rattle.session.specs.Session.{evaluates, ready-at, answer-shown, accept-step, callback-step, Doing, within, Session, at-rest, after-attempt, doing-now, session-after, doing-shown, has-tried}
-use Rattle.session.proofs.Truth.{and-left, and-right, and-none}
+use Rattle.ieee.proofs.Logic.{and-left, and-right}
+use Rattle.session.proofs.Truth.{and-none}
 use Rattle.session.proofs.Lengths.{whole-pack, long-area, pack-length}
 use Rattle.session.proofs.Shows.{Shows, Does, Good, once}
-use Rattle.session.proofs.Standing.{check-taken, check-tells, last-tells, all-pass, none-pass, K, N, W, standing, Place, inside, outside, place, Finished-at, finished-at, rested}
+use Rattle.session.proofs.Guards.{taken-exactly, taken-passes}
+use Rattle.session.proofs.Standing.{all-pass, none-pass, K, N, W, standing, Place, inside, outside, place, Finished-at, finished-at, rested}
 
 -- ---- which are taken
 
 accept-tells : (h : Held) → taken (accept h .answer) ≡ K h && (N h && (W h && may-accept (h .kept .phase)))
-unfolding accept accepted going-on taken
-accept-tells h = check-tells h 1 (K h) _ _ refl (check-tells h 2 (N h) _ _ refl (check-tells h 3 (W h) _ _ refl (last-tells h 4 (may-accept (h .kept .phase)) _ refl refl)))
+unfolding accept accept-tests accepted going-on taken
+accept-tells h = taken-exactly h (accept-tests (h .kept) (h .area)) _ refl refl
 
 pub accept-agrees : (h : Held) (σ : Session) → Does (σ .family) (σ .n) (σ .doing) h → taken (accept h .answer) ≡ has-tried (σ .doing)
 accept-agrees h σ does =
@@ -36,10 +41,8 @@ accept-agrees h σ does =
     go (outside r t w) = rw t (none-pass (K h) (N h) (W h) false refl)
 
 callback-tells : (h : Held) (y : List Float) (t : Float) → taken (accept-with-callback h y t .answer) ≡ K h && (N h && (W h && as-long (h .kept .n) y && (may-accept (h .kept .phase) && (all-finite y && finite t))))
-unfolding accept-with-callback called-back going-on taken
-callback-tells h y t =
-    check-tells h 1 (K h) _ _ refl (check-tells h 2 (N h) _ _ refl (check-tells h 3 (W h && as-long (h .kept .n) y) _ _ refl (check-tells h 4 (may-accept (h .kept .phase)) _ _ refl
-    (check-tells h 5 (all-finite y) _ _ refl (last-tells h 6 (finite t) _ refl refl)))))
+unfolding accept-with-callback callback-tests called-back going-on taken
+callback-tells h y t = taken-exactly h (callback-tests (h .kept) (h .area) y t) _ refl refl
 
 pub callback-agrees : (h : Held) (σ : Session) → Does (σ .family) (σ .n) (σ .doing) h → (y : List Float) (t : Float)
     → taken (accept-with-callback h y t .answer) ≡ as-long (σ .n) y && (has-tried (σ .doing) && (all-finite y && finite t))
@@ -63,17 +66,13 @@ module _ (h : Held) (q : taken (accept h .answer) ≡ true) where
     phase-allows : may-accept (h .kept .phase) ≡ true
 
   passed : Passed
-  unfolding accept taken
-  passed =
-      let p1 = check-taken h 1 (K h) _ refl q in
-      let p2 = check-taken h 2 (N h) _ refl (p1 .1) in
-      let p3 = check-taken h 3 (W h) _ refl (p2 .1) in
-      let p4 = check-taken h 4 (may-accept (h .kept .phase)) _ refl (p3 .1) in
-      record { family-known = p1 .0; n-sized = p2 .0; area-whole = p3 .0; phase-allows = p4 .0 }
+  unfolding accept accept-tests
+  passed = let p = each-passes (accept-tests (h .kept) (h .area)) (taken-passes h _ _ refl q) in
+      record { family-known = p .0; n-sized = p .1 .0; area-whole = p .1 .1 .0; phase-allows = p .1 .1 .1 .0 }
 
   accept-is : accept h ≡ going-on (h .counters) (accepted (h .kept) (unpack (h .kept .n) (h .area)))
-  unfolding accept check
-  accept-is = rw (passed .family-known, passed .n-sized, passed .area-whole, passed .phase-allows)
+  unfolding accept accept-tests
+  accept-is = goes-ahead h (accept-tests (h .kept) (h .area)) _ (taken-passes h _ _ refl q)
 
   w : Vectors
   w = let v = unpack (h .kept .n) (h .area) in v with first-derivative ≔ v last-derivative with state ≔ v candidate
@@ -121,19 +120,20 @@ module _ (h : Held) (y : List Float) (t : Float) (q : taken (accept-with-callbac
     time-finite : finite t ≡ true
 
   passed-both : Passed-both
-  unfolding accept-with-callback taken
-  passed-both =
-      let p1 = check-taken h 1 (K h) _ refl q in
-      let p2 = check-taken h 2 (N h) _ refl (p1 .1) in
-      let p3 = check-taken h 3 (W h && as-long (h .kept .n) y) _ refl (p2 .1) in
-      let p4 = check-taken h 4 (may-accept (h .kept .phase)) _ refl (p3 .1) in
-      let p5 = check-taken h 5 (all-finite y) _ refl (p4 .1) in
-      let p6 = check-taken h 6 (finite t) _ refl (p5 .1) in
-      record { family-known = p1 .0; n-sized = p2 .0; lengths-good = p3 .0; phase-allows = p4 .0; state-finite = p5 .0; time-finite = p6 .0 }
+  unfolding accept-with-callback callback-tests
+  passed-both = let p = each-passes (callback-tests (h .kept) (h .area) y t) (taken-passes h _ _ refl q) in
+      record {
+        family-known = p .0;
+        n-sized = p .1 .0;
+        lengths-good = p .1 .1 .0;
+        phase-allows = p .1 .1 .1 .0;
+        state-finite = p .1 .1 .1 .1 .0;
+        time-finite = p .1 .1 .1 .1 .1 .0;
+      }
 
   callback-is : accept-with-callback h y t ≡ going-on (h .counters) (called-back (h .kept) y t (unpack (h .kept .n) (h .area)))
-  unfolding accept-with-callback check
-  callback-is = rw (passed-both .family-known, passed-both .n-sized, passed-both .lengths-good, passed-both .phase-allows, passed-both .state-finite, passed-both .time-finite)
+  unfolding accept-with-callback callback-tests
+  callback-is = goes-ahead h (callback-tests (h .kept) (h .area) y t) _ (taken-passes h _ _ refl q)
 
   whole : W h ≡ true
   whole = and-left (W h) (as-long (h .kept .n) y) (passed-both .lengths-good)

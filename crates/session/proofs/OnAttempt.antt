@@ -10,7 +10,9 @@ use Rattle.workspace.specs.Kernel.{with-direction, perturbation-of}
 use Rattle.workspace.proofs.Areas.{long-direction, long-perturbed}
 use Rattle.driver.specs.declared.Phase.{Phase}
 use Rattle.driver.specs.declared.Phase.the-variants as P
-use Rattle.driver.specs.Calls.{Held, Called, at-pass, ask-pass, may-attempt, good-times, good-tolerances, attempted, going-on, attempt, Attempt, taken}
+use Rattle.driver.specs.Calls.{Held, Called, at-pass, ask-pass, may-attempt, good-times, good-tolerances, attempted, going-on, attempt-tests, attempt}
+use Rattle.driver.specs.Calls.{Attempt, taken}
+use Rattle.driver.proofs.Ladder.{each-passes}
 use Rattle.session.specs.Attempt.{done, stopped, ask, attempt-step}
 use Rattle.session.specs.Claim.{Allowed, in-one-piece}
 use Rattle.session.specs.Alike.{Same-start}
@@ -20,13 +22,12 @@ use Rattle.session.proofs.Lengths.{long-area, pack-length}
 use Rattle.session.proofs.Passes.{attempt-is, attempt-follows}
 use Rattle.session.proofs.Depends.{attempt-alike}
 use Rattle.session.proofs.Shows.{At, Shows, Does, Good, goes}
-use Rattle.session.proofs.Standing.{check-taken, check-tells, last-tells, all-pass, none-pass, waits-alone, K, N, W, standing, Place, inside, outside, place}
+use Rattle.session.proofs.Guards.{taken-exactly, taken-passes}
+use Rattle.session.proofs.Standing.{all-pass, none-pass, waits-alone, K, N, W, standing, Place, inside, outside, place}
 
 attempt-tells : (h : Held) (a : Arguments) → taken (attempt h a .answer) ≡ K h && (N h && (W h && (may-attempt (h .kept .phase) && (good-times a && good-tolerances a))))
-unfolding attempt going-on attempted ask-pass taken
-attempt-tells h a =
-    check-tells h 1 (K h) _ _ refl (check-tells h 2 (N h) _ _ refl (check-tells h 3 (W h) _ _ refl (check-tells h 4 (may-attempt (h .kept .phase)) _ _ refl
-    (check-tells h 6 (good-times a) _ _ refl (last-tells h 7 (good-tolerances a) _ refl refl)))))
+unfolding attempt attempt-tests going-on attempted ask-pass taken
+attempt-tells h a = taken-exactly h (attempt-tests (h .kept) (h .area) a) _ refl refl
 
 pub attempt-agrees : (h : Held) (σ : Session) (a : Arguments) → Does (σ .family) (σ .n) (σ .doing) h → taken (attempt h a .answer) ≡ rests (σ .doing) && (good-times a && good-tolerances a)
 attempt-agrees h σ a does =
@@ -40,15 +41,16 @@ attempt-agrees h σ a does =
 
 -- it passed its tests
 pub allowed : (h : Held) (a : Arguments) → taken (attempt h a .answer) ≡ true → Allowed h a
-unfolding attempt taken
-allowed h a q =
-    let p1 = check-taken h 1 (K h) _ refl q in
-    let p2 = check-taken h 2 (N h) _ refl (p1 .1) in
-    let p3 = check-taken h 3 (W h) _ refl (p2 .1) in
-    let p4 = check-taken h 4 (may-attempt (h .kept .phase)) _ refl (p3 .1) in
-    let p6 = check-taken h 6 (good-times a) _ refl (p4 .1) in
-    let p7 = check-taken h 7 (good-tolerances a) _ refl (p6 .1) in
-    record { family-known = p1 .0; n-sized = p2 .0; area-whole = p3 .0; phase-allows = p4 .0; times-good = p6 .0; tolerances-good = p7 .0 }
+unfolding attempt attempt-tests
+allowed h a q = let p = each-passes (attempt-tests (h .kept) (h .area) a) (taken-passes h _ _ refl q) in
+    record {
+      family-known = p .0;
+      n-sized = p .1 .0;
+      area-whole = p .1 .1 .0;
+      phase-allows = p .1 .1 .1 .0;
+      times-good = p .1 .1 .1 .1 .0;
+      tolerances-good = p .1 .1 .1 .1 .1 .0;
+    }
 
 module _ (h : Held) (σ : Session) (cs : h .counters ≡ σ .counts) (a : Arguments) where
   -- at rest with the vectors v

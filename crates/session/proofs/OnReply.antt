@@ -12,15 +12,19 @@ use Rattle.workspace.specs.Vectors.{Vectors, unpack, all-finite}
 use Rattle.driver.specs.declared.Phase.the-variants as P
 use Rattle.driver.specs.declared.Answer.{Answer}
 use Rattle.driver.specs.declared.Answer.the-variants.{Evaluate, Finished, Ready, Refused, Empty}
-use Rattle.driver.specs.Calls.{Held, replied, as-long, pending, awaiting, has-room, check, going-on, spoiled, settled, reply, Reply, taken}
+use Rattle.driver.specs.Calls.{Held, replied, as-long, pending, awaiting, has-room, going-on, spoiled, settled, reply, Reply, taken, first-failing, decide}
+use Rattle.driver.specs.Calls.{guarded, reply-tests}
+use Rattle.driver.proofs.Ladder.{each-passes}
 use Rattle.session.specs.Attempt.{done, stopped, ask}
 use Rattle.session.specs.Claim.{room-in}
 use Rattle.session.specs.Session.{ready-with, tried, Doing, none, within, Session, waiting, counts-on, doing-now, replied-with, session-after, waits, waits-with-room}
-use Rattle.session.proofs.Truth.{differ, and-left, and-right, and-none}
+use Rattle.ieee.proofs.Logic.{and-left, and-right}
+use Rattle.session.proofs.Truth.{differ, and-none}
 use Rattle.session.proofs.Lengths.{long-area, pack-length, replied-long}
 use Rattle.session.proofs.Leaves.{replied-high}
 use Rattle.session.proofs.Shows.{Shows, Does, Good}
-use Rattle.session.proofs.Standing.{check-taken, check-tells, last-tells, all-pass, none-pass, idle, K, N, W, standing, Place, inside, outside, place, room-alike}
+use Rattle.session.proofs.Guards.{taken-exactly, taken-passes}
+use Rattle.session.proofs.Standing.{all-pass, none-pass, idle, K, N, W, standing, Place, inside, outside, place, room-alike}
 
 -- refused from 9 on is taken
 high-taken : (y : Answer) → ((i : ℕ) → y ≡ Refused i → 10 ≤ i) → taken y ≡ true
@@ -37,10 +41,8 @@ high-taken (Refused i) high = go (leb 1 i) (leb i 8) refl
 high-taken Empty high = refl
 
 reply-tells : (h : Held) (d : List Float) → taken (reply h d .answer) ≡ K h && (N h && (W h && as-long (h .kept .n) d && (awaiting (h .kept) && has-room (h .kept .phase) (h .counters))))
-unfolding reply taken settled going-on spoiled
-reply-tells h d =
-    check-tells h 1 (K h) _ _ refl (check-tells h 2 (N h) _ _ refl (check-tells h 3 (W h && as-long (h .kept .n) d) _ _ refl (check-tells h 4 (awaiting (h .kept)) _ _ refl
-    (last-tells h 8 (has-room (h .kept .phase) (h .counters)) _ refl (go (all-finite d))))))
+unfolding reply reply-tests taken settled going-on spoiled
+reply-tells h d = taken-exactly h (reply-tests (h .kept) (h .counters) (h .area) d) _ refl (go (all-finite d))
   where
     go : (t : Bool) → taken (cond t (settled (h .counters) (replied (h .kept .phase) (h .kept) (unpack (h .kept .n) (h .area)) d)) (spoiled h) .answer) ≡ true
     go true = high-taken (replied (h .kept .phase) (h .kept) (unpack (h .kept .n) (h .area)) d .answer) (λ i e. replied-high (h .kept .phase) (h .kept) (unpack (h .kept .n) (h .area)) d i e .beyond)
@@ -75,14 +77,9 @@ module _ (h : Held) (d : List Float) (q : taken (reply h d .answer) ≡ true) wh
     room-good : room-in h ≡ true
 
   passed : Passed
-  unfolding reply taken
-  passed =
-      let p1 = check-taken h 1 (K h) _ refl q in
-      let p2 = check-taken h 2 (N h) _ refl (p1 .1) in
-      let p3 = check-taken h 3 (W h && as-long (h .kept .n) d) _ refl (p2 .1) in
-      let p4 = check-taken h 4 (awaiting (h .kept)) _ refl (p3 .1) in
-      let p8 = check-taken h 8 (has-room (h .kept .phase) (h .counters)) _ refl (p4 .1) in
-      record { family-known = p1 .0; n-sized = p2 .0; lengths-good = p3 .0; awaits = p4 .0; room-good = p8 .0 }
+  unfolding reply reply-tests
+  passed = let p = each-passes (reply-tests (h .kept) (h .counters) (h .area) d) (taken-passes h _ _ refl q) in
+      record { family-known = p .0; n-sized = p .1 .0; lengths-good = p .1 .1 .0; awaits = p .1 .1 .1 .0; room-good = p .1 .1 .1 .1 .0 }
 
   long : length d ≡ h .kept .n
   unfolding as-long
@@ -104,7 +101,7 @@ module _ (h : Held) (d : List Float) (q : taken (reply h d .answer) ≡ true) wh
           record { shown-is = g .0; counts-are = g .1 ∙ ap (counts-on (within (k d))) cs; does = g .2 }
 
   pub reply-area : length (reply h d .held .area) ≡ length (h .area)
-  unfolding reply check settled going-on spoiled
+  unfolding reply reply-tests guarded decide first-failing settled going-on spoiled
   reply-area = rw (passed .family-known, passed .n-sized, passed .lengths-good, passed .awaits, passed .room-good) (go (all-finite d))
     where
       v : Vectors

@@ -12,19 +12,19 @@ use Rattle.family.specs.Family.{known}
 use Rattle.workspace.specs.Vectors.{Vectors, _with_≔_, unpack, all-finite, first-derivative, eigenvector, state}
 use Rattle.workspace.proofs.Areas.{Long, unpack-pack, long-with}
 use Rattle.driver.specs.declared.Phase.the-variants as P
-use Rattle.driver.specs.Calls.{Held, in-phase, at-time, first-at, take-first, replied, sized, whole-area, as-long, pending, in-range, awaiting, finishes, check, start, Start, taken}
+use Rattle.driver.specs.Calls.{Held, in-phase, at-time, first-at, take-first, replied, sized, whole-area, as-long, pending, in-range, awaiting, finishes}
+use Rattle.driver.specs.Calls.{start, Start, taken, first-failing, decide, guarded, start-tests}
+use Rattle.driver.proofs.Ladder.{each-passes}
 use Rattle.session.specs.Attempt.{_>>=_, evaluate}
 use Rattle.session.specs.Session.{evaluates, answer-shown, initialize, Session, session-after, doing-shown}
-use Rattle.session.proofs.Truth.{and-left, and-right}
+use Rattle.ieee.proofs.Logic.{and-left, and-right}
 use Rattle.session.proofs.Lengths.{long-area, pack-length}
 use Rattle.session.proofs.Shows.{Does, Good, once}
-use Rattle.session.proofs.Standing.{check-taken, check-tells, last-tells}
+use Rattle.session.proofs.Guards.{taken-exactly, taken-passes}
 
 pub start-tells : (h : Held) (f n : ℕ) (y : List Float) (t : Float) → taken (start h f n y t .answer) ≡ known f && (sized n && (whole-area f n (h .area) && as-long n y && (all-finite y && finite t)))
-unfolding start taken
-start-tells h f n y t =
-    check-tells h 1 (known f) _ _ refl (check-tells h 2 (sized n) _ _ refl (check-tells h 3 (whole-area f n (h .area) && as-long n y) _ _ refl
-    (check-tells h 5 (all-finite y) _ _ refl (last-tells h 6 (finite t) _ refl refl))))
+unfolding start start-tests taken
+start-tells h f n y t = taken-exactly h (start-tests f n (h .area) y t) _ refl refl
 
 module _ (h : Held) (f n : ℕ) (y : List Float) (t : Float) (q : taken (start h f n y t .answer) ≡ true) where
   -- it passed its tests
@@ -36,14 +36,9 @@ module _ (h : Held) (f n : ℕ) (y : List Float) (t : Float) (q : taken (start h
     time-finite : finite t ≡ true
 
   passed : Passed
-  unfolding start taken
-  passed =
-      let p1 = check-taken h 1 (known f) _ refl q in
-      let p2 = check-taken h 2 (sized n) _ refl (p1 .1) in
-      let p3 = check-taken h 3 (whole-area f n (h .area) && as-long n y) _ refl (p2 .1) in
-      let p5 = check-taken h 5 (all-finite y) _ refl (p3 .1) in
-      let p6 = check-taken h 6 (finite t) _ refl (p5 .1) in
-      record { family-known = p1 .0; n-sized = p2 .0; lengths-good = p3 .0; state-finite = p5 .0; time-finite = p6 .0 }
+  unfolding start start-tests
+  passed = let p = each-passes (start-tests f n (h .area) y t) (taken-passes h _ _ refl q) in
+      record { family-known = p .0; n-sized = p .1 .0; lengths-good = p .1 .1 .0; state-finite = p .1 .1 .1 .0; time-finite = p .1 .1 .1 .1 .0 }
 
   whole : whole-area f n (h .area) ≡ true
   whole = and-left (whole-area f n (h .area)) (as-long n y) (passed .lengths-good)
@@ -59,7 +54,7 @@ module _ (h : Held) (f n : ℕ) (y : List Float) (t : Float) (q : taken (start h
       (long-with n (unpack n (h .area)) state y (long-area f n (h .area) whole) long) (length-replicate n nought)
 
   pub start-good : (σ : Session) → h .counters ≡ σ .counts → Good (session-after σ (Start f n y t)) (start h f n y t)
-  unfolding start check session-after initialize Does first-at at-time pending in-range awaiting finishes answer-shown doing-shown evaluate _>>=_ replied take-first in-phase v
+  unfolding start start-tests guarded decide first-failing session-after initialize Does first-at at-time pending in-range awaiting finishes answer-shown doing-shown evaluate _>>=_ replied take-first in-phase v
   start-good σ cs = rw (passed .family-known, passed .n-sized, passed .lengths-good, passed .state-finite, passed .time-finite) (record {
     shown-is = ap (λ (w : Vectors). evaluates t (w state)) (unpack-pack n v long-v);
     counts-are = cs;
@@ -69,5 +64,5 @@ module _ (h : Held) (f n : ℕ) (y : List Float) (t : Float) (q : taken (start h
   })
 
   pub start-area : length (start h f n y t .held .area) ≡ length (h .area)
-  unfolding start check v
+  unfolding start start-tests guarded decide first-failing v
   start-area = rw (passed .family-known, passed .n-sized, passed .lengths-good, passed .state-finite, passed .time-finite) (pack-length f n v (h .area) long-v whole)

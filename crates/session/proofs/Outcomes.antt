@@ -23,14 +23,17 @@ use Rattle.driver.specs.declared.Record.{Record}
 use Rattle.driver.specs.declared.Counters.{Counters}
 use Rattle.driver.specs.declared.Answer.{Answer}
 use Rattle.driver.specs.declared.Answer.the-variants.{Evaluate, Finished, Ready, Refused, Empty}
-use Rattle.driver.specs.Calls.{Held, Called, step-to, in-phase, first-at, at-pass, with-radius, at-stage, check, taken}
+use Rattle.driver.specs.Calls.{Held, Called, step-to, in-phase, first-at, at-pass, with-radius, at-stage, taken}
 use Rattle.driver.specs.Calls.{take-first, take-callback, ask-pass, ask-stage, by-need, begin-stages, take-pass, ask-candidate, take-stage, take-candidate}
 use Rattle.driver.specs.Calls.{replied, whole-area, as-long, pending, in-range, awaiting, good-stage, one-more, counted, spoiled, settled, going-on}
 use Rattle.driver.specs.Calls.{start, attempted, attempt, reply, accepted, accept, called-back, accept-with-callback, abandon, made}
+use Rattle.driver.specs.Calls.{Test, guarded, start-tests, attempt-tests, reply-tests, accept-tests, callback-tests, abandon-tests}
 use Rattle.driver.specs.Calls.{Call, Start, Attempt, Reply, Accept, Accept-with-callback, Abandon}
-use Rattle.session.proofs.Truth.{and-left, and-right}
+use Rattle.driver.proofs.Ladder.{Passing, each-passes, by-tests}
+use Rattle.ieee.proofs.Logic.{and-left, and-right}
 use Rattle.session.proofs.Needs.{need-is}
 use Rattle.session.proofs.Lengths.{long-area}
+use Rattle.session.proofs.Guards.{low, low-fails, not-taken}
 
 abbrev pub leaving : Answer → Record → Counters → List Float → Called
 leaving y r c area = record { answer = y; held = record { kept = r; counters = c; area = area } }
@@ -93,15 +96,9 @@ module _ (h : Held) where
         → Outcome (Accept-with-callback y t) (leaving (Evaluate t (number state)) (first-at P.Callback (r .family) (r .n) t r) c area)
     abandons : Outcome Abandon (leaving Empty (in-phase P.Empty r) c (h .area))
 
-  tested : {q : Call} (k : ℕ) (test : Bool) (go : Called) → taken (Refused k) ≡ false → (test ≡ true → Outcome q go) → Outcome q (check h k test go)
-  unfolding check
-  tested k true go e on = on refl
-  tested k false go e on = away k e
-
-  -- the first three tests, and what follows them
-  three : {q : Call} (a b w : Bool) (go : Called) → (a ≡ true → b ≡ true → w ≡ true → Outcome q go) → Outcome q (check h 1 a (check h 2 b (check h 3 w go)))
-  unfolding taken
-  three a b w go on = tested 1 _ _ refl (λ p. tested 2 _ _ refl (λ q. tested 3 _ _ refl (λ u. on p q u)))
+  -- past its tests, or away with one of 1 to 8
+  tested : {q : Call} (ts : List Test) (go : Called) → low ts ≡ true → (Passing ts → Outcome q go) → Outcome q (guarded h ts go)
+  tested {q} ts go l on = by-tests (λ (x : Called). Outcome q x) h ts go (λ e. on (each-passes ts e)) (λ k e. away k (not-taken k (low-fails ts k l e)))
 
   -- ---- a reply that passed its tests
 
@@ -171,8 +168,8 @@ module _ (h : Held) where
     by-phase P.Callback v p good lv ld = readies _
 
     on-reply : Comes (reply h d)
-    unfolding reply taken spoiled counted awaiting as-long
-    on-reply = three _ _ _ _ (λ _ _ lengths. tested 4 _ _ refl (λ good. tested 8 _ _ refl (λ _. go lengths good (all-finite d))))
+    unfolding reply reply-tests spoiled counted awaiting as-long
+    on-reply = tested (reply-tests r c (h .area) d) _ refl (λ p. go (p .1 .1 .0) (p .1 .1 .1 .0) (all-finite d))
       where
         v : Vectors
         v = unpack (r .n) (h .area)
@@ -188,13 +185,19 @@ module _ (h : Held) where
 
   -- ---- every call
 
+  on-start : (f n : ℕ) (y : List Float) (t : Float) → Outcome (Start f n y t) (start h f n y t)
+  unfolding start start-tests
+  on-start f n y t = tested (start-tests f n (h .area) y t) _ refl (λ _. starts _)
+
+  on-attempt : (a : Arguments) → Outcome (Attempt a) (attempt h a)
+  unfolding attempt attempt-tests going-on attempted ask-pass
+  on-attempt a = tested (attempt-tests r (h .area) a) _ refl (λ _. attempts (unpack (r .n) (h .area)) _ _ _)
+
   pub outcome : (q : Call) → Outcome q (made h q)
-  unfolding made start attempt going-on attempted ask-pass accept accepted accept-with-callback called-back abandon taken
-  outcome (Start f n y t) = three _ _ _ _ (λ _ _ _. tested 5 _ _ refl (λ _. tested 6 _ _ refl (λ _. starts _)))
-  outcome (Attempt a) =
-      three _ _ _ _ (λ _ _ _. tested 4 _ _ refl (λ _. tested 6 _ _ refl (λ _. tested 7 _ _ refl (λ _. attempts (unpack (r .n) (h .area)) _ _ _))))
+  unfolding made going-on accept accept-tests accepted accept-with-callback callback-tests called-back abandon abandon-tests
+  outcome (Start f n y t) = on-start f n y t
+  outcome (Attempt a) = on-attempt a
   outcome (Reply d) = on-reply d
-  outcome Accept = three _ _ _ _ (λ _ _ _. tested 4 _ _ refl (λ _. accepts _))
-  outcome (Accept-with-callback y t) =
-      three _ _ _ _ (λ _ _ _. tested 4 _ _ refl (λ _. tested 5 _ _ refl (λ _. tested 6 _ _ refl (λ _. calls-back _))))
-  outcome Abandon = three _ _ _ _ (λ _ _ _. tested 4 _ _ refl (λ _. abandons))
+  outcome Accept = tested (accept-tests r (h .area)) _ refl (λ _. accepts _)
+  outcome (Accept-with-callback y t) = tested (callback-tests r (h .area) y t) _ refl (λ _. calls-back _)
+  outcome Abandon = tested (abandon-tests r (h .area)) _ refl (λ _. abandons)

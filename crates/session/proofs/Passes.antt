@@ -19,7 +19,9 @@ use Rattle.driver.specs.declared.Staging.{Staging}
 use Rattle.driver.specs.declared.Need.{Need}
 use Rattle.driver.specs.declared.Need.the-variants.{Met, Unmet}
 use Rattle.driver.specs.declared.Counters.{Counters}
-use Rattle.driver.specs.Calls.{Held, Called, in-phase, at-pass, with-radius, at-stage, ask-pass, ask-stage, stage-need, by-need, begin-stages, take-pass, replied, sized, pending, in-range, awaiting, finishes, check, attempted, going-on, attempt, counted, settled}
+use Rattle.driver.specs.Calls.{Held, Called, in-phase, at-pass, with-radius, at-stage, ask-pass, ask-stage, stage-need, by-need, begin-stages, take-pass}
+use Rattle.driver.specs.Calls.{replied, sized, pending, in-range, awaiting, finishes, attempted, going-on, attempt, counted, settled, first-failing}
+use Rattle.driver.specs.Calls.{decide, guarded, attempt-tests}
 use Rattle.session.specs.Attempt.{closes, Asking, done, _>>=_, evaluate, stages-for, Radius, Finished-attempt, iterate, spectral-radius, stage-loop, run-recurrence, close, attempt-step}
 use Rattle.session.specs.Claim.{Allowed, in-one-piece}
 use Rattle.session.proofs.Truth.{differ, both}
@@ -151,7 +153,7 @@ module _ (h : Held) (a : Arguments) (hk : known (h .kept .family) ≡ true) (hs 
 -- ---- the attempt
 
 pub attempt-is : (h : Held) (a : Arguments) → Allowed h a → attempt h a ≡ going-on (h .counters) (attempted h a)
-unfolding attempt check
+unfolding attempt attempt-tests guarded decide first-failing
 attempt-is h a p = rw (p .family-known, p .n-sized, p .area-whole, p .phase-allows, p .times-good, p .tolerances-good)
 
 pub attempt-follows : (h : Held) (a : Arguments) → Allowed h a → Follows h a 0 h (in-one-piece h a) (attempt h a)

@@ -1,8 +1,9 @@
--- A call is turned away with a number exactly when that is the number of its first failing test, and with no number outside the call's list.
+-- A call is turned away with a number exactly when that is the number of its first failing test, and with no number outside the call's list. From the call
+-- behind its list (Guards), for a reply also from the tests of its phase; the list that the call goes by is the one spelled in Refusals by computation.
 use mathlib.Core.Path.{_≡_, refl, sym, ap, _∙_, subst}
 use mathlib.Core.Logic.{_↔_}
 use mathlib.Core.Bool.{Bool, true, false, cond, not, _&&_, _||_}
-use mathlib.Core.List.{List, [], _∷_}
+use mathlib.Core.List.{List, [], _∷_, _++_}
 use Prim.Native.Nat.{ℕ, _+_, _≤_, _-_, _^_}
 use native.Mathlib.Omega.{arith}
 use lib.Dec.{leb, ltb, eqb}
@@ -22,68 +23,68 @@ use Rattle.driver.specs.declared.Need.the-variants.{Met, Unmet}
 use Rattle.driver.specs.declared.Answer.{Answer}
 use Rattle.driver.specs.declared.Answer.the-variants.{Evaluate, Finished, Ready, Refused, Empty}
 use Rattle.driver.specs.Answers.{case-number, case-values, Values, Says}
-use Rattle.driver.specs.Calls.{Held, Called, at-pass, at-stage, take-first, take-callback, ask-pass, ask-stage, stage-need, by-need, begin-stages, take-pass, ask-candidate, take-stage, take-candidate, replied, finishes, room, has-room, check, start, attempted, going-on, attempt, spoiled, settled, reply, accepted, accept, called-back, accept-with-callback, abandon, Call, Start, Attempt, Reply, Accept, Accept-with-callback, Abandon, made}
-use Rattle.session.specs.Refusals.{Verdict, goes-on, refused-with, verdict-of, Test, _∶_, first-failing, start-tests, attempt-tests, need-tests, pass-tests, stage-tests, replied-tests, reply-tests, accept-tests, callback-tests, abandon-tests, tests-of, numbers-of, _∈_, here, later, largest-number}
-use Rattle.session.proofs.Truth.{and-left, and-right}
+use Rattle.driver.specs.Calls.{Held, Called, Verdict, admitted, refused-with, Test, _∶_, first-failing, cause-of, finishes, room, has-room}
+use Rattle.driver.specs.Calls.{start-tests, attempt-tests, reply-tests, accept-tests, callback-tests, abandon-tests}
+use Rattle.driver.specs.Calls.{at-pass, at-stage, take-first, take-callback, ask-pass, ask-stage, stage-need, by-need, begin-stages, take-pass, ask-candidate}
+use Rattle.driver.specs.Calls.{take-stage, take-candidate, replied, going-on, spoiled, settled, attempted, accepted, called-back}
+use Rattle.driver.specs.Calls.{start, attempt, reply, accept, accept-with-callback, abandon, made}
+use Rattle.driver.specs.Calls.{Call, Start, Attempt, Reply, Accept, Accept-with-callback, Abandon}
+use Rattle.driver.proofs.Ladder.{is-refused}
+use Rattle.session.specs.Refusals.{verdict-of, need-tests, pass-tests, stage-tests, replied-tests, tests-of, numbers-of, _∈_, here, later, largest-number}
+use Rattle.ieee.proofs.Logic.{and-left, and-right}
 use Rattle.session.proofs.Needs.{need-is}
+use Rattle.session.proofs.Guards.{verdict-alone, verdict-then}
 
 -- the call's answer is decided by its tests
 pub record Decided-by (tests : List Test) (x : Called) : Type 0 where
   pub verdict-is : verdict-of (x .answer) ≡ first-failing tests
 
-tested : (h : Held) (k : ℕ) (test : Bool) (go : Called) (tests : List Test) → Decided-by tests go → Decided-by (k ∶ test ∷ tests) (check h k test go)
-unfolding check
-tested h k true go tests t = record { verdict-is = t .verdict-is }
-tested h k false go tests t = record { verdict-is = refl }
+start-decided : (h : Held) (f n : ℕ) (y : List Float) (t : Float) → Decided-by (start-tests f n (h .area) y t) (start h f n y t)
+unfolding start
+start-decided h f n y t = record { verdict-is = verdict-alone h _ _ refl }
 
-passed : (x : Called) → verdict-of (x .answer) ≡ goes-on → Decided-by [] x
-passed x e = record { verdict-is = e }
+attempt-decided : (h : Held) (a : Arguments) → Decided-by (attempt-tests (h .kept) (h .area) a) (attempt h a)
+unfolding attempt going-on attempted ask-pass
+attempt-decided h a = record { verdict-is = verdict-alone h _ _ refl }
 
-start-decided : (h : Held) (f n : ℕ) (y : List Float) (t : Float) → Decided-by (start-tests h f n y t) (start h f n y t)
-unfolding start start-tests
-start-decided h f n y t = tested h 1 _ _ _ (tested h 2 _ _ _ (tested h 3 _ _ _ (tested h 5 _ _ _ (tested h 6 _ _ _ (passed _ refl)))))
+accept-decided : (h : Held) → Decided-by (accept-tests (h .kept) (h .area)) (accept h)
+unfolding accept going-on accepted
+accept-decided h = record { verdict-is = verdict-alone h _ _ refl }
 
-attempt-decided : (h : Held) (a : Arguments) → Decided-by (attempt-tests h a) (attempt h a)
-unfolding attempt going-on attempted ask-pass attempt-tests
-attempt-decided h a = tested h 1 _ _ _ (tested h 2 _ _ _ (tested h 3 _ _ _ (tested h 4 _ _ _ (tested h 6 _ _ _ (tested h 7 _ _ _ (passed _ refl))))))
+callback-decided : (h : Held) (y : List Float) (t : Float) → Decided-by (callback-tests (h .kept) (h .area) y t) (accept-with-callback h y t)
+unfolding accept-with-callback going-on called-back
+callback-decided h y t = record { verdict-is = verdict-alone h _ _ refl }
 
-accept-decided : (h : Held) → Decided-by (accept-tests h) (accept h)
-unfolding accept going-on accepted accept-tests
-accept-decided h = tested h 1 _ _ _ (tested h 2 _ _ _ (tested h 3 _ _ _ (tested h 4 _ _ _ (passed _ refl))))
-
-callback-decided : (h : Held) (y : List Float) (t : Float) → Decided-by (callback-tests h y t) (accept-with-callback h y t)
-unfolding accept-with-callback going-on called-back callback-tests
-callback-decided h y t = tested h 1 _ _ _ (tested h 2 _ _ _ (tested h 3 _ _ _ (tested h 4 _ _ _ (tested h 5 _ _ _ (tested h 6 _ _ _ (passed _ refl))))))
-
-abandon-decided : (h : Held) → Decided-by (abandon-tests h) (abandon h)
-unfolding abandon abandon-tests
-abandon-decided h = tested h 1 _ _ _ (tested h 2 _ _ _ (tested h 3 _ _ _ (tested h 4 _ _ _ (passed _ refl))))
+abandon-decided : (h : Held) → Decided-by (abandon-tests (h .kept) (h .area)) (abandon h)
+unfolding abandon
+abandon-decided h = record { verdict-is = verdict-alone h _ _ refl }
 
 -- ---- a reply: what its phase tests too
 
-candidate-verdict : (t : Bool) (r : Record) (v : Vectors) → all-finite (v candidate) ≡ t → verdict-of (ask-candidate r v .answer) ≡ cond t goes-on (refused-with 10)
+candidate-verdict : (t : Bool) (r : Record) (v : Vectors) → all-finite (v candidate) ≡ t
+    → verdict-of (ask-candidate r v .answer) ≡ cond t admitted (refused-with 10)
 unfolding ask-candidate
 candidate-verdict true r v e = rw e
 candidate-verdict false r v e = rw e
 
 need-verdict : (need : Need) (r : Record) (v : Vectors) (radius : Float) → verdict-of (by-need need r v radius .answer) ≡ first-failing (need-tests need)
-unfolding by-need ask-stage need-tests
+unfolding by-need ask-stage need-tests first-failing
 need-verdict (Met s) r v radius = refl
 need-verdict (Unmet i) r v radius = refl
 
 pass-verdict : (t : Bool) (r r′ : Record) (v v′ : Vectors) (radius : Float)
     → verdict-of (cond t (begin-stages r v radius) (ask-pass r′ v′) .answer) ≡ first-failing (cond t (need-tests (stage-need (family-of (r .family)) radius)) [])
-unfolding begin-stages ask-pass
+unfolding begin-stages ask-pass first-failing
 pass-verdict true r r′ v v′ radius = need-verdict (stage-need (family-of (r .family)) radius) r v radius
 pass-verdict false r r′ v v′ radius = refl
 
 stage-verdict : (t : Bool) (r r′ : Record) (v v′ : Vectors) → verdict-of (cond t (ask-stage r v) (ask-candidate r′ v′) .answer) ≡ first-failing (cond t [] (10 ∶ all-finite (v′ candidate) ∷ []))
-unfolding ask-stage
+unfolding ask-stage first-failing
 stage-verdict true r r′ v v′ = refl
 stage-verdict false r r′ v v′ = candidate-verdict (all-finite (v′ candidate)) r′ v′ refl
 
 pub replied-verdict : (φ : Phase) (r : Record) (v : Vectors) (d : List Float) → verdict-of (replied φ r v d .answer) ≡ first-failing (replied-tests φ r v d)
-unfolding replied take-first take-callback take-pass take-stage take-candidate with-candidate replied-tests pass-tests stage-tests
+unfolding replied take-first take-callback take-pass take-stage take-candidate with-candidate replied-tests pass-tests stage-tests first-failing
 replied-verdict P.Empty r v d = refl
 replied-verdict P.First r v d = refl
 replied-verdict P.Ready r v d = refl
@@ -96,21 +97,26 @@ replied-verdict P.Candidate r v d = refl
 replied-verdict P.Finished r v d = refl
 replied-verdict P.Callback r v d = refl
 
-reply-decided : (h : Held) (d : List Float) → Decided-by (reply-tests h d) (reply h d)
-unfolding reply settled going-on spoiled reply-tests
-reply-decided h d = tested h 1 _ _ _ (tested h 2 _ _ _ (tested h 3 _ _ _ (tested h 4 _ _ _ (tested h 8 _ _ _ (go (all-finite d))))))
+-- past its own tests, 9 and those of the phase
+abbrev beyond-eight : Held → List Float → List Test
+beyond-eight h d = 9 ∶ all-finite d ∷ replied-tests (h .kept .phase) (h .kept) (unpack (h .kept .n) (h .area)) d
+
+reply-decided : (h : Held) (d : List Float) → Decided-by (reply-tests (h .kept) (h .counters) (h .area) d ++ beyond-eight h d) (reply h d)
+unfolding reply settled going-on spoiled first-failing
+reply-decided h d = record { verdict-is = verdict-then h _ (beyond-eight h d) _ (go (all-finite d)) }
   where
     v : Vectors
     v = unpack (h .kept .n) (h .area)
 
-    go : (t : Bool) → Decided-by (9 ∶ t ∷ replied-tests (h .kept .phase) (h .kept) v d) (cond t (settled (h .counters) (replied (h .kept .phase) (h .kept) v d)) (spoiled h))
-    go true = record { verdict-is = replied-verdict (h .kept .phase) (h .kept) v d }
-    go false = record { verdict-is = refl }
+    go : (t : Bool) → verdict-of (cond t (settled (h .counters) (replied (h .kept .phase) (h .kept) v d)) (spoiled h) .answer)
+        ≡ cond t (first-failing (replied-tests (h .kept .phase) (h .kept) v d)) (refused-with 9)
+    go true = replied-verdict (h .kept .phase) (h .kept) v d
+    go false = refl
 
 -- ---- every call
 
 pub decided : (h : Held) (c : Call) → Decided-by (tests-of h c) (made h c)
-unfolding tests-of made
+unfolding tests-of made start-tests attempt-tests reply-tests accept-tests callback-tests abandon-tests
 decided h (Start f n y t) = start-decided h f n y t
 decided h (Attempt a) = attempt-decided h a
 decided h (Reply d) = reply-decided h d
@@ -131,32 +137,27 @@ says-refused (Refused i) k s = ap (λ (v : Values). Refused (first (v .numbers))
     first (i ∷ is) = i
 says-refused Empty k s = absurd (omega (arith, s .same-case))
 
-abbrev pub is-refused : Verdict → Type 0
-is-refused goes-on = ⊥
-is-refused (refused-with i) = Unit {0}
-
-abbrev pub refused-number : Verdict → ℕ
-refused-number goes-on = 0
-refused-number (refused-with i) = i
-
 pub same-number : (i j : ℕ) → Refused i ≡ Refused j → i ≡ j
-same-number i j e = ap (λ (y : Answer). refused-number (verdict-of y)) e
+unfolding cause-of
+same-number i j e = ap (λ (y : Answer). cause-of (verdict-of y)) e
 
 -- each number on its own cause and on no other
 pub refused : (h : Held) (c : Call) (k : ℕ) → Says (made h c .answer) (Refused k) ↔ first-failing (tests-of h c) ≡ refused-with k
+unfolding cause-of
 refused h c k = (λ s. sym (decided h c .verdict-is) ∙ ap verdict-of (says-refused (made h c .answer) k s), λ e. go (made h c .answer) (decided h c .verdict-is ∙ e))
   where
     go : (y : Answer) → verdict-of y ≡ refused-with k → Says y (Refused k)
     go (Evaluate s b) e = absurd (subst is-refused (sym e) tt)
     go (Finished s) e = absurd (subst is-refused (sym e) tt)
     go Ready e = absurd (subst is-refused (sym e) tt)
-    go (Refused i) e = let same : Refused i ≡ Refused k = ap (λ (x : Verdict). Refused (refused-number x)) e in record { same-case = ap case-number same; same-values = ap case-values same }
+    go (Refused i) e = let same : Refused i ≡ Refused k = ap (λ (x : Verdict). Refused (cause-of x)) e in
+        record { same-case = ap case-number same; same-values = ap case-values same }
     go Empty e = absurd (subst is-refused (sym e) tt)
 
 -- ---- no number outside the call's list
 
 abbrev Among : Verdict → List ℕ → Type 0
-Among goes-on ks = Unit {0}
+Among admitted ks = Unit {0}
 Among (refused-with i) ks = i ∈ ks
 
 -- the tests fail with a number of the list, or not at all
@@ -164,13 +165,15 @@ record Within (tests : List Test) (ks : List ℕ) : Type 0 where
   among : Among (first-failing tests) ks
 
 last : (ks : List ℕ) → Within [] ks
+unfolding first-failing
 last ks = record { among = tt }
 
-more : (t : Test) (ts : List Test) (ks : List ℕ) → Within ts ks → Within (t ∷ ts) (t .number ∷ ks)
+more : (t : Test) (ts : List Test) (ks : List ℕ) → Within ts ks → Within (t ∷ ts) (t .cause ∷ ks)
+unfolding first-failing
 more t ts ks w = record { among = go (t .passes) (first-failing ts) (w .among) }
   where
-    go : (b : Bool) (x : Verdict) → Among x ks → Among (cond b x (refused-with (t .number))) (t .number ∷ ks)
-    go true goes-on w = tt
+    go : (b : Bool) (x : Verdict) → Among x ks → Among (cond b x (refused-with (t .cause))) (t .cause ∷ ks)
+    go true admitted w = tt
     go true (refused-with i) w = later w
     go false x w = here
 
@@ -197,7 +200,7 @@ replied-within P.Finished r v d = last (10 ∷ [])
 replied-within P.Callback r v d = last (10 ∷ [])
 
 within : (h : Held) (c : Call) → Within (tests-of h c) (numbers-of c)
-unfolding tests-of numbers-of start-tests attempt-tests reply-tests accept-tests callback-tests abandon-tests
+unfolding tests-of numbers-of
 within h (Start f n y t) = more _ _ _ (more _ _ _ (more _ _ _ (more _ _ _ (more _ _ _ (last [])))))
 within h (Attempt a) = more _ _ _ (more _ _ _ (more _ _ _ (more _ _ _ (more _ _ _ (more _ _ _ (last []))))))
 within h (Reply d) = more _ _ _ (more _ _ _ (more _ _ _ (more _ _ _ (more _ _ _ (more _ _ _ (replied-within (h .kept .phase) (h .kept) (unpack (h .kept .n) (h .area)) d))))))

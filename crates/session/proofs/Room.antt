@@ -10,7 +10,7 @@ use lib.ListN.{length, take}
 use lib.Ieee.{Float}
 use Rattle.workspace.specs.declared.Arguments.{Arguments}
 use Rattle.driver.specs.declared.Answer.the-variants.{Refused}
-use Rattle.driver.specs.Calls.{Held, Called, as-long, finishes, room, has-room, check, attempt, reply}
+use Rattle.driver.specs.Calls.{Held, Called, as-long, finishes, room, has-room, attempt, reply, first-failing, decide, guarded, reply-tests}
 use Rattle.session.specs.Attempt.{closes, Asking, done, stopped, ask, Finished-attempt, Evaluated, evaluated, reaches-candidate}
 use Rattle.session.specs.Claim.{answers, after, Allowed, Pending, Waits, in-one-piece, room-in, replies-to, Room-for-first, Counters-full-at}
 use Rattle.session.proofs.Truth.{differ, and-none}
@@ -25,7 +25,7 @@ pends h a e x p w = record { family-known = rw (w .family-is) (p .family-known);
 
 -- no room: turned away with 8
 pub refused-without-room : (g : Held) → Pending g → room-in g ≡ false → (d : List Float) → length d ≡ g .kept .n → reply g d ≡ refused-with-eight g
-unfolding reply check as-long
+unfolding reply reply-tests guarded decide first-failing as-long
 refused-without-room g p full d hd = rw (p .family-known, p .n-sized, p .area-whole, eq-eqb (length d) (g .kept .n) hd, p .awaits, full)
 
 stays : (d : ℕ → List Float) (g : Held) → ((i : ℕ) → reply g (d i) ≡ refused-with-eight g) → (i m : ℕ) (x : Called) → x .held ≡ g → after (suc i) d m x ≡ refused-with-eight g

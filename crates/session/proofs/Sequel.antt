@@ -5,7 +5,8 @@ use Prim.Native.Nat.{ℕ}
 use Rattle.family.specs.Family.{known}
 use Rattle.workspace.specs.Vectors.{unpack}
 use Rattle.workspace.specs.declared.Arguments.{Arguments}
-use Rattle.driver.specs.Calls.{Held, Called, accepted, sized, whole-area, may-attempt, may-accept, good-times, good-tolerances, check, going-on, accept}
+use Rattle.driver.specs.Calls.{Held, Called, accepted, sized, whole-area, may-attempt, may-accept, good-times, good-tolerances, going-on, accept}
+use Rattle.driver.specs.Calls.{first-failing, decide, guarded, accept-tests}
 use Rattle.session.specs.Attempt.{Finished-attempt}
 use Rattle.session.specs.Claim.{Allowed, Finishes}
 use Rattle.workspace.proofs.Areas.{unpack-pack}
@@ -39,5 +40,5 @@ module _ (h : Held) (a : Arguments) (p : Allowed h a) (o : Finished-attempt) (re
 
   -- accept goes through: the last derivative becomes the first, the candidate the kept state
   pub accepts : accept (x .held) ≡ going-on (x .held .counters) (accepted (x .held .kept) (o .vectors))
-  unfolding accept check may-accept
+  unfolding accept accept-tests guarded decide first-failing may-accept
   accepts = rw (family-known, n-sized, area-whole, f .phase-is, vectors-are)

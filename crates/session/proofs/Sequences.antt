@@ -12,7 +12,8 @@ use Rattle.driver.specs.declared.Answer.the-variants.{Evaluate, Finished, Ready
 use Rattle.driver.specs.Answers.{case-number, case-values}
 use Rattle.driver.specs.Calls.{Held, whole-area, start, Call, Start, Attempt, Reply, Accept, Accept-with-callback, Abandon, made, taken}
 use Rattle.session.specs.Session.{Seen, call-seen, seen-of, Session, session-after, session-seen, takes, session, fresh}
-use Rattle.session.proofs.Truth.{differ, and-right}
+use Rattle.ieee.proofs.Logic.{and-right}
+use Rattle.session.proofs.Truth.{differ}
 use Rattle.session.proofs.Leaves.{leaves}
 use Rattle.session.proofs.Shows.{Does, Good, seen-alike}
 use Rattle.session.proofs.OnStart.{start-tells, start-good, start-area}

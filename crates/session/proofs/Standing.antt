@@ -10,29 +10,14 @@ use Rattle.driver.specs.declared.Phase.{Phase}
 use Rattle.driver.specs.declared.Phase.the-variants as P
 use Rattle.driver.specs.declared.Record.{Record}
 use Rattle.driver.specs.declared.Counters.{Counters}
-use Rattle.driver.specs.declared.Answer.the-variants.{Refused}
-use Rattle.driver.specs.Calls.{Held, Called, sized, whole-area, as-long, pending, in-range, awaiting, may-attempt, may-accept, room, has-room, check, taken}
+use Rattle.driver.specs.Calls.{Held, sized, whole-area, as-long, pending, in-range, awaiting, may-attempt, may-accept, room, has-room}
 use Rattle.session.specs.Attempt.{done, stopped, ask, Finished-attempt}
 use Rattle.session.specs.Session.{ready-with, tried, Doing, none, within, Session, rests, has-tried, waits, waits-with-room}
-use Rattle.session.proofs.Truth.{differ, and-left}
+use Rattle.ieee.proofs.Logic.{and-left}
+use Rattle.session.proofs.Truth.{differ}
 use Rattle.session.proofs.Shows.{At, Shows, Does}
 
--- ---- a call that is taken passed its tests, and passing them is being taken
-
-pub check-taken : (h : Held) (k : ℕ) (test : Bool) (go : Called) → taken (Refused k) ≡ false → taken (check h k test go .answer) ≡ true → (test ≡ true) × (taken (go .answer) ≡ true)
-unfolding check
-check-taken h k true go e q = (refl, q)
-check-taken h k false go e q = absurd (differ (sym e ∙ q))
-
-pub check-tells : (h : Held) (k : ℕ) (test : Bool) (go : Called) (b : Bool) → taken (Refused k) ≡ false → taken (go .answer) ≡ b → taken (check h k test go .answer) ≡ test && b
-unfolding check
-check-tells h k true go b e q = q
-check-tells h k false go b e q = e
-
-pub last-tells : (h : Held) (k : ℕ) (test : Bool) (go : Called) → taken (Refused k) ≡ false → taken (go .answer) ≡ true → taken (check h k test go .answer) ≡ test
-unfolding check
-last-tells h k true go e q = q
-last-tells h k false go e q = e
+-- ---- the first three tests
 
 pub all-pass : (a b c x : Bool) → a ≡ true → b ≡ true → c ≡ true → a && (b && (c && x)) ≡ x
 all-pass a b c x p q r = rw (p, q, r)

@@ -13,7 +13,8 @@ use Rattle.driver.specs.declared.Phase.the-variants as P
 use Rattle.driver.specs.Calls.{Held, Called, in-phase, first-at, pending, Call, Attempt, Reply, made, taken}
 use Rattle.session.specs.Session.{taken-of, held-after}
 use Rattle.session.specs.Concluded.{Taken-among, found, taken-since, cases-of, cases-since}
-use Rattle.session.proofs.Truth.{differ, and-left, and-right}
+use Rattle.ieee.proofs.Logic.{and-left, and-right}
+use Rattle.session.proofs.Truth.{differ}
 use Rattle.session.proofs.Later.{last, further, taken-further, cases-further}
 use Rattle.session.proofs.Outcomes.{Outcome, away, starts, attempts, spoils, readies, iterates, begins, goes-on, asks-candidate, finishes}
 use Rattle.session.proofs.Outcomes.{accepts, calls-back, abandons}

@@ -2,8 +2,7 @@
 use mathlib.Core.Path.{_≡_, refl, ap₂}
 use mathlib.Core.Bool.{Bool, true, false, _&&_, _||_, false≢true}
 use lib.Dec.{T}
-use Rattle.ieee.proofs.Cases.{yes}
-use Rattle.driver.proofs.Sizes as Sizes
+use Rattle.ieee.proofs.Logic.{yes}
 
 pub differ : false ≡ true → ⊥
 differ = false≢true
@@ -13,12 +12,6 @@ holds b e = yes e
 
 pub both : {a b : Bool} → a ≡ true → b ≡ true → a && b ≡ true
 both p q = ap₂ _&&_ p q
-
-pub and-left : (a b : Bool) → a && b ≡ true → a ≡ true
-and-left a b e = Sizes.both a b e .0
-
-pub and-right : (a b : Bool) → a && b ≡ true → b ≡ true
-and-right a b e = Sizes.both a b e .1
 
 pub and-none : (a b : Bool) → b ≡ false → a && b ≡ false
 and-none true b e = e

@@ -8,7 +8,6 @@ use lib.Ieee.{Float}
 use lib.Ieee.Scale.{finite}
 use Rattle.family.specs.Family.{known, family-of}
 use Rattle.coefficients.specs.Rows.{coefficients}
-use Rattle.workspace.specs.declared.Arguments.{Arguments}
 use Rattle.workspace.specs.Vectors.{Vectors, unpack, all-finite, last-derivative, next-stage}
 use Rattle.workspace.specs.Kernel.{turned, radius-of, ended, scaled, with-row}
 use Rattle.driver.specs.declared.Phase.{Phase}
@@ -18,56 +17,20 @@ use Rattle.driver.specs.declared.Need.{Need}
 use Rattle.driver.specs.declared.Need.the-variants.{Met, Unmet}
 use Rattle.driver.specs.declared.Answer.{Answer}
 use Rattle.driver.specs.declared.Answer.the-variants.{Evaluate, Finished, Ready, Refused, Empty}
-use Rattle.driver.specs.Calls.{Held, in-phase, stage-need, sized, whole-area, as-long, awaiting, may-attempt, may-accept, good-times, good-tolerances, has-room, Call, Start, Attempt, Reply, Accept, Accept-with-callback, Abandon}
+use Rattle.driver.specs.Calls.{Held, in-phase, stage-need, Test, _∶_, Verdict, admitted, refused-with}
+use Rattle.driver.specs.Calls.{sized, whole-area, as-long, awaiting, may-attempt, may-accept, good-times, good-tolerances, has-room}
+use Rattle.driver.specs.Calls.{Call, Start, Attempt, Reply, Accept, Accept-with-callback, Abandon}
 
 -- the numbers are 1 to this
 abbrev pub largest-number : ℕ
 largest-number = 10
 
--- turned away with a number, or not
-pub data Verdict : Type 0 where
-  goes-on : Verdict
-  refused-with : ℕ → Verdict
-
 abbrev pub verdict-of : Answer → Verdict
-verdict-of (Evaluate t b) = goes-on
-verdict-of (Finished e) = goes-on
-verdict-of Ready = goes-on
+verdict-of (Evaluate t b) = admitted
+verdict-of (Finished e) = admitted
+verdict-of Ready = admitted
 verdict-of (Refused i) = refused-with i
-verdict-of Empty = goes-on
-
--- a test's number, and whether it passes
-pub record Test : Type 0 where
-  pub number : ℕ
-  pub passes : Bool
-
-infix 90 _∶_
-abbrev pub _∶_ : ℕ → Bool → Test
-number ∶ passes = record { number = number; passes = passes }
-
--- by the first test that fails
-abbrev pub first-failing : List Test → Verdict
-first-failing [] = goes-on
-first-failing (t ∷ ts) = cond (t .passes) (first-failing ts) (refused-with (t .number))
-
-unfoldable pub start-tests : Held → ℕ → ℕ → List Float → Float → List Test
-start-tests h f n y t =
-    1 ∶ known f
-    ∷ 2 ∶ sized n
-    ∷ 3 ∶ (whole-area f n (h .area) && as-long n y)
-    ∷ 5 ∶ all-finite y
-    ∷ 6 ∶ finite t
-    ∷ []
-
-unfoldable pub attempt-tests : Held → Arguments → List Test
-attempt-tests h a = let r = h .kept in
-    1 ∶ known (r .family)
-    ∷ 2 ∶ sized (r .n)
-    ∷ 3 ∶ whole-area (r .family) (r .n) (h .area)
-    ∷ 4 ∶ may-attempt (r .phase)
-    ∷ 6 ∶ good-times a
-    ∷ 7 ∶ good-tolerances a
-    ∷ []
+verdict-of Empty = admitted
 
 -- a reply that ends the power iteration has the need of stages tested (no family's need is refused yet: `Unmet` is empty today)
 unfoldable pub need-tests : Need → List Test
@@ -101,49 +64,33 @@ replied-tests P.Candidate r v d = []
 replied-tests P.Finished r v d = []
 replied-tests P.Callback r v d = []
 
-unfoldable pub reply-tests : Held → List Float → List Test
-reply-tests h d = let r = h .kept in
-    1 ∶ known (r .family)
-    ∷ 2 ∶ sized (r .n)
-    ∷ 3 ∶ (whole-area (r .family) (r .n) (h .area) && as-long (r .n) d)
-    ∷ 4 ∶ awaiting r
-    ∷ 8 ∶ has-room (r .phase) (h .counters)
-    ∷ 9 ∶ all-finite d
-    ∷ replied-tests (r .phase) r (unpack (r .n) (h .area)) d
+-- ---- the tests of every call, spelled from the document's sentence and not from the lists that the calls go by: `refused` holds those against these
 
-unfoldable pub accept-tests : Held → List Test
-accept-tests h = let r = h .kept in
-    1 ∶ known (r .family)
-    ∷ 2 ∶ sized (r .n)
-    ∷ 3 ∶ whole-area (r .family) (r .n) (h .area)
-    ∷ 4 ∶ may-accept (r .phase)
-    ∷ []
+abbrev pub one-to-three : ℕ → ℕ → Bool → List Test → List Test
+one-to-three f n lengths more = 1 ∶ known f ∷ 2 ∶ sized n ∷ 3 ∶ lengths ∷ more
 
-unfoldable pub callback-tests : Held → List Float → Float → List Test
-callback-tests h y t = let r = h .kept in
-    1 ∶ known (r .family)
-    ∷ 2 ∶ sized (r .n)
-    ∷ 3 ∶ (whole-area (r .family) (r .n) (h .area) && as-long (r .n) y)
-    ∷ 4 ∶ may-accept (r .phase)
-    ∷ 5 ∶ all-finite y
-    ∷ 6 ∶ finite t
-    ∷ []
+abbrev pub one-to-four : Record → Bool → Bool → List Test → List Test
+one-to-four r lengths phase-allows more = one-to-three (r .family) (r .n) lengths (4 ∶ phase-allows ∷ more)
 
-unfoldable pub abandon-tests : Held → List Test
-abandon-tests h = let r = h .kept in
-    1 ∶ known (r .family)
-    ∷ 2 ∶ sized (r .n)
-    ∷ 3 ∶ whole-area (r .family) (r .n) (h .area)
-    ∷ 4 ∶ awaiting r
-    ∷ []
+-- "area not 11 × n"; "or vector not n long"
+abbrev pub area-good : Held → Bool
+area-good h = whole-area (h .kept .family) (h .kept .n) (h .area)
 
+abbrev pub lengths-good : Held → List Float → Bool
+lengths-good h v = area-good h && as-long (h .kept .n) v
+
+-- "Every call has 1 to 4 (start: on what it brings, and no phase); start and accept with a callback 5 and time in 6; attempt 6 and 7, with or without
+-- `adaptive`; every reply 8 and 9; the reply that ends stage s also 10."
 unfoldable pub tests-of : Held → Call → List Test
-tests-of h (Start f n y t) = start-tests h f n y t
-tests-of h (Attempt a) = attempt-tests h a
-tests-of h (Reply d) = reply-tests h d
-tests-of h Accept = accept-tests h
-tests-of h (Accept-with-callback y t) = callback-tests h y t
-tests-of h Abandon = abandon-tests h
+tests-of h (Start f n y t) = one-to-three f n (whole-area f n (h .area) && as-long n y) (5 ∶ all-finite y ∷ 6 ∶ finite t ∷ [])
+tests-of h (Attempt a) = one-to-four (h .kept) (area-good h) (may-attempt (h .kept .phase)) (6 ∶ good-times a ∷ 7 ∶ good-tolerances a ∷ [])
+tests-of h (Reply d) = let r = h .kept in
+    one-to-four r (lengths-good h d) (awaiting r)
+    (8 ∶ has-room (r .phase) (h .counters) ∷ 9 ∶ all-finite d ∷ replied-tests (r .phase) r (unpack (r .n) (h .area)) d)
+tests-of h Accept = one-to-four (h .kept) (area-good h) (may-accept (h .kept .phase)) []
+tests-of h (Accept-with-callback y t) =
+    one-to-four (h .kept) (lengths-good h y) (may-accept (h .kept .phase)) (5 ∶ all-finite y ∷ 6 ∶ finite t ∷ [])
+tests-of h Abandon = one-to-four (h .kept) (area-good h) (awaiting (h .kept)) []
 
 -- the numbers that a call can answer, and no other
 unfoldable pub numbers-of : Call → List ℕ

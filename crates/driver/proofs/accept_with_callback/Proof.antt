@@ -1,168 +1,66 @@
--- `accept_with_callback` meets its contract: each refusal is the check of that number; past them all, the state is put.
+-- `accept_with_callback` meets its contract: turned away with the number of its cause (Ladder); without one (Clear), the state is kept.
 use mathlib.Core.Path.{refl, _∙_}
 use borrow.Author.Needs.{needs}
 use Rattle.family.specs.Family.{family-of}
 use Rattle.workspace.proofs.Areas.{whole}
-use Rattle.driver.specs.Calls.{accept-with-callback, called-back}
+use Rattle.driver.specs.Calls.{callback-tests, accept-with-callback, called-back}
 use Rattle.driver.proofs.Steps.{keeps}
-use Rattle.driver.proofs.Sizes.{most, both-long}
-use Rattle.driver.proofs.Ladder.{fails, passes, away, past, says}
+use Rattle.driver.proofs.Clear.{brings}
+use Rattle.driver.proofs.Ladder.{refused-keeps, admitted-keeps, says}
 use Rattle.driver.proofs.accept_with_callback.Statement.{statement}
 use Rattle.driver.proofs.accept_with_callback.Tie as tie
 
-known-requires : tie.Need-known-requires
-known-requires c κs = search needs
+of-callback-requires : tie.Need-of-callback-requires
+of-callback-requires c κs = search needs
 
 refused-requires : tie.Need-refused-requires
 refused-requires c κs = search needs
 
-returns : tie.Need-returns
-unfolding accept-with-callback
-returns c =
-    let c₁ = c .before in
-    away _ _ (fails (c₁ .before .known .ensures) (c₁ .if1 .taken)) (c .refused .ensures)
-
-sized-requires : tie.Need-sized-requires
-sized-requires c κs = search needs
-
-refused-requires-2 : tie.Need-refused-requires-2
-refused-requires-2 c κs = search needs
-
-returns-2 : tie.Need-returns-2
-unfolding accept-with-callback
-returns-2 c =
-    let c₂ = c .before in
-    let c₁ = c₂ .before .before in
-    past _ _ (passes (c₁ .before .known .ensures) (c₁ .if1 .left)) (away _ _ (fails (c₂ .before .sized .ensures) (c₂ .if2 .taken)) (c .refused2 .ensures))
-
-both-long-requires : tie.Need-both-long-requires
-both-long-requires c κs = most _ (passes (c .before .before .sized .ensures) (c .before .if2 .left))
-
-refused-requires-3 : tie.Need-refused-requires-3
-refused-requires-3 c κs = search needs
-
 same-length : tie.Need-same-length
 same-length c = search needs
 
-returns-3 : tie.Need-returns-3
+returns : tie.Need-returns
 unfolding accept-with-callback
-returns-3 c =
-    let c₃ = c .before in
-    let c₂ = c₃ .before .before .before in
-    let c₁ = c₂ .before .before in
-    past _ _ (passes (c₁ .before .known .ensures) (c₁ .if1 .left)) (past _ _ (passes (c₂ .before .sized .ensures) (c₂ .if2 .left)) (away _ _ (fails (c₃ .before .both-long .ensures) (c₃ .if3 .taken)) (c .refused3 .ensures)))
-
-may-accept-requires : tie.Need-may-accept-requires
-may-accept-requires c κs = search needs
-
-refused-requires-4 : tie.Need-refused-requires-4
-refused-requires-4 c κs = search needs
-
-same-length-2 : tie.Need-same-length-2
-same-length-2 c = search needs
-
-returns-4 : tie.Need-returns-4
-unfolding accept-with-callback
-returns-4 c =
-    let c₄ = c .before in
-    let c₃ = c₄ .before .before in
-    let c₂ = c₃ .before .before .before in
-    let c₁ = c₂ .before .before in
-    past _ _ (passes (c₁ .before .known .ensures) (c₁ .if1 .left)) (past _ _ (passes (c₂ .before .sized .ensures) (c₂ .if2 .left)) (past _ _ (passes (c₃ .before .both-long .ensures) (c₃ .if3 .left)) (away _ _ (fails (c₄ .before .may-accept .ensures) (c₄ .if4 .taken)) (c .refused4 .ensures))))
-
-all-finite-requires : tie.Need-all-finite-requires
-all-finite-requires c κs = search needs
-
-refused-requires-5 : tie.Need-refused-requires-5
-refused-requires-5 c κs = search needs
-
-same-length-3 : tie.Need-same-length-3
-same-length-3 c = search needs
-
-returns-5 : tie.Need-returns-5
-unfolding accept-with-callback
-returns-5 c =
-    let c₅ = c .before in
-    let c₄ = c₅ .before .before in
-    let c₃ = c₄ .before .before in
-    let c₂ = c₃ .before .before .before in
-    let c₁ = c₂ .before .before in
-    past _ _ (passes (c₁ .before .known .ensures) (c₁ .if1 .left)) (past _ _ (passes (c₂ .before .sized .ensures) (c₂ .if2 .left)) (past _ _ (passes (c₃ .before .both-long .ensures) (c₃ .if3 .left)) (past _ _ (passes (c₄ .before .may-accept .ensures) (c₄ .if4 .left)) (away _ _ (fails (c₅ .before .all-finite .ensures) (c₅ .if5 .taken)) (c .refused5 .ensures)))))
-
-is-finite-requires : tie.Need-is-finite-requires
-is-finite-requires c κs = search needs
-
-refused-requires-6 : tie.Need-refused-requires-6
-refused-requires-6 c κs = search needs
-
-same-length-4 : tie.Need-same-length-4
-same-length-4 c = search needs
-
-returns-6 : tie.Need-returns-6
-unfolding accept-with-callback
-returns-6 c =
-    let c₆ = c .before in
-    let c₅ = c₆ .before .before in
-    let c₄ = c₅ .before .before in
-    let c₃ = c₄ .before .before in
-    let c₂ = c₃ .before .before .before in
-    let c₁ = c₂ .before .before in
-    past _ _ (passes (c₁ .before .known .ensures) (c₁ .if1 .left)) (past _ _ (passes (c₂ .before .sized .ensures) (c₂ .if2 .left)) (past _ _ (passes (c₃ .before .both-long .ensures) (c₃ .if3 .left)) (past _ _ (passes (c₄ .before .may-accept .ensures) (c₄ .if4 .left)) (past _ _ (passes (c₅ .before .all-finite .ensures) (c₅ .if5 .left)) (away _ _ (fails (c₆ .before .is-finite .ensures) (c₆ .if6 .taken)) (c .refused6 .ensures))))))
+returns c = refused-keeps _ _ _ (c .before .before .of-callback .ensures) (c .before .if1 .taken) (c .refused .ensures)
 
 put-vector-requires : tie.Need-put-vector-requires
+unfolding callback-tests
 put-vector-requires c κs =
-    let a = c .before .before .before .before .before .before .before .before .before .before .before .before .before .before .before .before .args in
+    let t = c .before in
+    let a = t .before .before .before .before .before .args in
     let r = a .«record» in
-    let l = both-long (r .family) (r .n) (a .area .now) (a .state .now) (passes (c .before .before .before .before .before .before .before .before .both-long .ensures) (c .before .before .before .before .before .before .before .if3 .left)) in
-    (whole (family-of (r .family)) (r .n) (a .area .now) (l .0), (l .1, search needs))
+    let l = brings (r .family) (r .n) (a .area .now) (a .state .now) _ refl (t .before .of-callback .ensures) (t .if1 .left) in
+    (whole (family-of (r .family)) (r .n) (a .area .now) (l .long), (l .brought, search needs))
 
 first-at-requires : tie.Need-first-at-requires
 first-at-requires c κs = search needs
 
-same-length-5 : tie.Need-same-length-5
-same-length-5 c = search needs
+same-length-2 : tie.Need-same-length-2
+same-length-2 c = search needs
 
-returns-7 : tie.Need-returns-7
-unfolding accept-with-callback called-back
-returns-7 c =
-    let a = c .before .before .before .before .before .before .before .before .before .before .before .before .before .before .before .before .before .before .before .before .args in
+returns-2 : tie.Need-returns-2
+unfolding accept-with-callback callback-tests called-back
+returns-2 c =
+    let t = c .before .before .before .before .before in
+    let a = t .before .before .before .before .before .args in
     let r = a .«record» in
-    let c₆ = c .before .before .before .before .before in
-    let c₅ = c₆ .before .before in
-    let c₄ = c₅ .before .before in
-    let c₃ = c₄ .before .before in
-    let c₂ = c₃ .before .before .before in
-    let c₁ = c₂ .before .before in
-    past _ _ (passes (c₁ .before .known .ensures) (c₁ .if1 .left)) (past _ _ (passes (c₂ .before .sized .ensures) (c₂ .if2 .left)) (past _ _ (passes (c₃ .before .both-long .ensures) (c₃ .if3 .left)) (past _ _ (passes (c₄ .before .may-accept .ensures) (c₄ .if4 .left)) (past _ _ (passes (c₅ .before .all-finite .ensures) (c₅ .if5 .left)) (past _ _ (passes (c₆ .before .is-finite .ensures) (c₆ .if6 .left)) (keeps (family-of (r .family)) (r .n) _ (same-length-5 c ∙ both-long (r .family) (r .n) (a .area .now) (a .state .now) (passes (c .before .before .before .before .before .before .before .before .before .before .before .before .both-long .ensures) (c .before .before .before .before .before .before .before .before .before .before .before .if3 .left)) .0)
-    (record { answer = says refl; kept = c .first-at .ensures; vectors = c .before .before .before .put-vector .ensures .vectors })))))))
+    let l = brings (r .family) (r .n) (a .area .now) (a .state .now) _ refl (t .before .of-callback .ensures) (t .if1 .left) in
+    admitted-keeps _ _ (l .none)
+    (keeps (family-of (r .family)) (r .n) _ (same-length-2 c ∙ l .long) (record {
+      answer = says refl;
+      kept = c .first-at .ensures;
+      vectors = c .before .before .before .put-vector .ensures .vectors;
+    }))
 
 pub accept-with-callback-spec : {M : Type 1} → statement M
 accept-with-callback-spec =
     tie.close
     (tie.spec
-    known-requires
+    of-callback-requires
     refused-requires
-    returns
-    sized-requires
-    refused-requires-2
-    returns-2
-    both-long-requires
-    refused-requires-3
     same-length
-    returns-3
-    may-accept-requires
-    refused-requires-4
-    same-length-2
-    returns-4
-    all-finite-requires
-    refused-requires-5
-    same-length-3
-    returns-5
-    is-finite-requires
-    refused-requires-6
-    same-length-4
-    returns-6
+    returns
     put-vector-requires
     first-at-requires
-    same-length-5
-    returns-7)
+    same-length-2
+    returns-2)
