@@ -48,7 +48,8 @@ above-none f b e = ap (λ (x : Bool). one-if (x && b)) e
 
 -- a minute more, finished
 with-finished : (m : Inverter) (k : ℕ) (c : Called) (t : So-far) → refusal (c .answer) ≡ 0
-    → c .held .counters .«finished_attempts» ≡ t .count .counters .«finished_attempts» + 1 → Acceptable (c .held) → After k t → After (k + 1) (with-minute m c t)
+    → c .held .counters .«finished_attempts» ≡ t .count .counters .«finished_attempts» + 1 → Acceptable (c .held)
+    → After k t → After (k + 1) (with-minute m c t)
 unfolding with-minute counted is-above
 with-finished m k c t z n o a =
     let x = refusal (c .answer) in
@@ -68,7 +69,8 @@ with-finished m k c t z n o a =
 
 -- a minute more, refused, by the engine or before it
 with-refused : (m : Inverter) (k : ℕ) (c : Called) (t : So-far) → finished (c .answer) ≡ false → 1 ≤ refusal (c .answer) → refusal (c .answer) ≤ largest-number
-    → c .held .counters .«finished_attempts» ≡ t .count .counters .«finished_attempts» → Acceptable (c .held) → After k t → After (k + 1) (with-minute m c t)
+    → c .held .counters .«finished_attempts» ≡ t .count .counters .«finished_attempts» → Acceptable (c .held)
+    → After k t → After (k + 1) (with-minute m c t)
 unfolding with-minute counted is-above
 with-refused m k c t f l most n o a =
     let x = refusal (c .answer) in
@@ -87,13 +89,16 @@ with-refused m k c t f l most n o a =
     }
 
 -- a minute more
-with-minute-after : (m : Inverter) (k : ℕ) (reading : Float) (c : Called) (t : So-far) → Ended reading (held t) c → Acceptable (c .held) → After k t → After (k + 1) (with-minute m c t)
+with-minute-after : (m : Inverter) (k : ℕ) (reading : Float) (c : Called) (t : So-far) → Ended reading (held t) c → Acceptable (c .held)
+    → After k t → After (k + 1) (with-minute m c t)
 unfolding finished refusal
 with-minute-after m k reading c t (Completed r f z p n) o a = with-finished m k c t z n o a
 with-minute-after m k reading c t (Given-up r f l most p n) o a = with-refused m k c t f l most n o a
 with-minute-after m k reading c t (Kept-out r e) o a =
     let nine : refusal (c .answer) ≡ 9 = ap (λ (x : Called). refusal (x .answer)) e in
-    with-refused m k c t (ap (λ (x : Called). finished (x .answer)) e) (omega (arith, nine)) (omega (arith, nine)) (ap (λ (x : Called). x .held .counters .«finished_attempts») e) o a
+    let none = ap (λ (x : Called). finished (x .answer)) e in
+    let same = ap (λ (x : Called). x .held .counters .«finished_attempts») e in
+    with-refused m k c t none (omega (arith, nine)) (omega (arith, nine)) same o a
 
 run-after : (m : Inverter) (minute k : ℕ) (readings : List Float) (t : So-far) → After k t → After (k + length readings) (run m minute readings t)
 unfolding run

@@ -23,21 +23,25 @@ use Rattle.accounts.specs.Accounts.{engine-alone, Keeps-out}
 
 module _ (m : Inverter) where
   -- what stands in the two lists stays
-  number-stays : (minute : ℕ) (readings : List Float) (t : So-far) (j : ℕ) → j < length (t .refusals) → getD (run m minute readings t .refusals) j 0 ≡ getD (t .refusals) j 0
+  number-stays : (minute : ℕ) (readings : List Float) (t : So-far) (j : ℕ) → j < length (t .refusals)
+      → getD (run m minute readings t .refusals) j 0 ≡ getD (t .refusals) j 0
   unfolding run with-minute
   number-stays minute [] t j h = refl
   number-stays minute (reading ∷ readings) t j h =
       let c = taken m minute reading (upcoming reading readings) (held t) in
       let k = refusal (c .answer) in
-      number-stays (minute + 1) readings (with-minute m c t) j (omega (arith, length-append (t .refusals) (k ∷ []))) ∙ List·getD-append (t .refusals) (k ∷ []) 0 j h
+      number-stays (minute + 1) readings (with-minute m c t) j (omega (arith, length-append (t .refusals) (k ∷ [])))
+      ∙ List·getD-append (t .refusals) (k ∷ []) 0 j h
 
-  junction-stays : (minute : ℕ) (readings : List Float) (t : So-far) (j : ℕ) → j < length (t .junctions) → getD (run m minute readings t .junctions) j nan ≡ getD (t .junctions) j nan
+  junction-stays : (minute : ℕ) (readings : List Float) (t : So-far) (j : ℕ) → j < length (t .junctions)
+      → getD (run m minute readings t .junctions) j nan ≡ getD (t .junctions) j nan
   unfolding run with-minute
   junction-stays minute [] t j h = refl
   junction-stays minute (reading ∷ readings) t j h =
       let c = taken m minute reading (upcoming reading readings) (held t) in
       let x = junction m (c .held .kept .phase) (c .held .area) in
-      junction-stays (minute + 1) readings (with-minute m c t) j (omega (arith, length-append (t .junctions) (x ∷ []))) ∙ List·getD-append (t .junctions) (x ∷ []) nan j h
+      junction-stays (minute + 1) readings (with-minute m c t) j (omega (arith, length-append (t .junctions) (x ∷ [])))
+      ∙ List·getD-append (t .junctions) (x ∷ []) nan j h
 
   -- the number of minute i from here on, at its place p
   number-there : (minute : ℕ) (readings : List Float) (t : So-far) (i p : ℕ) → p ≡ length (t .refusals) + i → i < length readings
@@ -52,7 +56,9 @@ module _ (m : Inverter) where
       ∙ getD-append-seam (t .refusals) 9 [] 0
   number-there minute (reading ∷ readings) t (suc i) p q h e =
       let c = taken m minute reading (upcoming reading readings) (held t) in
-      number-there (minute + 1) readings (with-minute m c t) i p (omega (arith, q, length-append (t .refusals) (refusal (c .answer) ∷ []))) (le-of-suc-le-suc h) e
+      let u = with-minute m c t in
+      let place : p ≡ length (u .refusals) + i = omega (arith, q, length-append (t .refusals) (refusal (c .answer) ∷ [])) in
+      number-there (minute + 1) readings u i p place (le-of-suc-le-suc h) e
 
   -- two minutes with the same junction x, the second at place p + 1
   twice : (minute : ℕ) (readings : List Float) (t : So-far) (p : ℕ) (js : List Float) (x : Float) → p ≡ length js → t .junctions ≡ (js ++ (x ∷ [])) ++ (x ∷ [])
@@ -105,15 +111,17 @@ module _ (m : Inverter) where
       }
 
 -- of a report of a day, whatever the two lists held before
-module _ (text before : List ℕ) (temperatures : List Float) (m : Inverter) (readings : List Float) (parsed : Text.parsed text ≡ Text.Day m readings) (r : Total) where
-  pub keeps-out : {refusals : List ℕ} {junctions : List Float} → Reports (day text before temperatures) (Day r) refusals junctions → Keeps-out m readings r refusals junctions
+module _ (text before : List ℕ) (temperatures : List Float) (m : Inverter) (readings : List Float) (r : Total) where
+  pub keeps-out : {refusals : List ℕ} {junctions : List Float} → Text.parsed text ≡ Text.Day m readings
+      → Reports (day text before temperatures) (Day r) refusals junctions → Keeps-out m readings r refusals junctions
   unfolding day reported
-  keeps-out {refusals} {junctions} h =
+  keeps-out {refusals} {junctions} parsed h =
       let t = run m 0 readings (outset (first-area m)) in
       let k = day-keeps-out m readings in
-      let results : Day r ≡ reported (Text.Day m readings) before temperatures .result = h .results ∙ ap (λ (p : Text.Parsed). reported p before temperatures .result) parsed in
+      let results : Day r ≡ Day (total t) = h .results ∙ ap (λ (p : Text.Parsed). reported p before temperatures .result) parsed in
       let same : total t ≡ r = cc in
       let numbers : t .refusals ≡ refusals = sym (h .numbers ∙ ap (λ (p : Text.Parsed). reported p before temperatures .refusals) parsed) in
       let warm : t .junctions ≡ junctions = sym (h .temperatures ∙ ap (λ (p : Text.Parsed). reported p before temperatures .junctions) parsed) in
       subst (λ (x : Total). Keeps-out m readings x refusals junctions) same
-      (subst (λ (l : List ℕ). Keeps-out m readings (total t) l junctions) numbers (subst (λ (l : List Float). Keeps-out m readings (total t) (t .refusals) l) warm k))
+      (subst (λ (l : List ℕ). Keeps-out m readings (total t) l junctions) numbers
+      (subst (λ (l : List Float). Keeps-out m readings (total t) (t .refusals) l) warm k))

@@ -66,9 +66,11 @@ module _ (r : Record) where
       go true = refl
       go false = (omega arith, omega arith, refl)
 
-  after-pass : (t : Bool) (k : Record) (v : Vectors) (radius : Float) → calls.may-accept (k .phase) ≡ false → Answers (cond t (calls.begin-stages r v radius) (calls.ask-pass k v))
+  after-pass : (t : Bool) (k : Record) (v : Vectors) (radius : Float) → calls.may-accept (k .phase) ≡ false
+      → Answers (cond t (calls.begin-stages r v radius) (calls.ask-pass k v))
   unfolding Answer-of calls.begin-stages calls.ask-pass
-  after-pass true k v radius e = needed (family-of (r .family)) (calls.stage-need (family-of (r .family)) radius) v radius (need-holds (family-of (r .family)) radius)
+  after-pass true k v radius e = let f = family-of (r .family) in
+      needed f (calls.stage-need f radius) v radius (need-holds f radius)
   after-pass false k v radius e = e
 
   after-stage : (t : Bool) (k : Record) (v w : Vectors) → calls.may-accept (k .phase) ≡ false → Answers (cond t (calls.ask-stage k w) (calls.ask-candidate r v))
@@ -85,7 +87,8 @@ module _ (r : Record) where
       let i = r .iteration in
       let w = turned (r .n) v d in
       let radius = radius-of (i .perturbation) w in
-      after-pass (ended (i .pass) (i .«previous_radius») radius || eqb (i .pass) 12) (calls.at-pass (r .arguments) (i .pass + 1) (i .perturbation) radius r) w (scaled (r .arguments .step) radius) refl
+      let k = calls.at-pass (r .arguments) (i .pass + 1) (i .perturbation) radius r in
+      after-pass (ended (i .pass) (i .«previous_radius») radius || eqb (i .pass) 12) k w (scaled (r .arguments .step) radius) refl
   replied-answers P.Stage v d =
       let f = family-of (r .family) in
       let s = r .staging .stages in
@@ -117,8 +120,8 @@ Stands n c = Stand n (c .answer) (c .held)
 
 module _ (n : ℕ) (h : Held) (e : h .counters .«finished_attempts» ≡ n) where
   -- a reply that passed its tests, counted
-  counts : (a : Answer) (k : Record) (v : Vectors) → Answer-of (h .kept) a k → known (h .kept .family) ≡ true → calls.sized (h .kept .n) ≡ true → Long (h .kept .n) v
-      → Stand n a (holding k (calls.counted a (h .counters)) (pack v))
+  counts : (a : Answer) (k : Record) (v : Vectors) → Answer-of (h .kept) a k → known (h .kept .family) ≡ true → calls.sized (h .kept .n) ≡ true
+      → Long (h .kept .n) v → Stand n a (holding k (calls.counted a (h .counters)) (pack v))
   unfolding Answer-of Stand calls.counted
   counts (Evaluate time vector) k v o f s l = (e, o)
   counts (Finished norm) k v o f s l =
@@ -126,7 +129,8 @@ module _ (n : ℕ) (h : Held) (e : h .counters .«finished_attempts» ≡ n) whe
       let area = pack v in
       let family = subst (λ (x : ℕ). known x ≡ true) (sym (o .1)) f in
       let size = subst (λ (x : ℕ). calls.sized x ≡ true) (sym (o .2)) s in
-      let whole = subst (λ (x : ℕ). calls.whole-area x (k .n) area ≡ true) (sym (o .1)) (subst (λ (x : ℕ). calls.whole-area (h .kept .family) x area ≡ true) (sym (o .2)) w) in
+      let sized = subst (λ (x : ℕ). calls.whole-area (h .kept .family) x area ≡ true) (sym (o .2)) w in
+      let whole = subst (λ (x : ℕ). calls.whole-area x (k .n) area ≡ true) (sym (o .1)) sized in
       (ap (λ (j : ℕ). j + 1) e, o .0, accept-goes _ family size whole (o .0))
   counts Ready k v o f s l = (e, o)
   counts (Refused i) k v o f s l = (o .0, o .1, e, o .2)
@@ -199,14 +203,15 @@ module _ (m : Inverter) (minute : ℕ) where
     driven-stands n (suc k) c s = driven-stands n k (next m minute reading upcoming c) (on n (c .answer) (c .held) s)
 
     -- the last answer, which asks for no call
-    last : (h : Held) (c : Called) (a : Answer) → finite reading ≡ true → c .answer ≡ a → day.settled a ≡ true → Stand (h .counters .«finished_attempts») a (c .held)
-        → Ended reading h c × Acceptable (c .held)
+    last : (h : Held) (c : Called) (a : Answer) → finite reading ≡ true → c .answer ≡ a → day.settled a ≡ true
+        → Stand (h .counters .«finished_attempts») a (c .held) → Ended reading h c × Acceptable (c .held)
     unfolding Stand day.settled finished refusal
     last h c (Evaluate time vector) r e g s = absurd (false≢true g)
     last h c (Finished norm) r e g s = (Completed r (ap finished e) (ap refusal e) (s .1) (s .0), λ q. s .2)
     last h c Ready r e g s = absurd (false≢true g)
     last h c (Refused i) r e g s =
-        (Given-up r (ap finished e) (omega (arith, ap refusal e, s .0)) (omega (arith, ap refusal e, s .1)) (s .3) (s .2), λ q. absurd (false≢true (sym (s .3) ∙ q)))
+        let up : Ended reading h c = Given-up r (ap finished e) (omega (arith, ap refusal e, s .0)) (omega (arith, ap refusal e, s .1)) (s .3) (s .2) in
+        (up, λ q. absurd (false≢true (sym (s .3) ∙ q)))
     last h c Empty r e g s = absurd s
 
     -- from what can be accepted if it is finished, and so again
@@ -215,7 +220,8 @@ module _ (m : Inverter) (minute : ℕ) where
     minute-ended h o = go (finite reading) refl
       where
         go : (b : Bool) → finite reading ≡ b
-            → Ended reading h (cond b (passed m minute reading upcoming h) (called (Refused 9) h)) × Acceptable (cond b (passed m minute reading upcoming h) (called (Refused 9) h) .held)
+            → Ended reading h (cond b (passed m minute reading upcoming h) (called (Refused 9) h))
+            × Acceptable (cond b (passed m minute reading upcoming h) (called (Refused 9) h) .held)
         go true e = let c = driven m minute reading upcoming most-calls (begun m minute h) in
             last h c (c .answer) e refl (ends m minute reading upcoming h)
             (driven-stands (h .counters .«finished_attempts») most-calls (begun m minute h) (begun-stands h o))

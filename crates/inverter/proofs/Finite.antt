@@ -21,7 +21,8 @@ module _ (m : Inverter) (minute : ℕ) (reading after : Float) where
   pub kept-out-minute : (t : So-far) → finite reading ≡ false → with-minute m (taken m minute reading after (held t)) t ≡ kept-out m t
   unfolding with-minute counted is-above finished refusal kept-out
   kept-out-minute t e =
-      let count : ℕ → Count = λ above. record { «record» = t .count .«record»; counters = t .count .counters; above = above; refused = t .count .refused + 1 } in
+      let n = t .count in
+      let count : ℕ → Count = λ above. record { «record» = n .«record»; counters = n .counters; above = above; refused = n .refused + 1 } in
       let temperature = junction m (t .count .«record» .phase) (t .area) in
       ap (λ (c : Called). with-minute m c t) (sym (taken-not-finite m minute reading after (held t) e))
       ∙ ap (λ (above : ℕ). so-far (count above) (t .area) (t .refusals ++ (9 ∷ [])) (t .junctions ++ (temperature ∷ []))) (add-zero (t .count .above))
@@ -37,7 +38,8 @@ upcoming-finite reading (after ∷ readings) e = go (finite after) refl (upcomin
     go false f later = later
 
 -- every derivative of a minute that enters the engine is worked out from a finite reading
-pub finite-at : (reading : Float) (readings : List Float) (vector : ℕ) → finite reading ≡ true → finite (reading-at reading (upcoming reading readings) vector) ≡ true
+pub finite-at : (reading : Float) (readings : List Float) (vector : ℕ) → finite reading ≡ true
+    → finite (reading-at reading (upcoming reading readings) vector) ≡ true
 unfolding reading-at
 finite-at reading readings vector e = go (eqb vector (number candidate))
   where
@@ -52,12 +54,14 @@ next-upcoming minute reading [] = refl
 next-upcoming minute reading (after ∷ readings) = go (finite after) (next-upcoming (minute + 1) reading readings)
   where
     go : (b : Bool) → upcoming reading readings ≡ next-reading reading (heated (minute + 1) readings)
-        → cond b after (upcoming reading readings) ≡ next-reading reading (cond b (heated-by minute after ∷ heated (minute + 1) readings) (heated (minute + 1) readings))
+        → cond b after (upcoming reading readings)
+        ≡ next-reading reading (cond b (heated-by minute after ∷ heated (minute + 1) readings) (heated (minute + 1) readings))
     go true later = refl
     go false later = later
 
 -- the engine after a day's minutes
-pub left-by-finite : (m : Inverter) (minute : ℕ) (readings : List Float) (t : So-far) → held (run m minute readings t) ≡ left-by m (heated minute readings) (held t)
+pub left-by-finite : (m : Inverter) (minute : ℕ) (readings : List Float) (t : So-far)
+    → held (run m minute readings t) ≡ left-by m (heated minute readings) (held t)
 unfolding run with-minute counted heated left-by
 left-by-finite m minute [] t = refl
 left-by-finite m minute (reading ∷ readings) t =
@@ -68,7 +72,8 @@ left-by-finite m minute (reading ∷ readings) t =
     rest = heated (minute + 1) readings
 
     go : (b : Bool) → finite reading ≡ b
-        → left-by m rest (taken m minute reading (upcoming reading readings) (held t) .held) ≡ left-by m (cond b (heated-by minute reading ∷ rest) rest) (held t)
+        → left-by m rest (taken m minute reading (upcoming reading readings) (held t) .held)
+        ≡ left-by m (cond b (heated-by minute reading ∷ rest) rest) (held t)
     go true e =
         ap (λ (c : Called). left-by m rest (c .held)) (sym (taken-finite m minute reading (upcoming reading readings) (held t) e))
         ∙ ap (λ (x : Float). left-by m rest (passed m minute reading x (held t) .held)) (next-upcoming (minute + 1) reading readings)

@@ -60,7 +60,8 @@ module _ (reading : Float) (readings : List Float) (j : ℕ) where
   unfolding upcoming
   upcoming-here h e = rw (drop-cons readings j nan h) (simp e)
 
-  pub upcoming-later : j < length readings → finite (getD readings j nan) ≡ false → upcoming reading (drop j readings) ≡ upcoming reading (drop (j + 1) readings)
+  pub upcoming-later : j < length readings → finite (getD readings j nan) ≡ false
+      → upcoming reading (drop j readings) ≡ upcoming reading (drop (j + 1) readings)
   unfolding upcoming
   upcoming-later h e =
       rw (drop-cons readings j nan h) (simp e)

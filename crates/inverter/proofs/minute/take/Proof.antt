@@ -21,9 +21,9 @@ same-length-2 c = search needs
 returns : tie.Need-returns
 returns c = let s = c .before .before .before .before .before .before .before .before .before .before .before in
     let h = holding (s .args .«record») (s .args .counters) (s .args .area .now) in
-    c .before .before .before .before .pass .ensures
-    ∙ taken-finite (s .args .m) (s .args .minute) (s .args .reading) (s .args .upcoming) h
-    (sym (c .before .before .before .before .before .before .before .before .is-finite .ensures) ∙ c .before .before .before .before .before .before .before .if1 .taken)
+    let test = c .before .before .before .before .before .before .before in
+    let good = sym (test .before .is-finite .ensures) ∙ test .if1 .taken in
+    c .before .before .before .before .pass .ensures ∙ taken-finite (s .args .m) (s .args .minute) (s .args .reading) (s .args .upcoming) h good
 
 returns-2 : tie.Need-returns-2
 returns-2 c = let s = c .before .before .before .before in

@@ -18,7 +18,8 @@ shared-slice-read-result : tie.Need-shared-slice-read-result
 shared-slice-read-result c = search needs
 
 returns : tie.Need-returns
-returns c = let s = c .before .before .before .before in junction-candidate (s .args .m) (s .args .phase) (s .args .area .now) (s .pre .0) (sym (c .before .before .may-accept .ensures) ∙ c .before .if1 .taken)
+returns c = let s = c .before .before .before .before in
+    junction-candidate (s .args .m) (s .args .phase) (s .args .area .now) (s .pre .0) (sym (c .before .before .may-accept .ensures) ∙ c .before .if1 .taken)
 
 mul-at-2 : tie.Need-mul-at-2
 mul-at-2 c = search needs
@@ -30,7 +31,8 @@ shared-slice-read-result-2 : tie.Need-shared-slice-read-result-2
 shared-slice-read-result-2 c = search needs
 
 returns-2 : tie.Need-returns-2
-returns-2 c = let s = c .before .before .before .before in junction-state (s .args .m) (s .args .phase) (s .args .area .now) (s .pre .0) (sym (c .before .before .may-accept .ensures) ∙ c .before .if1 .left)
+returns-2 c = let s = c .before .before .before .before in
+    junction-state (s .args .m) (s .args .phase) (s .args .area .now) (s .pre .0) (sym (c .before .before .may-accept .ensures) ∙ c .before .if1 .left)
 
 pub junction-spec : {M : Type 1} → statement M
 junction-spec =

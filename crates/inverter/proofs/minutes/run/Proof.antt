@@ -47,44 +47,63 @@ shared-slice-read-take : tie.Need-shared-slice-read-take Inv-loop μ-loop
 shared-slice-read-take c = omega arith
 
 take-requires : tie.Need-take-requires Inv-loop μ-loop
-take-requires c κs = let l = c .before .before .before .before .before .before .before .loop in (l .inv .1, (l .inv .3, omega (arith, c .before .before .before .before .before .before .before .before .before .before .before .before .before .before .pre .1 .1 .1 .0, c .before .before .before .before .before .before .loop-test .taken)))
+take-requires c κs = let t = c .before .before .before .before .before .before in
+    let l = t .before .loop in
+    let s = t .before .before .before .before .before .before .before .before in
+    (l .inv .1, (l .inv .3, omega (arith, s .pre .1 .1 .1 .0, t .loop-test .taken)))
 
 junction-requires : tie.Need-junction-requires Inv-loop μ-loop
-junction-requires c κs = (c .before .before .before .before .before .before .before .before .before .before .before .before .before .before .before .before .before .before .before .before .before .pre .0, omega (arith, c .before .before .before .before .before .before .take .kept .1 .1 .1 .0, c .before .before .before .before .before .before .before .before .before .before .before .before .before .before .loop .inv .1))
+junction-requires c κs = let p = c .before .before .before .before .before .before in
+    let l = p .before .before .before .before .before .before .before .before in
+    let s = l .before .before .before .before .before .before .before in
+    (s .pre .0, omega (arith, p .take .kept .1 .1 .1 .0, l .loop .inv .1))
 
 refusal-requires : tie.Need-refusal-requires Inv-loop μ-loop
 refusal-requires c κs = tt
 
 mul-refusals : tie.Need-mul-refusals Inv-loop μ-loop
-mul-refusals c = omega (arith, c .before .before .before .before .before .before .before .before .before .before .before .before .before .before .before .loop-test .taken, c .before .before .before .before .before .before .before .before .before .before .before .before .before .before .before .before .before .before .before .before .before .before .before .pre .1 .1 .1 .0)
+mul-refusals c = let t = c .before .before .before .before .before .before .before .before .before .before .before .before .before .before .before in
+    let s = t .before .before .before .before .before .before .before .before in
+    omega (arith, t .loop-test .taken, s .pre .1 .1 .1 .0)
 
 slice-write-refusals : tie.Need-slice-write-refusals Inv-loop μ-loop
-slice-write-refusals c = omega (arith, c .before .before .before .before .before .before .before .before .before .before .before .before .before .before .before .loop-test .taken, c .before .before .before .before .before .before .before .before .before .before .before .before .before .before .before .before .loop .inv .4)
+slice-write-refusals c = let t = c .before .before .before .before .before .before .before .before .before .before .before .before .before .before .before in
+    omega (arith, t .loop-test .taken, t .before .loop .inv .4)
 
 mul-junctions : tie.Need-mul-junctions Inv-loop μ-loop
-mul-junctions c = omega (arith, c .before .before .before .before .before .before .before .before .before .before .before .before .before .before .before .loop-test .taken, c .before .before .before .before .before .before .before .before .before .before .before .before .before .before .before .before .before .before .before .before .before .before .before .pre .1 .1 .1 .0)
+mul-junctions c = let t = c .before .before .before .before .before .before .before .before .before .before .before .before .before .before .before in
+    let s = t .before .before .before .before .before .before .before .before in
+    omega (arith, t .loop-test .taken, s .pre .1 .1 .1 .0)
 
 slice-write-junctions : tie.Need-slice-write-junctions Inv-loop μ-loop
-slice-write-junctions c = omega (arith, c .before .before .before .before .before .before .before .before .before .before .before .before .before .before .before .loop-test .taken, c .before .before .before .before .before .before .before .before .before .before .before .before .before .before .before .before .loop .inv .5)
+slice-write-junctions c = let t = c .before .before .before .before .before .before .before .before .before .before .before .before .before .before .before in
+    omega (arith, t .loop-test .taken, t .before .loop .inv .5)
 
 counted-requires : tie.Need-counted-requires Inv-loop μ-loop
-counted-requires c κs = let l = c .before .before .before .before .before .before .before .before .before .before .before .before .before .before .before .before .loop in
-    (omega (arith, c .before .before .before .before .before .before .before .before .before .before .before .before .before .before .before .before .before .before .before .before .before .before .before .pre .1 .1 .1 .0, c .before .before .before .before .before .before .before .before .before .before .before .before .before .before .before .loop-test .taken, l .inv .6), omega (arith, c .before .before .before .before .before .before .before .before .before .before .before .before .before .before .before .before .before .before .before .before .before .before .before .pre .1 .1 .1 .0, c .before .before .before .before .before .before .before .before .before .before .before .before .before .before .before .loop-test .taken, l .inv .7))
+counted-requires c κs = let t = c .before .before .before .before .before .before .before .before .before .before .before .before .before .before .before in
+    let l = t .before .loop in
+    let most = t .before .before .before .before .before .before .before .before .pre .1 .1 .1 .0 in
+    (omega (arith, most, t .loop-test .taken, l .inv .6), omega (arith, most, t .loop-test .taken, l .inv .7))
 
 add-i : tie.Need-add-i Inv-loop μ-loop
-add-i c = omega (arith, c .before .before .before .before .before .before .before .before .before .before .before .before .before .before .before .before .loop-test .taken, c .before .before .before .before .before .before .before .before .before .before .before .before .before .before .before .before .before .before .before .before .before .before .before .before .pre .1 .1 .1 .0)
+add-i c = let t = c .before .before .before .before .before .before .before .before .before .before .before .before .before .before .before .before in
+    let s = t .before .before .before .before .before .before .before .before in
+    omega (arith, t .loop-test .taken, s .pre .1 .1 .1 .0)
 
 loop-less : tie.Need-loop-less Inv-loop μ-loop
-loop-less c = omega (arith, c .before .before .before .before .before .before .before .before .before .before .before .before .before .before .before .before .loop-test .taken)
+loop-less c = let t = c .before .before .before .before .before .before .before .before .before .before .before .before .before .before .before .before in
+    omega (arith, t .loop-test .taken)
 
 loop-again : tie.Need-loop-again Inv-loop μ-loop
-loop-again c = let a = c .before .before .before .before .before .before .before .before .before .before .before .before .before .before .before .before .before .before .before .before .before .before .before .before .args in
-    let l = c .before .before .before .before .before .before .before .before .before .before .before .before .before .before .before .before .before .loop in
+loop-again c = let test = c .before .before .before .before .before .before .before .before .before .before .before .before .before .before .before .before in
+    let a = test .before .before .before .before .before .before .before .before .args in
+    let l = test .before .loop in
     let p = c .before .before .before .before .before .before .before .before .before .take in
+    let after = c .before .before .before .before .before .before .before .before .before .before .before .before .before .upcoming in
     let x = c .before .before .junction in
     let t = c .counted .ensures in
     let end = given (p .result) (p .last .1 .1 .1 .0) in
-    let h : l .i < length (a .readings .now) = c .before .before .before .before .before .before .before .before .before .before .before .before .before .before .before .before .loop-test .taken in (
+    let h : l .i < length (a .readings .now) = test .loop-test .taken in (
       omega arith,
       omega (arith, p .kept .1 .1 .1 .0, l .inv .1),
       p .kept .1 .1 .1 .0 ∙ l .inv .2,
@@ -95,7 +114,7 @@ loop-again c = let a = c .before .before .before .before .before .before .before
       subst (λ (n : Count). n .refused ≤ l .i + 1) (sym t) (refused-most (a .m) (p .result) (x .result) (l .count) (l .i) (l .inv .7)),
       l .inv .8
           ∙ minute-turn (a .m) (a .readings .now) (l .i) (l .count) (l .area) (l .refusals) (l .junctions) end h (l .inv .4) (l .inv .5)
-          (c .before .before .before .before .before .before .before .before .before .before .before .before .before .upcoming .ensures) (p .ensures) (c .before .refusal .ensures) (x .ensures) t,
+          (after .ensures) (p .ensures) (c .before .refusal .ensures) (x .ensures) t,
     )
 
 total-requires : tie.Need-total-requires Inv-loop μ-loop
