@@ -104,7 +104,7 @@ module _ (r : Record) where
 accept-goes : (h : Held) → known (h .kept .family) ≡ true → calls.sized (h .kept .n) ≡ true → calls.whole-area (h .kept .family) (h .kept .n) (h .area) ≡ true
     → calls.may-accept (h .kept .phase) ≡ true → calls.accept h .answer ≡ Ready
 unfolding calls.accept calls.accept-tests calls.going-on calls.accepted
-accept-goes h f n w p = ap (λ (x : Called). x .answer) (goes-ahead h (calls.accept-tests (h .kept) (h .area)) _ (admits (calls.accept-tests (h .kept) (h .area)) (f, n, w, p, tt)))
+accept-goes h f n w p = ap (λ (x : Called). x .answer) (goes-ahead h (calls.accept-tests (h .kept) (h .area)) _ (admits (calls.accept-tests (h .kept) (h .area)) (f, (n, (w, (p, tt))))))
 
 -- ---- where a call stands, in a minute that began with so many finished attempts
 
