@@ -4,21 +4,22 @@ use mathlib.Core.Path.{_≡_, refl, sym, ap, subst, _∙_}
 use mathlib.Core.Bool.{false}
 use mathlib.Core.List.{List, [], _∷_, _++_}
 use Prim.Native.Nat.{ℕ, zero, suc, _+_, _<_}
-use native.Mathlib.Nat.{le-of-suc-le-suc, not-suc-le-zero}
+use native.Mathlib.Nat.{le-of-suc-le-suc, not-suc-le-zero, zero-add}
 use native.Mathlib.Omega.{arith}
 use lib.ListN.{length, getD, length-append, List·getD-append}
 use lib.Seq.{getD-append-seam}
 use lib.Ieee.{Float, nan}
 use lib.Ieee.Scale.{finite}
-use Rattle.driver.specs.Calls.{Held, Called}
+use Rattle.workspace.specs.Vectors.{unpack, state}
+use Rattle.driver.specs.Calls.{Held, Called, may-accept}
 use Rattle.heat_sink.specs.declared.Inverter.{Inverter}
 use Rattle.sheet.specs.Text as Text
 use Rattle.inverter.specs.declared.Total.{Total}
 use Rattle.inverter.specs.declared.DayResult.{DayResult}
 use Rattle.inverter.specs.declared.DayResult.the-variants.{Day}
-use Rattle.inverter.specs.Day.{taken, upcoming, junction, refusal, counted, So-far, held, with-minute, run, outset, first-area, total-of, total, reported, day, Reports}
+use Rattle.inverter.specs.Day.{taken, upcoming, junction, refusal, counted, So-far, held, with-minute, run, no-count, outset, first-area, total-of, total, reported, day, Reports}
 use Rattle.inverter.specs.Finite.{kept-out}
-use Rattle.inverter.proofs.Finite.{kept-out-minute, left-by-finite}
+use Rattle.inverter.proofs.Finite.{kept-out-minute, left-by-finite, above-by-finite}
 use Rattle.accounts.specs.Accounts.{engine-alone, Keeps-out}
 
 module _ (m : Inverter) where
@@ -99,13 +100,24 @@ module _ (m : Inverter) where
       let bad = subst (λ (k : ℕ). finite (getD (reading ∷ next ∷ readings) k nan) ≡ false) later e in
       junction-there (minute + 1) (next ∷ readings) (with-minute m c t) i p (omega (arith, q, length-append (t .junctions) (x ∷ []))) (omega (arith, h)) bad
 
+  -- the junction of minute 0, at the outset
+  at-first : (readings : List Float) (area : List Float) → 0 < length readings → finite (getD readings 0 nan) ≡ false
+      → getD (run m 0 readings (outset area) .junctions) 0 nan ≡ getD (unpack (m .n) area state) 0 nan
+  unfolding run kept-out junction no-count may-accept
+  at-first [] area h e = absurd (not-suc-le-zero h)
+  at-first (reading ∷ readings) area h e =
+      ap (λ (x : So-far). getD (run m (0 + 1) readings x .junctions) 0 nan) (kept-out-minute m 0 reading (upcoming reading readings) (outset area) e)
+      ∙ junction-stays (0 + 1) readings (kept-out m (outset area)) 0 (omega arith)
+
   day-keeps-out : (readings : List Float) → let t = run m 0 readings (outset (first-area m)) in Keeps-out m readings (total t) (t .refusals) (t .junctions)
-  unfolding total-of engine-alone
+  unfolding total-of engine-alone no-count
   day-keeps-out readings = let t = outset (first-area m) in
       let left = left-by-finite m 0 readings t in
       record {
         number-nine = λ i. number-there 0 readings t i i (let e : i ≡ 0 + i = omega arith in e);
         junction-stands = λ i. junction-there 0 readings t i i (let e : i ≡ 0 + i = omega arith in e);
+        first-junction = at-first readings (first-area m);
+        above-alone = above-by-finite m 0 readings t ∙ zero-add _;
         evaluations-alone = ap (λ (h : Held). h .counters .evaluations) left;
         finished-alone = ap (λ (h : Held). h .counters .«finished_attempts») left;
       }

@@ -9,6 +9,7 @@ use lib.ListN.{length, getD}
 use lib.Ieee.{Float, nan, toUnsigned}
 use lib.Ieee.Scale.{finite}
 use Rattle.ieee.specs.Double.{_⊕_, _⊗_, _⊘_, double, half}
+use Rattle.workspace.specs.Vectors.{unpack, state}
 use Rattle.driver.specs.declared.Answer.the-variants.{Ready, Refused}
 use Rattle.driver.specs.Calls.{Held, Called, may-accept, accept}
 use Rattle.session.specs.Refusals.{largest-number}
@@ -16,7 +17,7 @@ use Rattle.heat_sink.specs.declared.Inverter.{Inverter}
 use Rattle.sheet.specs.Text.{minutes-a-day}
 use Rattle.inverter.specs.declared.Total.{Total}
 use Rattle.inverter.specs.Day.{called, finished, refusal, held, outset, first-area}
-use Rattle.inverter.specs.Finite.{heated, left-by}
+use Rattle.inverter.specs.Finite.{entering, left-by, above-by}
 
 -- ---- a minute
 
@@ -82,11 +83,13 @@ pub record Accounts (t : Total) (refusals : List ℕ) (junctions : List Float) :
 
 -- what the engine is left with by the minutes whose reading is finite, as if the day had no others
 unfoldable pub engine-alone : Inverter → List Float → Held
-engine-alone m readings = left-by m (heated 0 readings) (held (outset (first-area m)))
+engine-alone m readings = left-by m (entering 0 readings) (held (outset (first-area m)))
 
--- such a minute has the number 9, and the junction of the minute before; the counts are those of the others alone
+-- such a minute has the number 9, and the junction of the minute before, or that of the outset; the counts are those of the others alone
 pub record Keeps-out (m : Inverter) (readings : List Float) (t : Total) (refusals : List ℕ) (junctions : List Float) : Type 0 where
   pub number-nine : (i : ℕ) → i < length readings → finite (getD readings i nan) ≡ false → getD refusals i 0 ≡ 9
   pub junction-stands : (i : ℕ) → i + 1 < length readings → finite (getD readings (i + 1) nan) ≡ false → getD junctions (i + 1) nan ≡ getD junctions i nan
+  pub first-junction : 0 < length readings → finite (getD readings 0 nan) ≡ false → getD junctions 0 nan ≡ getD (unpack (m .n) (first-area m) state) 0 nan
+  pub above-alone : t .above ≡ above-by m (entering 0 readings) (held (outset (first-area m)))
   pub evaluations-alone : t .evaluations ≡ engine-alone m readings .counters .evaluations
   pub finished-alone : t .«finished_attempts» ≡ engine-alone m readings .counters .«finished_attempts»
