@@ -1,5 +1,5 @@
 mod Said
 mod Calls
 pub mod Ends
-mod Run
+pub mod Run
 mod Outset

@@ -1,14 +1,10 @@
 -- Truth values: what tests joined by `&&`, `||` and `not` come to.
 use mathlib.Core.Path.{_≡_, refl, sym, ap₂, subst}
-use mathlib.Core.Bool.{Bool, true, false, cond, _&&_, _||_}
+use mathlib.Core.Bool.{Bool, true, false, _&&_, _||_}
 use lib.Dec.{T}
-
-pub differ : false ≡ true → ⊥
-differ e = subst (λ (b : Bool). cond b ⊥ (Unit {0})) e tt
-
-pub is-true : (b : Bool) → T b → b ≡ true
-is-true true h = refl
-is-true false h = absurd h
+pub use mathlib.Core.Bool.{false≢true as differ, and-assoc}
+pub use lib.Ieee.Bits.{is-true}
+pub use Rattle.ieee.proofs.Logic.{and-left, and-right}
 
 pub holds : (b : Bool) → b ≡ true → T b
 holds b e = subst T (sym e) tt
@@ -16,21 +12,9 @@ holds b e = subst T (sym e) tt
 pub both : {a b : Bool} → a ≡ true → b ≡ true → a && b ≡ true
 both p q = ap₂ _&&_ p q
 
-pub and-left : (a b : Bool) → a && b ≡ true → a ≡ true
-and-left true b e = refl
-and-left false b e = e
-
-pub and-right : (a b : Bool) → a && b ≡ true → b ≡ true
-and-right true b e = e
-and-right false b e = absurd (differ e)
-
 pub and-none : (a b : Bool) → b ≡ false → a && b ≡ false
 and-none true b e = e
 and-none false b e = refl
-
-pub and-assoc : (a b c : Bool) → a && b && c ≡ a && (b && c)
-and-assoc true b c = refl
-and-assoc false b c = refl
 
 pub or-left : (a b : Bool) → a ≡ true → a || b ≡ true
 or-left true b e = refl
