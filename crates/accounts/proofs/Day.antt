@@ -18,6 +18,7 @@ use Rattle.sheet.proofs.Soundness.{day-minutes}
 use Rattle.inverter.specs.declared.Total.{Total}
 use Rattle.inverter.specs.declared.DayResult.the-variants.{Day}
 use Rattle.inverter.specs.Day.{one-if, taken, upcoming, finished, junction, is-above, refusal, counted, end-of, So-far, held, with-minute, run, no-count, outset, first-area, total-of, total, reported, day, Reports}
+use Rattle.inverter.proofs.Run.{one-most}
 use Rattle.accounts.specs.Accounts.{Acceptable, Ended, Completed, Given-up, Kept-out, listed, Rising, Numbered, Accounts}
 use Rattle.accounts.proofs.Minute.{minute-ended}
 use Rattle.accounts.proofs.Hours.{minutes-told}
@@ -39,10 +40,6 @@ one-if-not x e = ap (λ (b : Bool). one-if (not b)) (eq-eqb x 0 e)
 one-if-some : (x : ℕ) → 1 ≤ x → one-if (not (eqb x 0)) ≡ 1
 one-if-some x h = ap (λ (b : Bool). one-if (not b)) (ne-eqb x 0 (λ e. omega arith))
 
-one-at-most : (b : Bool) → one-if b ≤ 1
-one-at-most true = omega arith
-one-at-most false = omega arith
-
 above-none : (f b : Bool) → f ≡ false → one-if (f && b) ≡ 0
 above-none f b e = ap (λ (x : Bool). one-if (x && b)) e
 
@@ -55,7 +52,7 @@ with-finished m k c t z n o a =
     let x = refusal (c .answer) in
     let temperature = junction m (c .held .kept .phase) (c .held .area) in
     let none = one-if-not x z in
-    let above = one-at-most (finished (c .answer) && lt (m .rated) temperature) in
+    let above = one-most (finished (c .answer) && lt (m .rated) temperature) in
     let grown = listed-grown 0 (t .refusals) x in
     record {
       every-minute = omega (arith, n, none, a .every-minute);

@@ -8,10 +8,10 @@ use mathlib.Core.Bool.{Bool, true, false}
 use lib.Dec.{T, lit≤}
 use lib.IntN.{ℤ, pos, negℤ, natAbs, _+ℤ_, _*ℤ_, *ℤ-comm, zero-*ℤ, +ℤ-idr}
 use lib.Pow.{pow-pos}
-use lib.Ieee.{Float, nan, inf, fin, binary64, up, down, round, mul, neg, unlike}
+use lib.Ieee.{Float, nan, inf, fin, binary64, up, down, mul, neg, unlike}
 use lib.Ieee.Fits.{down-pos}
 use lib.Ieee.Positive.{num, den}
-use lib.Ieee.Scale.{finite, round-same}
+use lib.Ieee.Scale.{finite}
 use Rattle.fractions.specs.Frac.{Frac, _⊗_, _⊕_, opp}
 use Rattle.family.specs.Family.{Orthogonal, Legendre1, Legendre2, Gegenbauer1, Gegenbauer2, made-of, permitted}
 use Rattle.family.proofs.Range.{permitted-range}
@@ -26,6 +26,7 @@ use Rattle.coefficients.specs.declared.Coefficients.{Coefficients}
 use Rattle.coefficients.specs.Rows.{coefficients, recurrence, omega-one-of, legendre-one, legendre-two, gegenbauer-one, gegenbauer-two, with-theta}
 use Rattle.coefficients.specs.Closeness.{Close-row, Same-row, gamma-zero}
 use Rattle.ieee.specs.Close.{signed, sign, value, Close}
+use Rattle.ieee.proofs.Value.{round-none}
 use Rattle.ieee.proofs.Fit.{Fit, fit-same, fit-neg, fit-times, fit-close, num-pos, times-signed, natAbs-signed}
 use Rattle.coefficients.proofs.Doubles.{b-of, mu-with, nu-with, a-with, mu-of, nu-of, a-of}
 use Rattle.coefficients.proofs.RowTable.{Zero-or-fit, mu-fit, nu-fit, a-fit, omega-fit, stage-one-of, first-fit}
@@ -53,10 +54,6 @@ gamma-nought : (f : Orthogonal) (s j : ℕ) → a f (j - 1) .num ≡ pos 0 → g
 unfolding gamma-tilde _⊗_ opp
 gamma-nought f s j e = ap (λ (k : ℤ). negℤ k *ℤ mu-tilde f s j .num) e ∙ zero-*ℤ (mu-tilde f s j .num)
 
-round-nought : (s : Bool) → round binary64 s 0 1 ≡ fin s 0 (pos 0)
-unfolding round
-round-nought s = refl
-
 times-zero : (x y : Float) → T (finite x) → T (finite y) → num x * num y ≡ 0 → T (finite (mul binary64 x y)) × (num (mul binary64 x y) ≡ 0)
 unfolding mul
 times-zero nan y i k e = absurd i
@@ -64,10 +61,7 @@ times-zero (inf s) y i k e = absurd i
 times-zero (fin s m d) nan i k e = absurd k
 times-zero (fin s m d) (inf t) i k e = absurd k
 times-zero (fin s m d) (fin t n c) i k e =
-    subst (λ (z : Float). T (finite z) × (num z ≡ 0)) (sym (round-same binary64 (unlike s t) (m * up d * (n * up c)) (down d * down c) 0 1 (mul-pos (down-pos d) (down-pos c)) (zero-lt-suc 0) (flat (m * up d * (n * up c)) (down d * down c) e) ∙ round-nought (unlike s t))) (tt, refl)
-  where
-    flat : (x y : ℕ) → x ≡ 0 → x * 1 ≡ 0 * y
-    flat x y e = omega arith
+    subst (λ (z : Float). T (finite z) × (num z ≡ 0)) (sym (round-none (unlike s t) (m * up d * (n * up c)) (down d * down c) (mul-pos (down-pos d) (down-pos c)) e)) (tt, refl)
 
 neg-num : (x : Float) → num (neg x) ≡ num x
 unfolding neg

@@ -1,7 +1,7 @@
 -- The lines that are written: how long they are at most, and the lines of some minutes and one more. From their definitions alone.
 use mathlib.Core.Path.{_≡_, refl, sym, ap, _∙_}
 use mathlib.Core.Bool.{Bool, true, false, cond}
-use mathlib.Core.List.{List, [], _∷_, _++_}
+use mathlib.Core.List.{List, [], _∷_, _++_, append-assoc, append-nil}
 use Prim.Native.Nat.{ℕ, _+_, _*_, _/_, _%_, _≤_, _<_}
 use native.Mathlib.Numerals.{add-one}
 use native.Mathlib.Omega.{arith}
@@ -10,13 +10,12 @@ use lib.Dec.{eqb}
 use lib.ListN.{length, take, getD, length-append}
 use lib.Seq.{take-suc, length-take-le}
 use lib.Ieee.{Float, nan, binary64, toBits}
-use Rattle.page.specs.Page.{decimal, digits, word}
+use Rattle.page.specs.Page.{decimal, digits}
 use Rattle.page.proofs.Digits.{length-digits, length-decimal, length-word}
-use Rattle.page.proofs.Putting.{append-assoc, append-nil}
 use Rattle.inverter.specs.declared.Total.{Total}
 use Rattle.accounts.specs.Accounts.{Entry, entry, listed}
 use Rattle.accounts.proofs.Listing.{listed-more}
-use Rattle.daily.specs.Written.{bits-text, hours-text, count-line, heading, counts, refusal-line, refused-line, refusal-lines, malformed-line, junction-line, junction-lines, total-text, hours-above-text, point-text, minutes-above-text, evaluations-text, finished-attempts-text, refused-minutes-text, minute-text, refused-with-text, line-end}
+use Rattle.daily.specs.Written.{bits-text, hours-text, count-line, heading, counts, refusal-line, refused-line, refusal-lines, junction-line, junction-lines, total-text, hours-above-text, point-text, minutes-above-text, evaluations-text, finished-attempts-text, refused-minutes-text, minute-text, refused-with-text, line-end}
 
 -- ---- lengths
 

@@ -1,6 +1,6 @@
 -- Lengths, from the tests of them.
 use mathlib.Core.Path.{_≡_, refl}
-use mathlib.Core.Bool.{Bool, true, false, _&&_, false≢true}
+use mathlib.Core.Bool.{Bool, true, _&&_}
 use mathlib.Core.List.{List}
 use Prim.Native.Nat.{ℕ, _*_, _≤_}
 use native.Mathlib.Omega.{arith}
@@ -8,6 +8,7 @@ use borrow.Author.Tests.{leb-true, eqb-true}
 use lib.Dec.{leb}
 use lib.ListN.{length}
 use lib.Ieee.{Float}
+pub use Rattle.ieee.proofs.Logic.{both}
 use Rattle.family.specs.Family.{Family, family-of, RKC, RKL1, RKL2, RKG1, RKG2}
 use Rattle.workspace.specs.Vectors.{vector-count}
 use Rattle.driver.specs.Calls.{sized, whole-area, as-long}
@@ -19,10 +20,6 @@ eleven RKL1 = refl
 eleven RKL2 = refl
 eleven RKG1 = refl
 eleven RKG2 = refl
-
-pub both : (a b : Bool) → (a && b) ≡ true → (a ≡ true) × (b ≡ true)
-both true b e = (refl, e)
-both false b e = absurd (false≢true e)
 
 -- tests put all at once
 pub three : (a b c : Bool) → ((a && b) && c) ≡ true → (a ≡ true) × (b ≡ true) × (c ≡ true)

@@ -1,6 +1,6 @@
 mod Said
 mod Calls
 pub mod Ends
-mod Run
+pub mod Run
 mod Outset
 pub mod Finite

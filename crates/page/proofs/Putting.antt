@@ -1,21 +1,13 @@
 -- Laws of `Puts`: nothing put, one text put after another, and the loops that write from the front and from the back. Assumes nothing.
-use mathlib.Core.Path.{_≡_, refl, sym, ap, subst, _∙_}
-use mathlib.Core.List.{List, [], _∷_, _++_}
+use mathlib.Core.Path.{_≡_, sym, ap, subst, _∙_}
+use mathlib.Core.List.{List, [], _∷_, _++_, append-assoc, append-nil}
 use Prim.Native.Nat.{ℕ, zero, suc, _+_, _-_, _/_, _%_, _≤_, _<_}
 use native.Mathlib.Numerals.{add-one}
 use native.Mathlib.Omega.{arith}
 use lib.ListN.{length, take, drop, set, getD, length-append, length-set}
-use lib.Seq.{take-suc-set, take-suc, take-set-le, drop-cons, drop-set-lt, getD-set-same, append-snoc, take-add}
+use lib.Seq.{take-suc-set, take-suc, drop-cons, drop-set-lt, getD-set-same, append-snoc, take-add}
 use Rattle.page.specs.Page.{glyph, digits, places, decimal, word, Puts}
 use Rattle.page.proofs.Digits.{length-digits, digits-turn, digits-none}
-
-pub append-assoc : {A : Type 0} (xs ys zs : List A) → xs ++ ys ++ zs ≡ xs ++ (ys ++ zs)
-append-assoc [] ys zs = refl
-append-assoc (x ∷ xs) ys zs = ap (λ l. x ∷ l) (append-assoc xs ys zs)
-
-pub append-nil : {A : Type 0} (xs : List A) → xs ++ [] ≡ xs
-append-nil [] = refl
-append-nil (x ∷ xs) = ap (λ l. x ∷ l) (append-nil xs)
 
 -- one text after another
 pub puts-then : {p q s x y : List ℕ} {at r t : ℕ} → Puts p at x q r → Puts q r y s t → Puts p at (x ++ y) s t

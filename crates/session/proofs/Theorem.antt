@@ -1,6 +1,6 @@
 -- The theorem: an attempt that is not turned away, and then replies of n doubles each, give answer by answer the evaluations of the attempt in one piece, and its end. And what a finished attempt took.
 use Prim.Native.Nat.{ℕ, zero, suc, _+_, _≤_, _<_}
-use mathlib.Core.Path.{_≡_, refl, ap, subst}
+use mathlib.Core.Path.{_≡_, refl, subst}
 use mathlib.Core.List.{List, [], _∷_}
 use native.Mathlib.Nat.{zero-add, not-suc-le-zero}
 use native.Mathlib.Omega.{arith}
@@ -9,8 +9,9 @@ use lib.Ieee.{Float}
 use Rattle.workspace.specs.declared.Arguments.{Arguments}
 use Rattle.driver.specs.declared.Answer.{Answer}
 use Rattle.driver.specs.declared.Answer.the-variants.{Evaluate, Finished, Ready, Refused, Empty}
-use Rattle.driver.specs.Answers.{case-number, case-values, Says}
+use Rattle.driver.specs.Answers.{case-number}
 use Rattle.driver.specs.Calls.{Held, Called, attempt, reply}
+use Rattle.driver.proofs.Ladder.{says}
 use Rattle.session.specs.Attempt.{Asking, done, stopped, ask, Finished-attempt, Evaluated, evaluated, End, reached, end}
 use Rattle.session.specs.Claim.{called-for, Allowed, Fits, Finishes, Ends, after, last-found, in-one-piece, replies-to, Runs, Took}
 use Rattle.session.proofs.Served.{stages-from}
@@ -47,9 +48,6 @@ each-calls h a d long total fits (ask why t p k) replies i b x l f (suc j) lt =
     each-calls h a d long total fits (k (d i)) (suc replies) (suc i) (x .held) (reply (x .held) (d i)) (ahead-on h a d long total fits why t p k replies i l)
     (f .2 (d i) (long i) (ahead-room h a d long total fits why t p k replies i b x l f)) j (omega arith)
 
-same-says : (x y : Answer) → x ≡ y → Says x y
-same-says x y e = record { same-case = ap case-number e; same-values = ap case-values e }
-
 module _ (h : Held) (a : Arguments) (d : ℕ → List Float) (o : Finished-attempt) (p : Allowed h a) (long : (i : ℕ) → length (d i) ≡ h .kept .n) (fits : Fits h a d) (e : end (in-one-piece h a) d 0 ≡ reached o) where
   finishes-then : Finishes h a o (replies-to h a d) (after (replies-to h a d) d 0 (attempt h a))
   finishes-then = subst (λ (z : End Finished-attempt). Ends h a z (replies-to h a d) (last-found (replies-to h a d) d 0 h (attempt h a)) (after (replies-to h a d) d 0 (attempt h a))) e (run h a d p long fits .same-end)
@@ -67,7 +65,7 @@ module _ (h : Held) (a : Arguments) (d : ℕ → List Float) (o : Finished-attem
         twelve-passes = finished .twelve-passes;
         stages-are = stages-from h a o _ _ finished;
         each-evaluates = λ j lt. each-calls h a d long total (fits .evaluations-fit) (in-one-piece h a) 0 0 h (attempt h a) (le, fits .attempts-fit) (attempt-follows h a p) j (omega arith);
-        answer-is = same-says _ (Finished (o .norm)) (finished .answer-is);
+        answer-is = says (finished .answer-is);
         evaluations-are = finished .evaluations-are;
         attempts-are = finished .attempts-are;
       }

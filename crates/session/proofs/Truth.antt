@@ -1,11 +1,9 @@
 -- Truth values: what tests joined by `&&`, `||` and `not` come to. What a layer below or the library has is cited.
 use mathlib.Core.Path.{_≡_, refl, ap₂}
-use mathlib.Core.Bool.{Bool, true, false, _&&_, _||_, false≢true}
+use mathlib.Core.Bool.{Bool, true, false, _&&_, _||_}
+pub use mathlib.Core.Bool.{false≢true as differ}
 use lib.Dec.{T}
 use Rattle.ieee.proofs.Logic.{yes}
-
-pub differ : false ≡ true → ⊥
-differ = false≢true
 
 pub holds : (b : Bool) → b ≡ true → T b
 holds b e = yes e

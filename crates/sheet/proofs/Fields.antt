@@ -28,7 +28,7 @@ digit-within text at h = go (ltb at (length text)) refl
             lost : digit (getD text at 0) ≡ 16 → ⊥
             lost e = omega arith
 
-one-less : (k : ℕ) → k ≡ suc k - 1
+pub one-less : (k : ℕ) → k ≡ suc k - 1
 one-less k = omega arith
 
 module _ (text : List ℕ) (at value : ℕ) where

@@ -16,9 +16,7 @@ use Rattle.sheet.specs.declared.Lines.{Lines}
 use Rattle.sheet.specs.declared.Lines.the-variants.{Read, BadLine}
 use Rattle.sheet.specs.declared.Sheet.{Sheet}
 use Rattle.sheet.specs.declared.Sheet.the-variants.{Whole, Broken}
-
-one-less : (k : ℕ) → k ≡ suc k - 1
-one-less k = omega arith
+use Rattle.sheet.proofs.Fields.{one-less}
 
 -- one line
 module _ (text : List ℕ) (at line : ℕ) (xs : List Float) where

@@ -1,6 +1,6 @@
 -- What is read as a day has 1 to 512 temperatures, since line 1 is tested for it, and 1,440 readings, one a line. Assumes nothing.
 use mathlib.Core.Path.{_≡_, refl, subst}
-use mathlib.Core.Bool.{Bool, true, false, cond, _&&_, false≢true}
+use mathlib.Core.Bool.{Bool, true, false, cond, _&&_}
 use mathlib.Core.List.{List, [], _∷_, _++_}
 use Prim.Native.Nat.{ℕ, zero, suc, _+_, _≤_}
 use native.Mathlib.Omega.{arith}
@@ -8,6 +8,7 @@ use borrow.Author.Tests.{leb-true}
 use lib.Dec.{leb, eqb}
 use lib.ListN.{length, length-append}
 use lib.Ieee.{Float}
+use Rattle.ieee.proofs.Logic.{both}
 use Rattle.family.specs.Family.{known}
 use Rattle.heat_sink.specs.declared.Inverter.{Inverter}
 use Rattle.sheet.specs.declared.Field.{Field}
@@ -67,10 +68,6 @@ read-sound : (text : List ℕ) (m : Inverter) (xs : List Float) (h : Head) → S
 unfolding after-head Sound
 read-sound text m xs (Line m′ at) s e = ended-sound text m′ m xs (lines-from text minutes-a-day at 2 []) e s
 read-sound text m xs Malformed s e = let z : _≡_ {A = ℕ} 0 1 = cc in absurd (omega arith)
-
-both : (a b : Bool) → (a && b) ≡ true → (a ≡ true) × (b ≡ true)
-both true b e = (refl, e)
-both false b e = absurd (false≢true e)
 
 sizes : (m : Inverter) → sound m ≡ true → (1 ≤ m .n) × (m .n ≤ 512)
 unfolding sound
