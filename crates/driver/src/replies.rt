@@ -1,4 +1,4 @@
-// A derivative that is not turned away: what it does in each phase, and what is asked next.
+// A derivative that no test up to 9 turns away: what it does in each phase, and what is asked next.
 ghost use mathlib.Core.Path.{_≡_};
 ghost use mathlib.Core.Bool.{true, _||_};
 ghost use Prim.Native.Nat.{_+_, _*_, _≤_, _<_, _^_};
