@@ -9,7 +9,8 @@
  *
  * The results are those of IEEE 754's default environment: to nearest, ties to even, subnormals kept, exceptions masked.
  * In another one, such as a program linked with -ffast-math starts in, bits differ, and an exception that is not masked
- * is raised as a signal (docs/DIFFERENCES.md). No call tests it; stabilized_environment does, below.
+ * is raised as a signal (docs/DIFFERENCES.md). No call tests it; for rounding and subnormals
+ * stabilized_environment does, below.
  */
 #ifndef STABILIZED_H
 #define STABILIZED_H

@@ -1,5 +1,5 @@
 -- The theorem on readings that are not finite, of every report of a day (`keeps-out`): by the minutes one after another, each by `kept-out-minute` of
--- `inverter`, and by `left-by-finite`.
+-- `inverter`, and by `left-by-finite` and `above-by-finite`.
 use mathlib.Core.Path.{_≡_, refl, sym, ap, subst, _∙_}
 use mathlib.Core.Bool.{false}
 use mathlib.Core.List.{List, [], _∷_, _++_}

@@ -27,12 +27,13 @@ gamma-zero Legendre2 j = false
 gamma-zero Gegenbauer1 j = true
 gamma-zero Gegenbauer2 j = eqb j 2
 
--- a fraction and its double: both are 0, or neither is. (`num` is 0 of a NaN and an infinity too.)
+-- a fraction and its double are both 0 (`num` is 0 of a NaN and an infinity too)
 pub record Both-zero (x : Float) (q : Frac) : Type 0 where
   pub fraction : q .num ≡ pos 0
   pub number : T (finite x)
   pub double-so : num x ≡ 0
 
+-- both are 0, or neither is
 unfoldable pub Zero-as : Bool → Float → Frac → Type 0
 Zero-as true x q = Both-zero x q
 Zero-as false x q = (q .num ≡ pos 0 → ⊥) × (num x ≡ 0 → ⊥)

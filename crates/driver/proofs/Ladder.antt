@@ -38,7 +38,7 @@ first-of b e = sym (ap (λ (x : Bool). x || b) e)
 pub second-of : {a b r : Bool} → a ≡ false → r ≡ b → r ≡ (a || b)
 second-of {b = b} e h = h ∙ sym (ap (λ (x : Bool). x || b) e)
 
--- a test that only not-zero are put to
+-- a test that only some are put to
 pub put-to : {a b r : Bool} → a ≡ true → r ≡ b → r ≡ (not a || b)
 put-to {b = b} e h = h ∙ sym (ap (λ (x : Bool). not x || b) e)
 

@@ -261,8 +261,9 @@ unfoldable pub guarded : Held → List Test → Called → Called
 guarded h tests go = decide (first-failing tests) h go
 
 -- These six lists are the table of "When a call is turned away", call by call. "Tests run in this order. Every call has 1 to 4 (start: on what it brings, and
--- no phase); start and accept with a callback 5 and time in 6; attempt 6 and 7, with or without `adaptive`; every reply 8". Numbers 9 and 10 are no tests
--- here: a reply that comes to them is counted and ends its phase (`spoiled`, `ask-candidate`). session/specs/Refusals spells that sentence by itself.
+-- no phase); start and accept with a callback 5 and time in 6; attempt 6 and 7, with or without `adaptive`; every reply 8 and 9; the reply that ends stage s
+-- also 10." Numbers 9 and 10 are no tests here: a reply that comes to them is counted and ends its phase (`spoiled`, `ask-candidate`).
+-- session/specs/Refusals spells that sentence by itself.
 
 unfoldable pub start-tests : ℕ → ℕ → List Float → List Float → Float → List Test
 start-tests f n area y t =

@@ -1,4 +1,4 @@
--- A double is determined by its sign and its value (`same-value`), and rounding leaves it as it is (`round-own`). So dividing by 1 changes no double.
+-- A double is determined by its sign and its value (`same-value`), and rounding leaves it as it is (`round-own`); 0 rounds to 0 (`round-none`). So dividing by 1 changes no double.
 -- Assumes nothing.
 use mathlib.Core.Path.{_≡_, refl, sym, ap, _∙_, subst}
 use Prim.Native.Nat.{ℕ, zero, suc, _+_, _-_, _*_, _/_, _%_, _^_, _≤_, _<_}

@@ -20,8 +20,7 @@ use Rattle.driver.specs.declared.Record.{Record}
 use Rattle.driver.specs.Calls.{Held, Called, pending, good-stage, in-range, awaiting}
 use Rattle.session.specs.Attempt.{Finished-attempt}
 use Rattle.session.specs.Claim.{Finishes}
-use Rattle.ieee.proofs.Logic.{and-left, and-right}
-use Rattle.session.proofs.Truth.{holds}
+use Rattle.ieee.proofs.Logic.{yes, and-left, and-right}
 
 -- ---- a reply to a stage
 
@@ -38,14 +37,14 @@ stage-close r e p g is =
     let good = in-stage r e p in
     let range = and-right (permitted (family-of (r .family)) s) (leb 2 j && leb j s) good in
     subst (λ (f : Family). Close-row g s j (coefficients f s j (r .staging .recurrence))) (sym is)
-    (close-row g s j (subst (λ (f : Family). T (permitted f s)) is (holds _ (and-left (permitted (family-of (r .family)) s) (leb 2 j && leb j s) good)))
+    (close-row g s j (subst (λ (f : Family). T (permitted f s)) is (yes (and-left (permitted (family-of (r .family)) s) (leb 2 j && leb j s) good)))
     (leb-true 2 j (and-left (leb 2 j) (leb j s) range)) (leb-true j s (and-right (leb 2 j) (leb j s) range)) (r .staging .recurrence))
 
 -- ---- a finished attempt
 
 module _ (h : Held) (a : Arguments) (o : Finished-attempt) (replies : ℕ) (x : Called) (f : Finishes h a o replies x) (g : Orthogonal) (is : family-of (h .kept .family) ≡ made-of g) where
   may-run : T (permitted (made-of g) (o .stages))
-  may-run = subst (λ (f : Family). T (permitted f (o .stages))) is (holds _ (f .stages-permitted))
+  may-run = subst (λ (f : Family). T (permitted f (o .stages))) is (yes (f .stages-permitted))
 
   -- what `by-need` hands to `first-stage`
   pub first-close : Close 48 (recurrence (family-of (h .kept .family)) (o .stages) .«theta_previous») (Paper.first-mu-tilde g (o .stages))

@@ -1,5 +1,5 @@
 -- The theorems over sequences: in any calls from a start that is taken, an answer "finished" is that of an attempt that was taken, by the s + k-th reply
--- since, and the record holds its s, k and r. By an invariant over the calls, one after another (Latest, Trails), and the laws of family and coefficients.
+-- since, and the record holds its s, k and r (`concluded`); and a stage's record carries what the recurrence comes to (`carries`). By an invariant over the calls, one after another (Latest, Trails), and the laws of family and coefficients.
 use mathlib.Core.Path.{_≡_, refl, sym, ap, _∙_, subst}
 use mathlib.Core.Bool.{true, false}
 use mathlib.Core.List.{List, [], _∷_, _++_, append-assoc, append-nil}
@@ -9,13 +9,16 @@ use lib.Dec.{T}
 use lib.ListN.{length}
 use lib.Ieee.{Float, lt}
 use Rattle.ieee.specs.Double.{nought}
-use Rattle.family.specs.Family.{Family, Orthogonal, made-of, family-of, permitted, stage-count}
+use Rattle.ieee.specs.Close.{Close}
+use Rattle.family.specs.Family.{Family, RKC, Orthogonal, made-of, family-of, permitted, stage-count}
 use Rattle.family.specs.Reach.{Serves}
+use Rattle.family.proofs.Range.{permitted-range}
 use Rattle.family.proofs.Counts.{stage-count-permitted, serves}
 use Rattle.family.proofs.Special.{infinite-count}
 use Rattle.coefficients.specs.declared.Recurrence.{Recurrence}
 use Rattle.coefficients.specs.Rows.{recurrence, carried}
-use Rattle.coefficients.proofs.CloseTable.{entry-taken}
+use Rattle.coefficients.specs.Chebyshev as Chebyshev
+use Rattle.coefficients.proofs.CloseTable.{entry-taken, close-taken}
 use Rattle.coefficients.proofs.CloseRows.{close-row, close-first}
 use Rattle.coefficients.proofs.Stable.{stable}
 use Rattle.driver.specs.declared.Phase.{Phase}
@@ -125,10 +128,17 @@ carries h f n y t cs q e =
     let s = stages-of x in
     let i = x .kept .staging .stage - 2 in
     let trail = holds h f n y t cs q .trail (ap active e) in
-    let p = subst (Position (found (trail .attempt)) (length (trail .replies)) x) e (trail .underway .position) in record {
+    let p = subst (Position (found (trail .attempt)) (length (trail .replies)) x) e (trail .underway .position) in
+    let F = family-of (x .kept .family) in
+    let permits : T (permitted F s) =
+        subst (λ (k : ℕ). T (permitted F k)) (sym (p .suits .stages-are)) (stage-count-permitted F (scaled-radius-of x)) in
+    let range = permitted-range F s permits in
+    let entry : F ≡ RKC → x .kept .staging .recurrence .polynomials .«omega_one» ≡ carried RKC s i .polynomials .«omega_one» = λ is.
+        ap (λ (c : Recurrence). c .polynomials .«omega_one») (p .recurrence-is) ∙ ap (λ (f : Family). carried f s i .polynomials .«omega_one») is in record {
+      stages-permitted = permits;
       from-two = p .from-two;
+      to-last = p .to-last;
       recurrence-is = p .recurrence-is;
-      entry-read = λ is. ap (λ (c : Recurrence). c .polynomials .«omega_one») (p .recurrence-is)
-          ∙ ap (λ (f : Family). carried f s i .polynomials .«omega_one») is
-          ∙ entry-taken s i;
+      entry-read = λ is. entry is ∙ entry-taken s i;
+      entry-close = λ is. subst (λ (w : Float). Close 36 w (Chebyshev.omega-one s)) (sym (entry is)) (close-taken s i (range .0) (range .1));
     }

@@ -6,6 +6,7 @@ use mathlib.Core.Bool.{true}
 use Prim.Native.Nat.{ℕ, _≤_}
 use lib.Ieee.{Float}
 use lib.Ieee.Bits.{is-true}
+use Rattle.ieee.proofs.Logic.{yes}
 use Rattle.family.specs.Family.{Family, stage-count, permitted}
 use Rattle.family.proofs.Range.{permitted-range}
 use Rattle.family.proofs.Counts.{stage-count-permitted}
@@ -13,7 +14,6 @@ use Rattle.driver.specs.declared.Need.{Need}
 use Rattle.driver.specs.declared.Need.the-variants.{Met, Unmet}
 use Rattle.driver.specs.Calls.{stage-need}
 use Rattle.session.specs.Refusals.{largest-number}
-use Rattle.session.proofs.Truth.{holds}
 
 abbrev pub Needed : Family → Need → Type 0
 Needed f (Met s) = permitted f s ≡ true
@@ -24,7 +24,7 @@ unfolding stage-need
 need-holds f r = is-true (permitted f (stage-count f r)) (stage-count-permitted f r)
 
 pub two-from : (f : Family) (s : ℕ) → permitted f s ≡ true → 2 ≤ s
-two-from f s h = permitted-range f s (holds (permitted f s) h) .0
+two-from f s h = permitted-range f s (yes h) .0
 
 -- here every need is met, with the family's count
 pub need-is : (f : Family) (r : Float) → stage-need f r ≡ Met (stage-count f r)

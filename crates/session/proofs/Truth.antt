@@ -2,11 +2,6 @@
 use mathlib.Core.Path.{_≡_, refl, ap₂}
 use mathlib.Core.Bool.{Bool, true, false, _&&_, _||_}
 pub use mathlib.Core.Bool.{false≢true as differ}
-use lib.Dec.{T}
-use Rattle.ieee.proofs.Logic.{yes}
-
-pub holds : (b : Bool) → b ≡ true → T b
-holds b e = yes e
 
 pub both : {a b : Bool} → a ≡ true → b ≡ true → a && b ≡ true
 both p q = ap₂ _&&_ p q

@@ -8,6 +8,8 @@ use native.Mathlib.Omega.{arith}
 use lib.Ieee.{Float, lt}
 use Rattle.ieee.specs.Double.{nought}
 use Rattle.family.specs.Family.{family-of, stage-count}
+use Rattle.family.proofs.Range.{permitted-range}
+use Rattle.family.proofs.Counts.{stage-count-permitted}
 use Rattle.coefficients.specs.declared.Recurrence.{Recurrence}
 use Rattle.coefficients.specs.Rows.{carried}
 use Rattle.workspace.specs.declared.Arguments.{Arguments}
@@ -68,6 +70,7 @@ pub record In-stages (g : Held) (m to-come finished : ℕ) (x : Held) : Type 0 w
   pub suits : Suits (x .kept .family) (passes-of x) (stages-of x) (scaled-radius-of x)
   pub replies-are : m + to-come ≡ stages-of x + passes-of x
   pub from-two : 2 ≤ x .kept .staging .stage
+  pub to-last : x .kept .staging .stage ≤ stages-of x
   pub recurrence-is : x .kept .staging .recurrence ≡ carried (family-of (x .kept .family)) (stages-of x) (x .kept .staging .stage - 2)
   pub attempts-are : x .counters .«finished_attempts» ≡ g .counters .«finished_attempts» + finished
 
@@ -85,6 +88,10 @@ pub record Underway (g : Held) (a : Arguments) (m : ℕ) (x : Held) : Type 0 whe
   pub arguments-are : x .kept .arguments ≡ a
   pub evaluations-are : x .counters .evaluations ≡ g .counters .evaluations + m
   pub position : Position g m x (x .kept .phase)
+
+-- every count is at least 2
+least-count : (f : ℕ) (r : Float) → 2 ≤ stage-count (family-of f) r
+least-count f r = permitted-range (family-of f) (stage-count (family-of f) r) (stage-count-permitted (family-of f) r) .0
 
 -- what is carried on from stage j is what the recurrence comes to there
 carries-on : (f s j : ℕ) (c : Recurrence) → 2 ≤ j → c ≡ carried (family-of f) s (j - 2) → carried-on f s j c ≡ carried (family-of f) s (j + 1 - 2)
@@ -146,6 +153,7 @@ module _ (g : Held) (a : Arguments) (m : ℕ) (x : Held) (u : Underway g a m x) 
             };
             replies-are = omega arith;
             from-two = omega arith;
+            to-last = least-count (r .family) (radius-after r w);
             recurrence-is = refl;
             attempts-are = omega arith;
           };
@@ -160,6 +168,7 @@ module _ (g : Held) (a : Arguments) (m : ℕ) (x : Held) (u : Underway g a m x) 
         suits = i .suits;
         replies-are = omega arith;
         from-two = (let l = i .from-two in omega arith);
+        to-last = (let l = below in omega arith);
         recurrence-is = carries-on (x .kept .family) (stages-of x) (x .kept .staging .stage) (x .kept .staging .recurrence) (i .from-two) (i .recurrence-is);
         attempts-are = i .attempts-are;
       };
@@ -174,6 +183,7 @@ module _ (g : Held) (a : Arguments) (m : ℕ) (x : Held) (u : Underway g a m x) 
         suits = i .suits;
         replies-are = omega arith;
         from-two = i .from-two;
+        to-last = i .to-last;
         recurrence-is = i .recurrence-is;
         attempts-are = i .attempts-are;
       };
@@ -188,6 +198,7 @@ module _ (g : Held) (a : Arguments) (m : ℕ) (x : Held) (u : Underway g a m x) 
         suits = i .suits;
         replies-are = omega arith;
         from-two = i .from-two;
+        to-last = i .to-last;
         recurrence-is = i .recurrence-is;
         attempts-are = omega arith;
       };

@@ -1,4 +1,4 @@
--- What an answer "finished" stands for, wherever it comes in a sequence of calls: the attempt, the replies since, the counters, and s, k and r of the record.
+-- What an answer "finished" stands for, wherever it comes in a sequence of calls (`Concluded`), and what a stage's record carries there (`Carries`): the attempt, the replies since, the counters, and s, k and r of the record.
 -- Document 01: demand 2's domain is "every call that the last table does not turn away, in a sequence from a start that it does not turn away either";
 -- "The evaluations of one finished attempt are s + k, with k from 1 to 12, each one reply"; demand 3 "holds also of the s that a finished attempt ran, for
 -- its own r where that is finite".
@@ -12,12 +12,13 @@ use lib.Ieee.{Float, inf, lt}
 use lib.Ieee.Scale.{finite}
 use Rattle.ieee.specs.Double.{nought}
 use Rattle.ieee.specs.Close.{Close}
-use Rattle.family.specs.Family.{RKC, Orthogonal, made-of, family-of, largest-count, stage-count}
+use Rattle.family.specs.Family.{RKC, Orthogonal, made-of, family-of, permitted, largest-count, stage-count}
 use Rattle.family.specs.Reach.{Serves}
 use Rattle.coefficients.specs.declared.Recurrence.{Recurrence}
 use Rattle.coefficients.specs.Paper as Paper
 use Rattle.coefficients.specs.Rows.{recurrence, coefficients, carried}
 use Rattle.coefficients.specs.Table as Table
+use Rattle.coefficients.specs.Chebyshev as Chebyshev
 use Rattle.coefficients.specs.Closeness.{Close-row}
 use Rattle.coefficients.specs.Multiplier.{Stable}
 use Rattle.workspace.specs.declared.Arguments.{Arguments}
@@ -122,8 +123,12 @@ pub record Concluded (h : Held) (calls : List Call) (x : Called) : Type 0 where
 
 -- ---- a stage that awaits its derivative, in a sequence
 
--- What the record carries into the stage is what the recurrence comes to there, from family and s alone; in RKC `omega_one` is the table's entry for s.
+-- What the record carries into the stage is what the recurrence comes to there, from family and s alone; in RKC `omega_one` is the table's entry for s, within
+-- 2 ^ -36 of the paper's fraction.
 pub record Carries (x : Held) : Type 0 where
+  pub stages-permitted : T (permitted (family-of (x .kept .family)) (stages-of x))
   pub from-two : 2 ≤ x .kept .staging .stage
+  pub to-last : x .kept .staging .stage ≤ stages-of x
   pub recurrence-is : x .kept .staging .recurrence ≡ carried (family-of (x .kept .family)) (stages-of x) (x .kept .staging .stage - 2)
   pub entry-read : family-of (x .kept .family) ≡ RKC → x .kept .staging .recurrence .polynomials .«omega_one» ≡ Table.omega (stages-of x)
+  pub entry-close : family-of (x .kept .family) ≡ RKC → Close 36 (x .kept .staging .recurrence .polynomials .«omega_one») (Chebyshev.omega-one (stages-of x))
