@@ -131,10 +131,10 @@ carries h f n y t cs q e =
     let p = subst (Position (found (trail .attempt)) (length (trail .replies)) x) e (trail .underway .position) in
     let F = family-of (x .kept .family) in
     let permits : T (permitted F s) =
-        subst (λ (k : ℕ). T (permitted F k)) (sym (p .suits .stages-are)) (stage-count-permitted F (scaled-radius-of x)) in
+    subst (λ (k : ℕ). T (permitted F k)) (sym (p .suits .stages-are)) (stage-count-permitted F (scaled-radius-of x)) in
     let range = permitted-range F s permits in
     let entry : F ≡ RKC → x .kept .staging .recurrence .polynomials .«omega_one» ≡ carried RKC s i .polynomials .«omega_one» = λ is.
-        ap (λ (c : Recurrence). c .polynomials .«omega_one») (p .recurrence-is) ∙ ap (λ (f : Family). carried f s i .polynomials .«omega_one») is in record {
+    ap (λ (c : Recurrence). c .polynomials .«omega_one») (p .recurrence-is) ∙ ap (λ (f : Family). carried f s i .polynomials .«omega_one») is in record {
       stages-permitted = permits;
       from-two = p .from-two;
       to-last = p .to-last;
