@@ -1,4 +1,5 @@
--- What an answer "finished" stands for, wherever it comes in a sequence of calls (`Concluded`), and what a stage's record carries there (`Carries`): the attempt, the replies since, the counters, and s, k and r of the record.
+-- What an answer "finished" stands for, wherever it comes in a sequence of calls: the attempt, the replies since it, the counters, and s, k and r of the
+-- record (`Concluded`). And what the record carries wherever a stage awaits its derivative (`Carries`).
 -- Document 01: demand 2's domain is "every call that the last table does not turn away, in a sequence from a start that it does not turn away either";
 -- "The evaluations of one finished attempt are s + k, with k from 1 to 12, each one reply"; demand 3 "holds also of the s that a finished attempt ran, for
 -- its own r where that is finite".
