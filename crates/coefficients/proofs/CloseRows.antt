@@ -23,7 +23,7 @@ use Rattle.fractions.proofs.Ring.{var, _:*_}
 use Rattle.ieee.specs.Double.{nought}
 use Rattle.coefficients.specs.declared.Recurrence.{Recurrence}
 use Rattle.coefficients.specs.declared.Coefficients.{Coefficients}
-use Rattle.coefficients.specs.Rows.{coefficients, recurrence, omega-one-of, legendre-one, legendre-two, gegenbauer-one, gegenbauer-two, with-theta}
+use Rattle.coefficients.specs.Rows.{coefficients-of, recurrence-of, omega-one-of, legendre-one, legendre-two, gegenbauer-one, gegenbauer-two, with-theta}
 use Rattle.coefficients.specs.Closeness.{Close-row, Same-row, gamma-zero}
 use Rattle.ieee.specs.Close.{signed, sign, value, Close}
 use Rattle.ieee.proofs.Value.{round-none}
@@ -126,11 +126,11 @@ module _ (f : Orthogonal) (s j : ℕ) (l : 2 ≤ s) (h : s ≤ 200) (l' : 2 ≤ 
     fit-gamma-tilde = g;
   }
 
-pub fit-row : (f : Orthogonal) (s j : ℕ) → T (permitted (made-of f) s) → 2 ≤ j → j ≤ s → (c : Recurrence) → Fit-row f s j (coefficients (made-of f) s j c)
-unfolding coefficients legendre-one legendre-two gegenbauer-one gegenbauer-two with-theta made-of mu-of nu-of a-of mu-with nu-with a-with b-of
+pub fit-row : (f : Orthogonal) (s j : ℕ) → T (permitted (made-of f) s) → 2 ≤ j → j ≤ s → (c : Recurrence) → Fit-row f s j (coefficients-of (made-of f) s j c)
+unfolding coefficients-of legendre-one legendre-two gegenbauer-one gegenbauer-two with-theta made-of mu-of nu-of a-of mu-with nu-with a-with b-of
 fit-row f s j t l' g c = let r = permitted-range (made-of f) s t in go f (r .0) (r .1) (le-trans g (r .1))
   where
-    go : (f : Orthogonal) → 2 ≤ s → s ≤ 200 → j ≤ 200 → Fit-row f s j (coefficients (made-of f) s j c)
+    go : (f : Orthogonal) → 2 ≤ s → s ≤ 200 → j ≤ 200 → Fit-row f s j (coefficients-of (made-of f) s j c)
     go Legendre1 l h h' = row-is Legendre1 s j l h l' h' _ refl refl refl (no-gamma Legendre1 s j refl _ (a-fit Legendre1 j l' h'))
     go Legendre2 l h h' = row-is Legendre2 s j l h l' h' _ refl refl refl
         (a-first Legendre2 s j _ (mu-tilde-fit Legendre2 s j l h l' h') _ (a-fit Legendre2 j l' h'))
@@ -144,10 +144,10 @@ unfolding Zero-or-fit
 either-close true k n s x q l h = zero-close 48 x q (h .number) (h .double-so) (h .fraction)
 either-close false k n s x q l h = fit-close k n s x q l h
 
-pub close-row : (f : Orthogonal) (s j : ℕ) → T (permitted (made-of f) s) → 2 ≤ j → j ≤ s → (c : Recurrence) → Close-row f s j (coefficients (made-of f) s j c)
+pub close-row : (f : Orthogonal) (s j : ℕ) → T (permitted (made-of f) s) → 2 ≤ j → j ≤ s → (c : Recurrence) → Close-row f s j (coefficients-of (made-of f) s j c)
 close-row f s j t l g c =
     let r = fit-row f s j t l g c in
-    let row = coefficients (made-of f) s j c in
+    let row = coefficients-of (made-of f) s j c in
     record {
       close-mu = fit-close 100 8 false (row .mu) (mu f j) (lit≤ tt) (r .fit-mu);
       close-nu = fit-close 100 8 true (row .nu) (nu f j) (lit≤ tt) (r .fit-nu);
@@ -156,15 +156,15 @@ close-row f s j t l g c =
     }
 
 -- a row but for theta depends on family, s and j alone
-pub same-row : (f : Orthogonal) (s j : ℕ) (c c' : Recurrence) → Same-row (coefficients (made-of f) s j c) (coefficients (made-of f) s j c')
-unfolding coefficients legendre-one legendre-two gegenbauer-one gegenbauer-two with-theta made-of
+pub same-row : (f : Orthogonal) (s j : ℕ) (c c' : Recurrence) → Same-row (coefficients-of (made-of f) s j c) (coefficients-of (made-of f) s j c')
+unfolding coefficients-of legendre-one legendre-two gegenbauer-one gegenbauer-two with-theta made-of
 same-row Legendre1 s j c c' = record { same-mu = refl; same-nu = refl; same-mu-tilde = refl; same-gamma-tilde = refl }
 same-row Legendre2 s j c c' = record { same-mu = refl; same-nu = refl; same-mu-tilde = refl; same-gamma-tilde = refl }
 same-row Gegenbauer1 s j c c' = record { same-mu = refl; same-nu = refl; same-mu-tilde = refl; same-gamma-tilde = refl }
 same-row Gegenbauer2 s j c c' = record { same-mu = refl; same-nu = refl; same-mu-tilde = refl; same-gamma-tilde = refl }
 
 -- the coefficient of stage 1, which the calls take from the recurrence
-pub close-first : (f : Orthogonal) (s : ℕ) → T (permitted (made-of f) s) → Close 48 (recurrence (made-of f) s .«theta_previous») (Paper.first-mu-tilde f s)
+pub close-first : (f : Orthogonal) (s : ℕ) → T (permitted (made-of f) s) → Close 48 (recurrence-of (made-of f) s .«theta_previous») (Paper.first-mu-tilde f s)
 close-first f s t = let r = permitted-range (made-of f) s t in
     fit-close 100 8 false (stage-one-of f s) (Paper.first-mu-tilde f s) (lit≤ tt) (first-fit f s (r .0) (r .1))
 

@@ -24,8 +24,8 @@ use Rattle.fractions.proofs.Values.{nat, nat-+, nat-*, Is, is-nonneg, divided, 
 use Rattle.coefficients.specs.Chebyshev.{chebyshev, first, second, omega-zero, omega-one}
 use Rattle.ieee.specs.Close.{sign, Close}
 use Rattle.coefficients.specs.Table as Table
-use Rattle.family.specs.Family.{RKC}
-use Rattle.coefficients.specs.Rows.{carried, recurrence, first-polynomials, omega-one-of, next, next-polynomials, polynomials-on}
+use Rattle.family.specs.Family.{RKC, facts-of}
+use Rattle.coefficients.specs.Rows.{carried-of, recurrence-of, first-polynomials, omega-one-of, next-of, next-polynomials, polynomials-on}
 use Rattle.ieee.proofs.Fit.{close-of}
 use Rattle.ieee.proofs.Every.{every, among}
 
@@ -247,10 +247,10 @@ close-omega s l h =
     last = omega arith
 
 -- ---- the rows: each takes the entry that was read when the stages began
-pub entry-taken : (s i : ℕ) → carried RKC s i .polynomials .«omega_one» ≡ Table.omega s
-unfolding carried recurrence first-polynomials omega-one-of next next-polynomials polynomials-on
+pub entry-taken : (s i : ℕ) → carried-of RKC s i .polynomials .«omega_one» ≡ Table.omega s
+unfolding carried-of recurrence-of first-polynomials omega-one-of next-of next-polynomials polynomials-on facts-of
 entry-taken s zero = refl
 entry-taken s (suc i) = entry-taken s i
 
-pub close-taken : (s i : ℕ) → 2 ≤ s → s ≤ 200 → Close 36 (carried RKC s i .polynomials .«omega_one») (omega-one s)
+pub close-taken : (s i : ℕ) → 2 ≤ s → s ≤ 200 → Close 36 (carried-of RKC s i .polynomials .«omega_one») (omega-one s)
 close-taken s i l h = subst (λ (x : Float). Close 36 x (omega-one s)) (sym (entry-taken s i)) (close-omega s l h)

@@ -1,4 +1,3 @@
-pub mod Numbers
 mod Bits
 mod Small
 mod Doubles

@@ -15,7 +15,7 @@ use Rattle.coefficients.specs.Paper as Paper
 use Rattle.coefficients.specs.Paper.{omega-one, mu, nu, a, b, b-later, b-zero, b-one, value-at-one, mu-factor, nu-factor}
 use Rattle.ieee.specs.Double.{double, square}
 use Rattle.coefficients.specs.Closeness.{gamma-zero, Both-zero}
-use Rattle.coefficients.specs.Rows.{omega-one-of, first-mu-tilde, recurrence, legendre-two-b, gegenbauer-one-b, gegenbauer-two-b}
+use Rattle.coefficients.specs.Rows.{omega-one-of, first-mu-tilde, recurrence-of, legendre-two-b, gegenbauer-one-b, gegenbauer-two-b}
 use Rattle.ieee.specs.Close.{signed, sign}
 use Rattle.ieee.proofs.Rounding.{P}
 use Rattle.ieee.proofs.Fit.{Fit}
@@ -145,13 +145,13 @@ stages-Gegenbauer2 = tt
 
 -- the coefficient of stage 1, as the recurrence hands it to the calls
 abbrev pub stage-one-of : Orthogonal → ℕ → Float
-stage-one-of f s = recurrence (made-of f) s .«theta_previous»
+stage-one-of f s = recurrence-of (made-of f) s .«theta_previous»
 
 legendre2-first-fits : ℕ → Bool
 legendre2-first-fits s = fits false (stage-one-of Legendre2 s) (Paper.first-mu-tilde Legendre2 s)
 
 legendre2-firsts : T (every legendre2-first-fits 199 2)
-unfolding every legendre2-first-fits fits recurrence first-mu-tilde omega-one-of made-of negative double square add sub mul div omega-one Paper.first-mu-tilde _⊗_ frac int _over_
+unfolding every legendre2-first-fits fits recurrence-of first-mu-tilde omega-one-of made-of negative double square add sub mul div omega-one Paper.first-mu-tilde _⊗_ frac int _over_
 legendre2-firsts = tt
 
 -- ---- what they say
@@ -201,7 +201,7 @@ unfolding s-fits
 omega-fit f s l h = fit-says false (omega-one-of (made-of f) s) (omega-one f s) (among (s-fits f) 199 2 s (stages f) l (omega arith))
 
 pub first-fit : (f : Orthogonal) (s : ℕ) → 2 ≤ s → s ≤ 200 → Fit 100 8 false (stage-one-of f s) (Paper.first-mu-tilde f s)
-unfolding recurrence first-mu-tilde Paper.first-mu-tilde made-of legendre2-first-fits
+unfolding recurrence-of first-mu-tilde Paper.first-mu-tilde made-of legendre2-first-fits
 first-fit Legendre1 s l h = omega-fit Legendre1 s l h
 first-fit Legendre2 s l h = fit-says false (stage-one-of Legendre2 s) (Paper.first-mu-tilde Legendre2 s)
     (among legendre2-first-fits 199 2 s legendre2-firsts l (omega arith))

@@ -14,7 +14,7 @@ use Rattle.ieee.proofs.Fit.{Fit, fit-close, num-pos}
 use Rattle.coefficients.specs.Paper as Paper
 use Rattle.coefficients.specs.Paper.{mu, nu, mu-tilde, gamma-tilde}
 use Rattle.coefficients.specs.declared.Recurrence.{Recurrence}
-use Rattle.coefficients.specs.Rows.{coefficients, recurrence}
+use Rattle.coefficients.specs.Rows.{coefficients-of, recurrence-of}
 use Rattle.coefficients.specs.Closeness.{gamma-zero, Zero-as, Zero-row}
 use Rattle.coefficients.proofs.RowTable.{Zero-or-fit, stage-one-of, first-fit}
 use Rattle.coefficients.proofs.CloseRows.{fit-row, zero-where}
@@ -28,11 +28,11 @@ zero-as true k n s x q l h = h
 zero-as false k n s x q l h = (λ e. not-zero k n s x q h (zero-where 48 x q (fit-close k n s x q l h) e), not-zero k n s x q h)
 
 pub zeros : (f : Orthogonal) (s j : ℕ) → T (permitted (made-of f) s) → 2 ≤ j → j ≤ s
-    → (c : Recurrence) → Zero-row f s j (coefficients (made-of f) s j c)
+    → (c : Recurrence) → Zero-row f s j (coefficients-of (made-of f) s j c)
 unfolding Zero-or-fit
 zeros f s j t l g c =
     let r = fit-row f s j t l g c in
-    let row = coefficients (made-of f) s j c in
+    let row = coefficients-of (made-of f) s j c in
     record {
       zero-mu = zero-as false 100 8 false (row .mu) (mu f j) (lit≤ tt) (r .fit-mu);
       zero-nu = zero-as false 100 8 true (row .nu) (nu f j) (lit≤ tt) (r .fit-nu);
@@ -42,7 +42,7 @@ zeros f s j t l g c =
 
 -- stage 1
 pub first-zero : (f : Orthogonal) (s : ℕ) → T (permitted (made-of f) s)
-    → Zero-as false (recurrence (made-of f) s .«theta_previous») (Paper.first-mu-tilde f s)
+    → Zero-as false (recurrence-of (made-of f) s .«theta_previous») (Paper.first-mu-tilde f s)
 unfolding Zero-or-fit
 first-zero f s t = let r = permitted-range (made-of f) s t in
     zero-as false 100 8 false (stage-one-of f s) (Paper.first-mu-tilde f s) (lit≤ tt) (first-fit f s (r .0) (r .1))

@@ -1,10 +1,14 @@
 -- The coefficients of a stage's row: orthogonal.rs, and `run_rkc` of chebyshev.rs, operations in the Rust's order. Document 01, "RKL and RKG rows".
+-- ⊕ ⊖ ⊗ ⊘ are operations on doubles: they round.
 use Prim.Native.Nat.{ℕ, zero, suc, _+_, _-_, _*_, _/_}
 use mathlib.Core.Bool.{cond}
 use lib.Dec.{leb}
 use lib.Ieee.{Float, neg}
 use Rattle.ieee.specs.Double.{_⊕_, _⊖_, _⊗_, _⊘_, double, square, nought, one, two, three, four, six, thirteen}
-use Rattle.family.specs.Family.{Family, RKC, RKL1, RKL2, RKG1, RKG2}
+use Rattle.family.specs.declared.Setting.{Setting}
+use Rattle.family.specs.declared.RowForm.{RowForm}
+use Rattle.family.specs.declared.RowForm.the-variants.{ChebyshevRow, OrthogonalRow}
+use Rattle.family.specs.Family.{Family, RKC, RKL1, RKL2, RKG1, RKG2, facts-of, kind}
 use Rattle.coefficients.specs.Table.{omega}
 use Rattle.coefficients.specs.declared.Coefficients.{Coefficients}
 use Rattle.coefficients.specs.declared.Recurrence.{Recurrence}
@@ -47,8 +51,8 @@ first-polynomials w1 s = record {
 }
 
 -- before stage 2
-unfoldable pub recurrence : Family → ℕ → Recurrence
-recurrence f s = record { «theta_previous» = first-mu-tilde f s; «theta_previous_two» = nought; polynomials = first-polynomials (omega-one-of f s) s }
+unfoldable pub recurrence-of : Family → ℕ → Recurrence
+recurrence-of f s = record { «theta_previous» = first-mu-tilde f s; «theta_previous_two» = nought; polynomials = first-polynomials (omega-one-of f s) s }
 
 -- ---- b
 
@@ -118,12 +122,12 @@ chebyshev s c = let w = omega-zero s in
     record { mu = mu; nu = nu; «mu_tilde» = mu~; «gamma_tilde» = nu~; theta = theta }
 
 -- RKC takes omega_one as it was read when the stages began; the other families work it out from s in every row
-unfoldable pub coefficients : Family → ℕ → ℕ → Recurrence → Coefficients
-coefficients RKC s j c = chebyshev s c
-coefficients RKL1 s j c = legendre-one (omega-one-of RKL1 s) j c
-coefficients RKL2 s j c = legendre-two (omega-one-of RKL2 s) j c
-coefficients RKG1 s j c = gegenbauer-one (omega-one-of RKG1 s) j c
-coefficients RKG2 s j c = gegenbauer-two (omega-one-of RKG2 s) j c
+unfoldable pub coefficients-of : Family → ℕ → ℕ → Recurrence → Coefficients
+coefficients-of RKC s j c = chebyshev s c
+coefficients-of RKL1 s j c = legendre-one (omega-one-of RKL1 s) j c
+coefficients-of RKL2 s j c = legendre-two (omega-one-of RKL2 s) j c
+coefficients-of RKG1 s j c = gegenbauer-one (omega-one-of RKG1 s) j c
+coefficients-of RKG2 s j c = gegenbauer-two (omega-one-of RKG2 s) j c
 
 -- ---- on to the next stage
 
@@ -140,17 +144,32 @@ polynomials-on w p = record {
   «second_previous_two» = p .«second_previous»;
 }
 
-unfoldable pub next-polynomials : Family → ℕ → Polynomials → Polynomials
-next-polynomials RKC s p = polynomials-on (omega-zero s) p
-next-polynomials RKL1 s p = p
-next-polynomials RKL2 s p = p
-next-polynomials RKG1 s p = p
-next-polynomials RKG2 s p = p
+unfoldable pub next-polynomials : RowForm → ℕ → Polynomials → Polynomials
+next-polynomials ChebyshevRow s p = polynomials-on (omega-zero s) p
+next-polynomials OrthogonalRow s p = p
 
-unfoldable pub next : Family → ℕ → Recurrence → Coefficients → Recurrence
-next f s c row = record { «theta_previous» = row .theta; «theta_previous_two» = c .«theta_previous»; polynomials = next-polynomials f s (c .polynomials) }
+unfoldable pub next-of : Family → ℕ → Recurrence → Coefficients → Recurrence
+next-of f s c row = record {
+  «theta_previous» = row .theta;
+  «theta_previous_two» = c .«theta_previous»;
+  polynomials = next-polynomials (facts-of f .row) s (c .polynomials);
+}
 
 -- what an attempt of s stages carries into stage i + 2
-unfoldable pub carried : Family → ℕ → ℕ → Recurrence
-carried f s zero = recurrence f s
-carried f s (suc i) = let c = carried f s i in next f s c (coefficients f s (i + 2) c)
+unfoldable pub carried-of : Family → ℕ → ℕ → Recurrence
+carried-of f s zero = recurrence-of f s
+carried-of f s (suc i) = let c = carried-of f s i in next-of f s c (coefficients-of f s (i + 2) c)
+
+-- ---- what an attempt runs under decides the family, and so the rows
+
+abbrev pub recurrence : Setting → ℕ → Recurrence
+recurrence m s = recurrence-of (kind m) s
+
+abbrev pub coefficients : Setting → ℕ → ℕ → Recurrence → Coefficients
+coefficients m s j c = coefficients-of (kind m) s j c
+
+abbrev pub next : Setting → ℕ → Recurrence → Coefficients → Recurrence
+next m s c row = next-of (kind m) s c row
+
+abbrev pub carried : Setting → ℕ → ℕ → Recurrence
+carried m s i = carried-of (kind m) s i

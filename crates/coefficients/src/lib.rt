@@ -1,8 +1,10 @@
-// The coefficients of a stage's row: orthogonal.rs, and `run_rkc` of chebyshev.rs. A family is given by its number.
+// The coefficients of a stage's row: orthogonal.rs, and `run_rkc` of chebyshev.rs.
 ghost use mathlib.Core.Path.{_≡_};
 ghost use Prim.Native.Nat.{_+_, _≤_, _<_, _^_};
 ghost use Rattle.family.specs.Family.{family-of};
 ghost use Rattle.coefficients.specs.Rows as rows;
+use family::RowForm;
+use family::Setting;
 
 mod chebyshev;
 mod orthogonal;
@@ -75,11 +77,11 @@ pub fn first_mu_tilde(family: u64, s: u64) -> f64
 }
 
 // What is carried into stage 2.
-pub fn first_recurrence(family: u64, s: u64) -> Recurrence
-    ensures { λ r. ⌜ r ≡ rows.recurrence (family-of family) s ⌝ }
+pub fn first_recurrence(setting: Setting, s: u64) -> Recurrence
+    ensures { λ r. ⌜ r ≡ rows.recurrence setting s ⌝ }
 {
-    let w = omega_one(family, s);
-    let theta = first_from(family, s, w);
+    let w = omega_one(setting.family, s);
+    let theta = first_from(setting.family, s, w);
     let polynomials = chebyshev::first_polynomials(w, s);
     Recurrence {
         theta_previous: theta,
@@ -89,10 +91,11 @@ pub fn first_recurrence(family: u64, s: u64) -> Recurrence
 }
 
 // The row of stage j, below 2^32 - 1 so that the products in RKG's b are numbers of 64 bits.
-pub fn row_coefficients(family: u64, s: u64, j: u64, c: Recurrence) -> Coefficients
+pub fn row_coefficients(setting: Setting, s: u64, j: u64, c: Recurrence) -> Coefficients
     requires { ⌜ (2 ≤ j) × (j + 1 < 2 ^ 32) ⌝ }
-    ensures { λ r. ⌜ r ≡ rows.coefficients (family-of family) s j c ⌝ }
+    ensures { λ r. ⌜ r ≡ rows.coefficients setting s j c ⌝ }
 {
+    let family = setting.family;
     match family {
         1 => chebyshev::row(s, c),
         2 => orthogonal::legendre_one(omega_one(family, s), j, c),
@@ -102,25 +105,26 @@ pub fn row_coefficients(family: u64, s: u64, j: u64, c: Recurrence) -> Coefficie
     }
 }
 
-// What is carried on from a stage with this row.
-pub fn next_recurrence(family: u64, s: u64, c: Recurrence, row: Coefficients) -> Recurrence
-    ensures { λ r. ⌜ r ≡ rows.next (family-of family) s c row ⌝ }
+fn next_polynomials(form: RowForm, s: u64, p: Polynomials) -> Polynomials
+    ensures { λ r. ⌜ r ≡ rows.next-polynomials form s p ⌝ }
 {
-    let polynomials = c.polynomials;
-    match family {
-        1 => {
-            let w = chebyshev::omega_zero(s);
-            let after = chebyshev::next_polynomials(w, polynomials);
-            Recurrence {
-                theta_previous: row.theta,
-                theta_previous_two: c.theta_previous,
-                polynomials: after,
-            }
-        }
-        _ => Recurrence {
-            theta_previous: row.theta,
-            theta_previous_two: c.theta_previous,
-            polynomials,
-        },
+    match form {
+        RowForm::ChebyshevRow => chebyshev::next_polynomials(chebyshev::omega_zero(s), p),
+        RowForm::OrthogonalRow => p,
+    }
+}
+
+// What is carried on from a stage with this row.
+pub fn next_recurrence(setting: Setting, s: u64, c: Recurrence, row: Coefficients) -> Recurrence
+    ensures { λ r. ⌜ r ≡ rows.next setting s c row ⌝ }
+{
+    let own = family::facts_of(setting.family);
+    let form = own.row;
+    let before = c.polynomials;
+    let polynomials = next_polynomials(form, s, before);
+    Recurrence {
+        theta_previous: row.theta,
+        theta_previous_two: c.theta_previous,
+        polynomials,
     }
 }

@@ -1,16 +1,22 @@
--- What is permitted, as facts: from the smallest count to the largest, and odd where it must be. Every permitted count is from 2 to 200. Assumes nothing.
-use mathlib.Core.Path.{_≡_, refl}
+-- What is permitted, as facts: from the smallest count to the largest, and odd where it must be. Every permitted count is from 2 to 200 (`permitted-range`).
+-- Assumes nothing.
+use mathlib.Core.Path.{_≡_}
 use Prim.Native.Nat.{ℕ, _%_, _≤_}
-use native.Mathlib.Nat.{le-trans}
+use native.Mathlib.Nat.{le-refl, le-trans}
 use mathlib.Core.Bool.{Bool, true, false, not, _&&_, _||_}
-use lib.Dec.{T, leb, eqb, leb→le, le→leb, eqb→eq, lit≤}
+use lib.Dec.{T, leb, eqb, leb→le, le→leb, eqb→eq}
 use lib.Ieee.Fits.{and-l, and-r, and-i, eq→eqb}
-use Rattle.family.specs.Family.{Family, RKC, RKL1, RKL2, RKG1, RKG2, smallest-count, largest-count, odd-only, permitted}
+use Rattle.family.specs.declared.Facts.{Facts}
+use Rattle.family.specs.Family.{Family, RKC, RKL1, RKL2, RKG1, RKG2, smallest-count, largest-count, odd-only, permitted, facts-of}
 
 pub record Permitted (f : Family) (s : ℕ) : Type 0 where
   pub from : smallest-count f ≤ s
   pub to : s ≤ largest-count f
   pub odd : T (odd-only f) → s % 2 ≡ 1
+
+odd-so : (o : Bool) (s : ℕ) → T (not o || eqb (s % 2) 1) → T o → s % 2 ≡ 1
+odd-so true s t i = eqb→eq (s % 2) 1 t
+odd-so false s t i = absurd i
 
 pub permitted-says : (f : Family) (s : ℕ) → T (permitted f s) → Permitted f s
 unfolding permitted
@@ -22,12 +28,8 @@ permitted-says f s t =
     record {
       from = leb→le (smallest-count f) s (and-l a b l);
       to = leb→le s (largest-count f) (and-r a b l);
-      odd = go (odd-only f) (and-r (a && b) c t);
+      odd = odd-so (odd-only f) s (and-r (a && b) c t);
     }
-  where
-    go : (o : Bool) → T (not o || eqb (s % 2) 1) → T o → s % 2 ≡ 1
-    go true t i = eqb→eq (s % 2) 1 t
-    go false t i = absurd i
 
 pub permitted-if : (f : Family) (s : ℕ) → Permitted f s → T (permitted f s)
 unfolding permitted
@@ -41,30 +43,52 @@ permitted-if f s p =
     go true h = eq→eqb (h tt)
     go false h = tt
 
+-- ---- each family's facts are sound: its largest count is permitted, and its counts are from 2 to 200
+
+abbrev pub most-stages : ℕ
+most-stages = 200
+
+unfoldable sound : Facts → Bool
+sound x = (leb 2 (x .smallest) && leb (x .smallest) (x .largest)) && (leb (x .largest) most-stages && (not (x .«odd_only») || eqb (x .largest % 2) 1))
+
+facts-sound : (f : Family) → T (sound (facts-of f))
+unfolding sound facts-of
+facts-sound RKC = tt
+facts-sound RKL1 = tt
+facts-sound RKL2 = tt
+facts-sound RKG1 = tt
+facts-sound RKG2 = tt
+
+record Sound (f : Family) : Type 0 where
+  from-two : 2 ≤ smallest-count f
+  ordered : smallest-count f ≤ largest-count f
+  to-most : largest-count f ≤ most-stages
+  odd-largest : T (not (odd-only f) || eqb (largest-count f % 2) 1)
+
+sound-says : (f : Family) → Sound f
+unfolding sound smallest-count largest-count odd-only
+sound-says f =
+    let x = facts-of f in
+    let a = leb 2 (x .smallest) in
+    let b = leb (x .smallest) (x .largest) in
+    let c = leb (x .largest) most-stages in
+    let d = not (x .«odd_only») || eqb (x .largest % 2) 1 in
+    let t = facts-sound f in
+    let low = and-l (a && b) (c && d) t in
+    let high = and-r (a && b) (c && d) t in
+    record {
+      from-two = leb→le 2 (x .smallest) (and-l a b low);
+      ordered = leb→le (x .smallest) (x .largest) (and-r a b low);
+      to-most = leb→le (x .largest) most-stages (and-l c d high);
+      odd-largest = and-r c d high;
+    }
+
 -- the largest count is permitted
 pub largest-permitted : (f : Family) → Permitted f (largest-count f)
-unfolding smallest-count largest-count odd-only
-largest-permitted RKC = record { from = lit≤ tt; to = lit≤ tt; odd = λ i. absurd i }
-largest-permitted RKL1 = record { from = lit≤ tt; to = lit≤ tt; odd = λ i. refl }
-largest-permitted RKL2 = record { from = lit≤ tt; to = lit≤ tt; odd = λ i. refl }
-largest-permitted RKG1 = record { from = lit≤ tt; to = lit≤ tt; odd = λ i. absurd i }
-largest-permitted RKG2 = record { from = lit≤ tt; to = lit≤ tt; odd = λ i. absurd i }
+largest-permitted f = let x = sound-says f in record { from = x .ordered; to = le-refl (largest-count f); odd = odd-so (odd-only f) (largest-count f) (x .odd-largest) }
 
-smallest-from : (f : Family) → 2 ≤ smallest-count f
-unfolding smallest-count
-smallest-from RKC = lit≤ tt
-smallest-from RKL1 = lit≤ tt
-smallest-from RKL2 = lit≤ tt
-smallest-from RKG1 = lit≤ tt
-smallest-from RKG2 = lit≤ tt
+pub largest-to : (f : Family) → largest-count f ≤ most-stages
+largest-to f = sound-says f .to-most
 
-pub largest-to : (f : Family) → largest-count f ≤ 200
-unfolding largest-count
-largest-to RKC = lit≤ tt
-largest-to RKL1 = lit≤ tt
-largest-to RKL2 = lit≤ tt
-largest-to RKG1 = lit≤ tt
-largest-to RKG2 = lit≤ tt
-
-pub permitted-range : (f : Family) (s : ℕ) → T (permitted f s) → (2 ≤ s) × (s ≤ 200)
-permitted-range f s t = let p = permitted-says f s t in (le-trans (smallest-from f) (p .from), le-trans (p .to) (largest-to f))
+pub permitted-range : (f : Family) (s : ℕ) → T (permitted f s) → (2 ≤ s) × (s ≤ most-stages)
+permitted-range f s t = let p = permitted-says f s t in let x = sound-says f in (le-trans (x .from-two) (p .from), le-trans (p .to) (x .to-most))

@@ -13,7 +13,7 @@ use Rattle.ieee.specs.Whole.{ceil}
 use Rattle.ieee.proofs.Monotone.{NonNeg, number, least, Some, some-from, times-mono, times-nonneg, plus-mono, plus-nonneg, minus-mono, minus-nonneg, div-by-mono, div-by-nonneg, sqrt-mono, sqrt-nonneg, ceil-mono, ceil-nonneg, round-nonneg, le-both}
 use Rattle.ieee.proofs.Casts.{cast-mono}
 use Rattle.ieee.proofs.RootBounds.{L, root-from, root-to}
-use Rattle.family.specs.Family.{Orthogonal, Legendre1, Legendre2, Gegenbauer1, Gegenbauer2, made-of, before-limits}
+use Rattle.family.specs.Family.{Orthogonal, Legendre1, Legendre2, Gegenbauer1, Gegenbauer2, made-of, before-limits, facts-of, by-rule}
 
 -- ---- the rule's parameters
 unfoldable pub offset : Orthogonal → Float
@@ -48,7 +48,7 @@ unfoldable pub after : Orthogonal → Float → ℕ
 after f y = toUnsigned 64 (ceil ((y ⊖ shifted f) ⊘ two))
 
 pub rule-is : (f : Orthogonal) (r : Float) → before-limits (made-of f) r ≡ after f (sqrt (inner f r))
-unfolding before-limits made-of inner after offset slope shifted
+unfolding before-limits made-of inner after offset slope shifted by-rule facts-of
 rule-is Legendre1 r = refl
 rule-is Legendre2 r = refl
 rule-is Gegenbauer1 r = refl

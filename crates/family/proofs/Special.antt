@@ -15,14 +15,14 @@ use Rattle.ieee.specs.Whole.{floor, ceil, cut}
 use Rattle.ieee.specs.Whole as Whole
 use Rattle.ieee.proofs.Monotone.{cross, round-nonneg}
 use Rattle.ieee.proofs.Casts.{cast-mono}
-use Rattle.family.specs.Family.{Family, RKC, RKL1, RKL2, RKG1, RKG2, smallest-count, largest-count, odd-only, before-limits, odd-step, limited, stage-count}
+use Rattle.family.specs.Family.{Family, RKC, RKL1, RKL2, RKG1, RKG2, smallest-count, largest-count, odd-only, before-limits, odd-step, limited, stage-count, facts-of, by-rule}
 use Rattle.family.proofs.Range.{permitted-range}
 use Rattle.family.proofs.Limits.{limited-largest}
 use Rattle.family.proofs.Counts.{stage-count-permitted}
 
 -- ---- an infinite r gives the largest
 pub infinite-count : (f : Family) → stage-count f (inf false) ≡ largest-count f
-unfolding stage-count before-limits limited odd-step odd-only smallest-count largest-count Whole.max lt nearest add sub mul div sqrt floor ceil toUnsigned
+unfolding stage-count before-limits limited odd-step odd-only smallest-count largest-count Whole.max lt nearest add sub mul div sqrt floor ceil toUnsigned by-rule facts-of
 infinite-count RKC = refl
 infinite-count RKL1 = refl
 infinite-count RKL2 = refl
@@ -65,5 +65,5 @@ from-too-many (fin false m e) h =
     enough h = omega arith
 
 pub rkc-from-too-many : (r : Float) → T (le (nearest (2 ^ 64) 1) (sqrt (nearest 154 100 ⊗ Whole.max r nought ⊕ one))) → stage-count RKC r ≡ 200
-unfolding stage-count before-limits largest-count
+unfolding stage-count before-limits largest-count by-rule facts-of
 rkc-from-too-many r h = limited-largest RKC _ (from-too-many (sqrt (nearest 154 100 ⊗ Whole.max r nought ⊕ one)) h)

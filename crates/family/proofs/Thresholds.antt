@@ -14,7 +14,7 @@ use Rattle.ieee.specs.Sqrt.{squared-units}
 use Rattle.ieee.specs.Whole.{ceil}
 use Rattle.ieee.proofs.Every.{every, among}
 use Rattle.ieee.proofs.RootBounds.{L}
-use Rattle.family.specs.Family.{Orthogonal, Legendre1, Legendre2, Gegenbauer1, Gegenbauer2, made-of, smallest-count, largest-count, odd-only, permitted}
+use Rattle.family.specs.Family.{Orthogonal, Legendre1, Legendre2, Gegenbauer1, Gegenbauer2, made-of, smallest-count, largest-count, odd-only, permitted, facts-of}
 use Rattle.family.specs.Reach.{reach, reach-num, reach-den, parts}
 use Rattle.family.proofs.Rule.{offset, slope, shift, shifted, inner, after}
 use Rattle.family.proofs.Range.{permitted-says}
@@ -107,19 +107,19 @@ unfoldable all-good : Orthogonal → Bool
 all-good f = every (permitted-good f) (largest-count (made-of f) + 1 - smallest-count (made-of f)) (smallest-count (made-of f))
 
 test-Legendre1 : T (all-good Legendre1)
-unfolding all-good every permitted-good permitted made-of smallest-count largest-count odd-only good good-above good-below high deep past full reach frac _over_ reach-num reach-den parts inner after offset slope shift shifted nearest add sub mul div le ceil toUnsigned
+unfolding all-good every permitted-good permitted made-of smallest-count largest-count odd-only good good-above good-below high deep past full reach frac _over_ reach-num reach-den parts inner after offset slope shift shifted nearest add sub mul div le ceil toUnsigned facts-of
 test-Legendre1 = tt
 
 test-Legendre2 : T (all-good Legendre2)
-unfolding all-good every permitted-good permitted made-of smallest-count largest-count odd-only good good-above good-below high deep past full reach frac _over_ reach-num reach-den parts inner after offset slope shift shifted nearest add sub mul div le ceil toUnsigned
+unfolding all-good every permitted-good permitted made-of smallest-count largest-count odd-only good good-above good-below high deep past full reach frac _over_ reach-num reach-den parts inner after offset slope shift shifted nearest add sub mul div le ceil toUnsigned facts-of
 test-Legendre2 = tt
 
 test-Gegenbauer1 : T (all-good Gegenbauer1)
-unfolding all-good every permitted-good permitted made-of smallest-count largest-count odd-only good good-above good-below high deep past full reach frac _over_ reach-num reach-den parts inner after offset slope shift shifted nearest add sub mul div le ceil toUnsigned
+unfolding all-good every permitted-good permitted made-of smallest-count largest-count odd-only good good-above good-below high deep past full reach frac _over_ reach-num reach-den parts inner after offset slope shift shifted nearest add sub mul div le ceil toUnsigned facts-of
 test-Gegenbauer1 = tt
 
 test-Gegenbauer2 : T (all-good Gegenbauer2)
-unfolding all-good every permitted-good permitted made-of smallest-count largest-count odd-only good good-above good-below high deep past full reach frac _over_ reach-num reach-den parts inner after offset slope shift shifted nearest add sub mul div le ceil toUnsigned
+unfolding all-good every permitted-good permitted made-of smallest-count largest-count odd-only good good-above good-below high deep past full reach frac _over_ reach-num reach-den parts inner after offset slope shift shifted nearest add sub mul div le ceil toUnsigned facts-of
 test-Gegenbauer2 = tt
 
 test : (f : Orthogonal) → T (all-good f)

@@ -1,4 +1,4 @@
--- The five families and how many stages each runs: family.rs. Document 01, "family.rs: stage counts".
+-- The families, and how many stages each runs: family.rs. Document 01, "family.rs: stage counts". ⊕ ⊖ ⊗ ⊘ are operations on doubles: they round.
 use Prim.Native.Nat.{ℕ, _+_, _%_, min, max}
 use mathlib.Core.Bool.{Bool, true, false, cond, not, _&&_, _||_}
 use lib.Dec.{leb, eqb}
@@ -7,16 +7,33 @@ use Rattle.ieee.specs.Double.{_⊕_, _⊖_, _⊗_, _⊘_, nearest, nought, one,
 use Rattle.ieee.specs.Sqrt.{sqrt}
 use Rattle.ieee.specs.Whole.{floor, ceil}
 use Rattle.ieee.specs.Whole as Whole
+use Rattle.family.specs.declared.Setting.{Setting}
+use Rattle.family.specs.declared.Facts.{Facts}
+use Rattle.family.specs.declared.StageRule.{StageRule}
+use Rattle.family.specs.declared.StageRule.the-variants.{RoundedDown, RoundedUp}
+use Rattle.family.specs.declared.RowForm.the-variants.{ChebyshevRow, OrthogonalRow}
+use Rattle.family.specs.declared.ErrorForm.the-variants.{FirstDerivative, BothDerivatives}
+use Rattle.family.specs.declared.CandidateForm.the-variants.{LastStage}
 
 pub data Family : Type 0 where
   RKC RKL1 RKL2 RKG1 RKG2 : Family
 
 -- numbered 1 to 5 in that order
+abbrev pub family-count : ℕ
+family-count = 5
+
 unfoldable pub known : ℕ → Bool
-known number = leb 1 number && leb number 5
+known number = leb 1 number && leb number family-count
 
 unfoldable pub family-of : ℕ → Family
 family-of number = cond (eqb number 1) RKC (cond (eqb number 2) RKL1 (cond (eqb number 3) RKL2 (cond (eqb number 4) RKG1 RKG2)))
+
+-- what an attempt runs under: its family, given by number
+abbrev pub setting : ℕ → Setting
+setting number = record { family = number }
+
+abbrev pub kind : Setting → Family
+kind m = family-of (m .family)
 
 -- The four families of orthogonal.rs, by the polynomial that each is made of: those of demand 3.
 pub data Orthogonal : Type 0 where
@@ -28,41 +45,61 @@ made-of Legendre2 = RKL2
 made-of Gegenbauer1 = RKG1
 made-of Gegenbauer2 = RKG2
 
--- ---- permitted counts: the smallest, the largest, and whether only odd ones
+-- ---- each family's facts: its permitted counts (smallest, largest, only odd ones), its stage rule, whether its area keeps an older state, and the forms of
+-- its rows, its error and its candidate
+
+-- what RKL and RKG share
+abbrev pub orthogonal : ℕ → ℕ → Bool → StageRule → Facts
+orthogonal smallest largest odd rule = record {
+  smallest = smallest;
+  largest = largest;
+  «odd_only» = odd;
+  rule = rule;
+  «keeps_older» = false;
+  row = OrthogonalRow;
+  error = FirstDerivative;
+  candidate = LastStage;
+}
+
+unfoldable pub facts-of : Family → Facts
+facts-of RKC = record {
+  smallest = 2;
+  largest = 200;
+  «odd_only» = false;
+  rule = RoundedDown (nearest 154 100);
+  «keeps_older» = false;
+  row = ChebyshevRow;
+  error = BothDerivatives;
+  candidate = LastStage;
+}
+facts-of RKL1 = orthogonal 3 199 true (RoundedUp one four one)
+facts-of RKL2 = orthogonal 3 199 true (RoundedUp nine eight one)
+facts-of RKG1 = orthogonal 2 200 false (RoundedUp nine sixteen three)
+facts-of RKG2 = orthogonal 3 200 false (RoundedUp twenty-five twenty-four three)
+
+-- ---- permitted counts
 
 unfoldable pub smallest-count : Family → ℕ
-smallest-count RKC = 2
-smallest-count RKL1 = 3
-smallest-count RKL2 = 3
-smallest-count RKG1 = 2
-smallest-count RKG2 = 3
+smallest-count f = facts-of f .smallest
 
 unfoldable pub largest-count : Family → ℕ
-largest-count RKC = 200
-largest-count RKL1 = 199
-largest-count RKL2 = 199
-largest-count RKG1 = 200
-largest-count RKG2 = 200
+largest-count f = facts-of f .largest
 
 unfoldable pub odd-only : Family → Bool
-odd-only RKC = false
-odd-only RKL1 = true
-odd-only RKL2 = true
-odd-only RKG1 = false
-odd-only RKG2 = false
+odd-only f = facts-of f .«odd_only»
 
 unfoldable pub permitted : Family → ℕ → Bool
 permitted f s = leb (smallest-count f) s && leb s (largest-count f) && (not (odd-only f) || eqb (s % 2) 1)
 
 -- ---- the stage rule
 
--- the whole number before limits
+-- the whole number before limits, of the scaled radius r
+unfoldable pub by-rule : StageRule → Float → ℕ
+by-rule (RoundedDown slope) r = toUnsigned 64 (floor (sqrt (slope ⊗ r ⊕ one))) + 1
+by-rule (RoundedUp offset slope shift) r = toUnsigned 64 (ceil ((sqrt (offset ⊕ slope ⊗ r) ⊖ shift) ⊘ two))
+
 unfoldable pub before-limits : Family → Float → ℕ
-before-limits RKC r = toUnsigned 64 (floor (sqrt (nearest 154 100 ⊗ r ⊕ one))) + 1
-before-limits RKL1 r = toUnsigned 64 (ceil ((sqrt (one ⊕ four ⊗ r) ⊖ one) ⊘ two))
-before-limits RKL2 r = toUnsigned 64 (ceil ((sqrt (nine ⊕ eight ⊗ r) ⊖ one) ⊘ two))
-before-limits RKG1 r = toUnsigned 64 (ceil ((sqrt (nine ⊕ sixteen ⊗ r) ⊖ three) ⊘ two))
-before-limits RKG2 r = toUnsigned 64 (ceil ((sqrt (twenty-five ⊕ twenty-four ⊗ r) ⊖ three) ⊘ two))
+before-limits f r = by-rule (facts-of f .rule) r
 
 -- an even number goes up by one, where only odd ones are permitted
 unfoldable pub odd-step : Family → ℕ → ℕ

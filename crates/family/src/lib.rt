@@ -1,57 +1,129 @@
-// family.rs: the families, their permitted stage counts and their stage rules. A family is its number, 1 to 5; any other number is taken as 5.
+// family.rs: the families, their permitted stage counts and their stage rules. A family is its number, 1 to 5; any other
+// number is taken as 5.
 ghost use mathlib.Core.Path.{_≡_};
 ghost use Prim.Native.Nat.{_+_, _-_, _^_, min, max};
+ghost use Rattle.family.specs.declared.StageRule.the-variants.{RoundedUp};
 ghost use Rattle.family.specs.Family as spec;
-ghost use Rattle.family.specs.Family.{family-of, smallest-count, largest-count, odd-only, before-limits, odd-step, stage-count};
+ghost use Rattle.family.specs.Family.{family-of, kind, before-limits, odd-step, stage-count};
 
-pub fn smallest_count(family: u64) -> u64
-    ensures { λ r. ⌜ r ≡ smallest-count (family-of family) ⌝ }
+// What an attempt runs under.
+pub struct Setting {
+    pub family: u64,
+}
+
+// How the whole number before limits follows from the scaled radius r.
+pub enum StageRule {
+    // floor(sqrt(slope * r + 1)) + 1
+    RoundedDown { slope: f64 },
+    // ceil((sqrt(offset + slope * r) - shift) / 2)
+    RoundedUp { offset: f64, slope: f64, shift: f64 },
+}
+
+// How a row weighs the two derivatives: RKC's in one product, RKL's and RKG's in a product each.
+pub enum RowForm {
+    ChebyshevRow,
+    OrthogonalRow,
+}
+
+// Which derivatives the error takes beside the state and the candidate: the first alone, and its norm is then divided by
+// s; or the first and the last.
+pub enum ErrorForm {
+    FirstDerivative,
+    BothDerivatives,
+}
+
+// What the candidate is made of.
+pub enum CandidateForm {
+    LastStage,
+}
+
+// A family's facts: the permitted counts, the stage rule, whether its area keeps an older state, and its forms.
+pub struct Facts {
+    pub smallest: u64,
+    pub largest: u64,
+    pub odd_only: bool,
+    pub rule: StageRule,
+    pub keeps_older: bool,
+    pub row: RowForm,
+    pub error: ErrorForm,
+    pub candidate: CandidateForm,
+}
+
+fn rkc() -> Facts
+    ensures { λ r. ⌜ r ≡ spec.facts-of spec.RKC ⌝ }
 {
-    match family {
-        1 => 2,
-        2 => 3,
-        3 => 3,
-        4 => 2,
-        _ => 3,
+    Facts {
+        smallest: 2,
+        largest: 200,
+        odd_only: false,
+        rule: StageRule::RoundedDown { slope: 1.54 },
+        keeps_older: false,
+        row: RowForm::ChebyshevRow,
+        error: ErrorForm::BothDerivatives,
+        candidate: CandidateForm::LastStage,
     }
 }
 
-pub fn largest_count(family: u64) -> u64
-    ensures { λ r. ⌜ r ≡ largest-count (family-of family) ⌝ }
+// What RKL and RKG share.
+fn orthogonal(smallest: u64, largest: u64, odd_only: bool, rule: StageRule) -> Facts
+    ensures { λ r. ⌜ r ≡ spec.orthogonal smallest largest «odd_only» rule ⌝ }
 {
-    match family {
-        1 => 200,
-        2 => 199,
-        3 => 199,
-        4 => 200,
-        _ => 200,
+    Facts {
+        smallest,
+        largest,
+        odd_only,
+        rule,
+        keeps_older: false,
+        row: RowForm::OrthogonalRow,
+        error: ErrorForm::FirstDerivative,
+        candidate: CandidateForm::LastStage,
     }
 }
 
-// Whether the family runs odd counts only.
-pub fn odd_only(family: u64) -> bool
-    ensures { λ r. ⌜ r ≡ odd-only (family-of family) ⌝ }
+fn rounded_up(offset: f64, slope: f64, shift: f64) -> StageRule
+    ensures { λ r. ⌜ r ≡ RoundedUp offset slope shift ⌝ }
+{
+    StageRule::RoundedUp {
+        offset,
+        slope,
+        shift,
+    }
+}
+
+pub fn facts_of(family: u64) -> Facts
+    ensures { λ r. ⌜ r ≡ spec.facts-of (family-of family) ⌝ }
 {
     match family {
-        1 => false,
-        2 => true,
-        3 => true,
-        4 => false,
-        _ => false,
+        1 => rkc(),
+        2 => orthogonal(3, 199, true, rounded_up(1.0, 4.0, 1.0)),
+        3 => orthogonal(3, 199, true, rounded_up(9.0, 8.0, 1.0)),
+        4 => orthogonal(2, 200, false, rounded_up(9.0, 16.0, 3.0)),
+        _ => orthogonal(3, 200, false, rounded_up(25.0, 24.0, 3.0)),
     }
+}
+
+// Whether a family of this number is carried.
+pub fn known(family: u64) -> bool
+    ensures { λ r. ⌜ r ≡ spec.known family ⌝ }
+{
+    if family < 1 {
+        return false;
+    }
+    family <= 5
 }
 
 // Whether the family may run s stages.
 pub fn permitted(family: u64, s: u64) -> bool
     ensures { λ r. ⌜ r ≡ spec.permitted (family-of family) s ⌝ }
 {
-    if s < smallest_count(family) {
+    let own = facts_of(family);
+    if s < own.smallest {
         return false;
     }
-    if s > largest_count(family) {
+    if s > own.largest {
         return false;
     }
-    if odd_only(family) {
+    if own.odd_only {
         return s % 2 == 1;
     }
     true
@@ -77,23 +149,38 @@ fn one_more(m: u64) -> u64
 }
 
 // The whole number before limits, or the largest u64 where RKC's passes it.
+fn by_rule(rule: StageRule, r: f64) -> u64
+    ensures { λ m. ⌜ m ≡ min (spec.by-rule rule r) (2 ^ 64 - 1) ⌝ }
+{
+    match rule {
+        StageRule::RoundedDown { slope } => {
+            one_more(ieee::saturating_u64(ieee::floor(ieee::sqrt(slope * r + 1.0))))
+        }
+        StageRule::RoundedUp {
+            offset,
+            slope,
+            shift,
+        } => {
+            let root = ieee::sqrt(offset + slope * r);
+            ieee::saturating_u64(ieee::ceil((root - shift) / 2.0))
+        }
+    }
+}
+
 fn before_limits(family: u64, r: f64) -> u64
     ensures { λ m. ⌜ m ≡ min (before-limits (family-of family) r) (2 ^ 64 - 1) ⌝ }
 {
-    match family {
-        1 => one_more(ieee::saturating_u64(ieee::floor(ieee::sqrt(1.54 * r + 1.0)))),
-        2 => ieee::saturating_u64(ieee::ceil((ieee::sqrt(1.0 + 4.0 * r) - 1.0) / 2.0)),
-        3 => ieee::saturating_u64(ieee::ceil((ieee::sqrt(9.0 + 8.0 * r) - 1.0) / 2.0)),
-        4 => ieee::saturating_u64(ieee::ceil((ieee::sqrt(9.0 + 16.0 * r) - 3.0) / 2.0)),
-        _ => ieee::saturating_u64(ieee::ceil((ieee::sqrt(25.0 + 24.0 * r) - 3.0) / 2.0)),
-    }
+    let own = facts_of(family);
+    let rule = own.rule;
+    by_rule(rule, r)
 }
 
 // An even number goes up by one, where the family runs odd counts only.
 fn odd_step(family: u64, stages: u64) -> u64
     ensures { λ r. ⌜ r ≡ odd-step (family-of family) stages ⌝ }
 {
-    if odd_only(family) {
+    let own = facts_of(family);
+    if own.odd_only {
         if stages % 2 == 0 {
             return stages + 1;
         }
@@ -104,8 +191,9 @@ fn odd_step(family: u64, stages: u64) -> u64
 fn limited(family: u64, stages: u64) -> u64
     ensures { λ r. ⌜ r ≡ spec.limited (family-of family) stages ⌝ }
 {
-    let from_smallest = larger(stages, smallest_count(family));
-    smaller(odd_step(family, from_smallest), largest_count(family))
+    let own = facts_of(family);
+    let from_smallest = larger(stages, own.smallest);
+    smaller(odd_step(family, from_smallest), own.largest)
 }
 
 // How many stages the family runs for the scaled radius |step| * radius. A NaN and a negative one count as 0.

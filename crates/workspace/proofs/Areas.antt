@@ -10,11 +10,16 @@ use lib.ListN.{length, take, drop, getD, replicate, length-append, length-drop, 
 use lib.Seq.{take-append-seam, drop-append-add, drop-drop, take-add, take-all, length-take-le}
 use lib.Ieee.{Float, nan, le}
 use Rattle.ieee.specs.Double.{one, min-positive}
-use Rattle.family.specs.Family.{Family, RKC, RKL1, RKL2, RKG1, RKG2}
+use Rattle.family.specs.declared.Setting.{Setting}
+use Rattle.family.specs.declared.RowForm.{RowForm}
+use Rattle.family.specs.declared.CandidateForm.{CandidateForm}
+use Rattle.family.specs.declared.CandidateForm.the-variants.{LastStage}
+use Rattle.family.specs.Family.{Family, RKC, RKL1, RKL2, RKG1, RKG2, facts-of, kind}
+use Rattle.coefficients.specs.declared.Recurrence.{Recurrence}
 use Rattle.coefficients.specs.declared.Coefficients.{Coefficients}
 use Rattle.workspace.specs.declared.Arguments.{Arguments}
 use Rattle.workspace.specs.Vectors.{Vector, Vectors, _with_≔_, number, named, vector-count, unpack, Becomes, pack, join, in-order, tabulate, each, vector-norm, first-derivative, last-derivative, derivative, previous-two, previous-one, next-stage, eigenvector, perturbed-state, perturbed-derivative, state, candidate}
-use Rattle.workspace.specs.Kernel.{with-direction, perturbed-by, perturbed, turned, first-stage, with-row, entry, exchanged, with-candidate, with-last, error}
+use Rattle.workspace.specs.Kernel.{with-direction, perturbed-by, perturbed, turned, first-stage, with-row-in, entry-in, exchanged, candidate-in, with-candidate, with-last, error}
 
 -- every vector is n long
 abbrev pub Long : ℕ → Vectors → Type 0
@@ -223,10 +228,10 @@ module _ (n : ℕ) where
   unfolding first-stage
   long-first step mu~ v h = long-each (v with previous-two ≔ v state) v previous-one _ (long-with v previous-two (v state) h (h state))
 
-  pub long-row : (f : Family) (step : Float) (c : Coefficients) (v : Vectors) (d : List Float) → Long n v → length d ≡ n
-      → Long n (with-row f n step c v d)
-  unfolding with-row
-  long-row f step c v d h p = let w = v with derivative ≔ d in long-each w w next-stage (entry f step c) (long-with v derivative d h p)
+  pub long-row : (form : RowForm) (step : Float) (c : Coefficients) (v : Vectors) (d : List Float) → Long n v → length d ≡ n
+      → Long n (with-row-in form n step c v d)
+  unfolding with-row-in
+  long-row form step c v d h p = let w = v with derivative ≔ d in long-each w w next-stage (entry-in form step c) (long-with v derivative d h p)
 
   pub long-exchanged : (v : Vectors) → Long n v → Long n (exchanged v)
   unfolding exchanged
@@ -235,17 +240,21 @@ module _ (n : ℕ) where
       (long-with (v with previous-two ≔ v previous-one) previous-one (v next-stage)
       (long-with v previous-two (v previous-one) h (h previous-one)) (h next-stage)) (h previous-two)
 
-  pub long-candidate : (v : Vectors) → Long n v → Long n (with-candidate v)
-  unfolding with-candidate
-  long-candidate v h = long-with v candidate (v next-stage) h (h next-stage)
+  pub long-candidate : (m : Setting) (step : Float) (s : ℕ) (c : Recurrence) (row : Coefficients) (v : Vectors) → Long n v
+      → Long n (with-candidate m n step s c row v)
+  unfolding with-candidate candidate-in
+  long-candidate m step s c row v h = long-with v candidate (candidate-in (facts-of (kind m) .candidate) m n step s c row v) h (go (facts-of (kind m) .candidate))
+    where
+      go : (form : CandidateForm) → length (candidate-in form m n step s c row v) ≡ n
+      go LastStage = h next-stage
 
-  pub long-last : (f : Family) (a : Arguments) (v : Vectors) (d : List Float) → Long n v → length d ≡ n → Long n (with-last f n a v d)
+  pub long-last : (m : Setting) (a : Arguments) (v : Vectors) (d : List Float) → Long n v → length d ≡ n → Long n (with-last m n a v d)
   unfolding with-last
-  long-last f a v d h p = go (a .adaptive)
+  long-last m a v d h p = go (a .adaptive)
     where
       w : Vectors
       w = v with last-derivative ≔ d
 
-      go : (t : Bool) → Long n (cond t (w with derivative ≔ each n w (error f (a .step))) w)
-      go true = long-each w w derivative (error f (a .step)) (long-with v last-derivative d h p)
+      go : (t : Bool) → Long n (cond t (w with derivative ≔ each n w (error m (a .step))) w)
+      go true = long-each w w derivative (error m (a .step)) (long-with v last-derivative d h p)
       go false = long-with v last-derivative d h p

@@ -1,4 +1,4 @@
--- The rows: an element by the family's number, what the loops' rules come to, and that the candidate has no part in them.
+-- The rows: what the loops' rules come to, and that the candidate has no part in them. Assumes nothing.
 use mathlib.Core.Path.{_≡_, refl, sym, ap, _∙_, fun-ext}
 use mathlib.Core.Bool.{Bool, true, false, cond}
 use mathlib.Core.List.{List, [], _∷_}
@@ -8,32 +8,14 @@ use borrow.Author.Tests.{eqb-true, ltb-false}
 use lib.Dec.{eqb, ltb}
 use lib.ListN.{length}
 use lib.Ieee.{Float}
-use Rattle.family.specs.Family.{Family, RKC, RKL1, RKL2, RKG1, RKG2, family-of}
+use Rattle.family.specs.declared.RowForm.{RowForm}
+use Rattle.family.specs.declared.RowForm.the-variants.{ChebyshevRow, OrthogonalRow}
 use Rattle.coefficients.specs.declared.Coefficients.{Coefficients}
-use Rattle.coefficients.proofs.Numbers.{orthogonal}
 use Rattle.workspace.specs.Vectors.{Vector, Vectors, number, _with_≔_, each, first-derivative, last-derivative, derivative, previous-two, previous-one, next-stage, eigenvector, perturbed-state, perturbed-derivative, state, candidate}
-use Rattle.workspace.specs.Kernel.{entry, chebyshev-entry, orthogonal-entry, with-row, exchanged}
+use Rattle.workspace.specs.Kernel.{entry-in, chebyshev-entry, orthogonal-entry, with-row-in, exchanged}
 use Rattle.workspace.proofs.Lists.{each-same}
 use Rattle.workspace.proofs.Parts.{_beside_}
 use Rattle.workspace.proofs.Columns.{Rules, written-by}
-
--- ---- an element
-
-module _ (k : ℕ) (h : Float) (c : Coefficients) (x : Vector → Float) where
-  pub first-entry : k ≡ 1 → chebyshev-entry h c x ≡ entry (family-of k) h c x
-  unfolding entry family-of
-  first-entry e = ap (λ (j : ℕ). entry (family-of j) h c x) (sym e)
-
-  pub later-entry : (k ≡ 1 → ⊥) → orthogonal-entry h c x ≡ entry (family-of k) h c x
-  unfolding entry
-  later-entry d = orthogonal (λ f. orthogonal-entry h c x ≡ entry f h c x) refl refl refl refl k d
-
--- every family but the first has the row of the second
-pub same-row : (k n : ℕ) (h : Float) (c : Coefficients) (v : Vectors) (d : List Float) → (k ≡ 1 → ⊥) → with-row (family-of 2) n h c v d ≡ with-row (family-of k) n h c v d
-unfolding with-row
-same-row k n h c v d other =
-    let w = v with derivative ≔ d in
-    ap (λ (g : (Vector → Float) → Float). w with next-stage ≔ each n w g) (fun-ext (λ x. sym (later-entry 2 h c x (λ (e : 2 ≡ 1). omega arith)) ∙ later-entry k h c x other))
 
 -- ---- the row, by the rule g of an element
 
@@ -70,13 +52,10 @@ exchange-law n g v long-two long-one =
 
 -- ---- the candidate has no part in it
 
-each-beside : (f : Family) (n : ℕ) (h : Float) (c : Coefficients) (v w : Vectors) → each n (v beside w) (entry f h c) ≡ each n v (entry f h c)
-unfolding each entry chebyshev-entry orthogonal-entry
-each-beside RKC n h c v w = refl
-each-beside RKL1 n h c v w = refl
-each-beside RKL2 n h c v w = refl
-each-beside RKG1 n h c v w = refl
-each-beside RKG2 n h c v w = refl
+each-beside : (f : RowForm) (n : ℕ) (h : Float) (c : Coefficients) (v w : Vectors) → each n (v beside w) (entry-in f h c) ≡ each n v (entry-in f h c)
+unfolding each entry-in chebyshev-entry orthogonal-entry
+each-beside ChebyshevRow n h c v w = refl
+each-beside OrthogonalRow n h c v w = refl
 
 -- a vector of the first ten written
 with-beside : (k : Vector) → number k < 10 → (v w : Vectors) (x : List Float) → ((v beside w) with k ≔ x) ≡ ((v with k ≔ x) beside w)
@@ -101,14 +80,14 @@ exchanged-beside v w perturbed-derivative = refl
 exchanged-beside v w state = refl
 exchanged-beside v w candidate = refl
 
-module _ (f : Family) (n : ℕ) (h : Float) (c : Coefficients) (d : List Float) (v w : Vectors) where
-  pub row-beside : with-row f n h c (v beside w) d ≡ (with-row f n h c v d beside w)
-  unfolding with-row
+module _ (f : RowForm) (n : ℕ) (h : Float) (c : Coefficients) (d : List Float) (v w : Vectors) where
+  pub row-beside : with-row-in f n h c (v beside w) d ≡ (with-row-in f n h c v d beside w)
+  unfolding with-row-in
   row-beside =
       let u = v with derivative ≔ d in
-      ap (λ (y : Vectors). y with next-stage ≔ each n y (entry f h c)) (with-beside derivative (omega arith) v w d)
+      ap (λ (y : Vectors). y with next-stage ≔ each n y (entry-in f h c)) (with-beside derivative (omega arith) v w d)
       ∙ ap (λ (x : List Float). (u beside w) with next-stage ≔ x) (each-beside f n h c u w)
-      ∙ with-beside next-stage (omega arith) u w (each n u (entry f h c))
+      ∙ with-beside next-stage (omega arith) u w (each n u (entry-in f h c))
 
-  pub exchange-beside : exchanged (with-row f n h c (v beside w) d) ≡ (exchanged (with-row f n h c v d) beside w)
-  exchange-beside = ap exchanged row-beside ∙ fun-ext (exchanged-beside (with-row f n h c v d) w)
+  pub exchange-beside : exchanged (with-row-in f n h c (v beside w) d) ≡ (exchanged (with-row-in f n h c v d) beside w)
+  exchange-beside = ap exchanged row-beside ∙ fun-ext (exchanged-beside (with-row-in f n h c v d) w)

@@ -1,5 +1,5 @@
 -- What the kernel does to its vectors between two evaluations: the loops over the entries in workspace.rs, orthogonal.rs, chebyshev.rs and driver.rs.
--- Document 01, "workspace.rs: norms and the power iteration" and "driver.rs: the calls".
+-- Document 01, "workspace.rs: norms and the power iteration" and "driver.rs: the calls". ⊕ ⊖ ⊗ ⊘ are operations on doubles: they round.
 use Prim.Native.Nat.{ℕ}
 use mathlib.Core.Bool.{Bool, cond, _&&_, _||_}
 use mathlib.Core.List.{List}
@@ -8,8 +8,16 @@ use lib.ListN.{replicate}
 use lib.Ieee.{Float, le, eq}
 use Rattle.ieee.specs.Double.{_⊕_, _⊖_, _⊗_, _⊘_, double, nearest, min-positive, root-epsilon, nought, one, two, four, five}
 use Rattle.ieee.specs.Whole.{abs, max}
-use Rattle.family.specs.Family.{Family, RKC, RKL1, RKL2, RKG1, RKG2}
+use Rattle.family.specs.declared.Setting.{Setting}
+use Rattle.family.specs.declared.RowForm.{RowForm}
+use Rattle.family.specs.declared.RowForm.the-variants.{ChebyshevRow, OrthogonalRow}
+use Rattle.family.specs.declared.ErrorForm.{ErrorForm}
+use Rattle.family.specs.declared.ErrorForm.the-variants.{FirstDerivative, BothDerivatives}
+use Rattle.family.specs.declared.CandidateForm.{CandidateForm}
+use Rattle.family.specs.declared.CandidateForm.the-variants.{LastStage}
+use Rattle.family.specs.Family.{facts-of, kind}
 use Rattle.coefficients.specs.declared.Coefficients.{Coefficients}
+use Rattle.coefficients.specs.declared.Recurrence.{Recurrence}
 use Rattle.workspace.specs.declared.Arguments.{Arguments}
 use Rattle.workspace.specs.Vectors.{Vector, Vectors, _with_≔_, each, root-of-squares, vector-norm, first-derivative, last-derivative, derivative, previous-two, previous-one, next-stage, eigenvector, perturbed-state, perturbed-derivative, state, candidate}
 
@@ -68,17 +76,17 @@ chebyshev-entry h c x =
     c .mu ⊗ x previous-one ⊕ c .nu ⊗ x previous-two ⊕ (one ⊖ c .mu ⊖ c .nu) ⊗ x state
     ⊕ h ⊗ c .«mu_tilde» ⊗ (x derivative ⊖ c .«gamma_tilde» ⊗ x first-derivative)
 
-unfoldable pub entry : Family → Float → Coefficients → (Vector → Float) → Float
-entry RKC = chebyshev-entry
-entry RKL1 = orthogonal-entry
-entry RKL2 = orthogonal-entry
-entry RKG1 = orthogonal-entry
-entry RKG2 = orthogonal-entry
+unfoldable pub entry-in : RowForm → Float → Coefficients → (Vector → Float) → Float
+entry-in ChebyshevRow = chebyshev-entry
+entry-in OrthogonalRow = orthogonal-entry
 
 -- a stage's derivative d taken: the row
-unfoldable pub with-row : Family → ℕ → Float → Coefficients → Vectors → List Float → Vectors
-with-row f n step c v d = let w = v with derivative ≔ d in
-    w with next-stage ≔ each n w (entry f step c)
+unfoldable pub with-row-in : RowForm → ℕ → Float → Coefficients → Vectors → List Float → Vectors
+with-row-in form n step c v d = let w = v with derivative ≔ d in
+    w with next-stage ≔ each n w (entry-in form step c)
+
+abbrev pub with-row : Setting → ℕ → Float → Coefficients → Vectors → List Float → Vectors
+with-row m n step c v d = with-row-in (facts-of (kind m) .row) n step c v d
 
 -- the two swaps: a three-cycle
 unfoldable pub exchanged : Vectors → Vectors
@@ -87,30 +95,34 @@ exchanged v = v
     with previous-one ≔ v next-stage
     with next-stage ≔ v previous-two
 
-unfoldable pub with-candidate : Vectors → Vectors
-with-candidate v = v with candidate ≔ v next-stage
+-- the candidate after stage s, whose row and recurrence these are: the last stage itself
+unfoldable pub candidate-in : CandidateForm → Setting → ℕ → Float → ℕ → Recurrence → Coefficients → Vectors → List Float
+candidate-in LastStage m n step s c row v = v next-stage
+
+unfoldable pub with-candidate : Setting → ℕ → Float → ℕ → Recurrence → Coefficients → Vectors → Vectors
+with-candidate m n step s c row v = v with candidate ≔ candidate-in (facts-of (kind m) .candidate) m n step s c row v
 
 -- ---- the error: the end of `attempt_step`
 
-unfoldable pub error : Family → Float → (Vector → Float) → Float
-error RKC h x =
+unfoldable pub error-in : ErrorForm → Float → (Vector → Float) → Float
+error-in BothDerivatives h x =
     (four ⊗ (x state ⊖ x candidate) ⊕ two ⊗ h ⊗ (x first-derivative ⊕ x last-derivative)) ⊘ five
-error RKL1 h x = x candidate ⊖ (x state ⊕ h ⊗ x first-derivative)
-error RKL2 h x = x candidate ⊖ (x state ⊕ h ⊗ x first-derivative)
-error RKG1 h x = x candidate ⊖ (x state ⊕ h ⊗ x first-derivative)
-error RKG2 h x = x candidate ⊖ (x state ⊕ h ⊗ x first-derivative)
+error-in FirstDerivative h x = x candidate ⊖ (x state ⊕ h ⊗ x first-derivative)
+
+abbrev pub error : Setting → Float → (Vector → Float) → Float
+error m h x = error-in (facts-of (kind m) .error) h x
 
 -- the last derivative d taken; with `adaptive` the error goes where the derivative stood
-unfoldable pub with-last : Family → ℕ → Arguments → Vectors → List Float → Vectors
-with-last f n a v d = let w = v with last-derivative ≔ d in
-    cond (a .adaptive) (w with derivative ≔ each n w (error f (a .step))) w
+unfoldable pub with-last : Setting → ℕ → Arguments → Vectors → List Float → Vectors
+with-last m n a v d = let w = v with last-derivative ≔ d in
+    cond (a .adaptive) (w with derivative ≔ each n w (error m (a .step))) w
 
-unfoldable pub divisor : Family → ℕ → Float
-divisor RKC s = one
-divisor RKL1 s = double s
-divisor RKL2 s = double s
-divisor RKG1 s = double s
-divisor RKG2 s = double s
+unfoldable pub divisor-in : ErrorForm → ℕ → Float
+divisor-in BothDerivatives s = one
+divisor-in FirstDerivative s = double s
+
+abbrev pub divisor : Setting → ℕ → Float
+divisor m s = divisor-in (facts-of (kind m) .error) s
 
 -- an error's entry over its tolerance
 unfoldable pub scaled-error : Arguments → (Vector → Float) → Float
@@ -120,5 +132,5 @@ unfoldable pub scaled-error-norm : ℕ → Arguments → Vectors → Float
 scaled-error-norm n a v = root-of-squares (double n) (each n v (scaled-error a))
 
 -- without `adaptive` the norm is 0
-unfoldable pub error-norm : Family → ℕ → ℕ → Arguments → Vectors → Float
-error-norm f n s a v = cond (a .adaptive) (scaled-error-norm n a v ⊘ divisor f s) nought
+unfoldable pub error-norm : Setting → ℕ → ℕ → Arguments → Vectors → Float
+error-norm m n s a v = cond (a .adaptive) (scaled-error-norm n a v ⊘ divisor m s) nought

@@ -2,7 +2,7 @@
 ghost use mathlib.Core.Path.{_≡_};
 ghost use Prim.Native.Nat.{_*_, _≤_, _<_};
 ghost use lib.ListN.{length};
-ghost use Rattle.family.specs.Family.{family-of};
+ghost use Rattle.family.specs.Family.{facts-of, kind};
 ghost use Rattle.workspace.specs.Vectors.{column, unpack, Becomes, _with_≔_, each, sum-of-squares, derivative};
 ghost use Rattle.workspace.specs.Kernel as kernel;
 ghost use Rattle.workspace.specs.Kernel.{with-last, scaled-error, error-norm};
@@ -14,45 +14,58 @@ use crate::LAST_DERIVATIVE;
 use crate::STATE;
 use crate::area::put_vector;
 use crate::iteration::root_of;
+use family::ErrorForm;
+use family::Setting;
 
 // An element of the error, from its column.
-fn error_at(area: &[f64], n: usize, i: usize, family: u64, step: f64) -> f64
+fn error_at(area: &[f64], n: usize, i: usize, form: ErrorForm, step: f64) -> f64
     requires { ⌜ 11 * n ≤ length (now area) ⌝ }
     requires { ⌜ i < n ⌝ }
-    ensures { λ r. ⌜ r ≡ kernel.error (family-of family) step (column n (now (area .entry)) i) ⌝ }
+    ensures { λ r. ⌜ r ≡ kernel.error-in form step (column n (now (area .entry)) i) ⌝ }
 {
     let initial = area[STATE * n + i];
     let final_state = area[CANDIDATE * n + i];
     let first = area[FIRST_DERIVATIVE * n + i];
     let last = area[LAST_DERIVATIVE * n + i];
-    match family {
-        1 => (4.0 * (initial - final_state) + 2.0 * step * (first + last)) / 5.0,
-        _ => final_state - (initial + step * first),
+    match form {
+        ErrorForm::BothDerivatives => {
+            (4.0 * (initial - final_state) + 2.0 * step * (first + last)) / 5.0
+        }
+        ErrorForm::FirstDerivative => final_state - (initial + step * first),
     }
 }
 
 // The error goes where the derivative stood.
-fn put_error(area: &mut [f64], n: usize, family: u64, step: f64)
+fn put_error(area: &mut [f64], n: usize, form: ErrorForm, step: f64)
     requires { ⌜ 11 * n ≤ length (now area) ⌝ }
-    ensures { λ _. ⌜ Becomes n (now (area .entry)) (now (area .exit)) (λ w. w with derivative ≔ each n w (kernel.error (family-of family) step)) ⌝ }
+    ensures { λ _. ⌜ Becomes n (now (area .entry)) (now (area .exit)) (λ w. w with derivative ≔ each n w (kernel.error-in form step)) ⌝ }
 {
     let mut i = 0;
     while i < n {
-        let x = error_at(area, n, i, family, step);
+        let x = error_at(area, n, i, form, step);
         area[DERIVATIVE * n + i] = x;
         i += 1;
     }
 }
 
+// The form of an attempt's error.
+fn error_form(setting: Setting) -> ErrorForm
+    ensures { λ r. ⌜ r ≡ facts-of (kind setting) .error ⌝ }
+{
+    let own = family::facts_of(setting.family);
+    own.error
+}
+
 // The last derivative taken, and the error with `adaptive`.
-pub fn last(area: &mut [f64], n: usize, family: u64, arguments: Arguments, derivative: &[f64])
+pub fn last(area: &mut [f64], n: usize, setting: Setting, arguments: Arguments, derivative: &[f64])
     requires { ⌜ 11 * n ≤ length (now area) ⌝ }
     requires { ⌜ length (now derivative) ≡ n ⌝ }
-    ensures { λ _. ⌜ Becomes n (now (area .entry)) (now (area .exit)) (λ w. with-last (family-of family) n arguments w (now (derivative .entry))) ⌝ }
+    ensures { λ _. ⌜ Becomes n (now (area .entry)) (now (area .exit)) (λ w. with-last setting n arguments w (now (derivative .entry))) ⌝ }
 {
     put_vector(area, n, LAST_DERIVATIVE, derivative);
     if arguments.adaptive {
-        put_error(area, n, family, arguments.step);
+        let form = error_form(setting);
+        put_error(area, n, form, arguments.step);
     }
 }
 
@@ -84,23 +97,24 @@ fn sum_of_scaled(area: &[f64], n: usize, arguments: Arguments) -> f64
 }
 
 // What the norm is divided by.
-fn divisor(family: u64, stages: u64) -> f64
-    ensures { λ r. ⌜ r ≡ kernel.divisor (family-of family) stages ⌝ }
+fn divisor(form: ErrorForm, stages: u64) -> f64
+    ensures { λ r. ⌜ r ≡ kernel.divisor-in form stages ⌝ }
 {
-    match family {
-        1 => 1.0,
-        _ => ieee::double_of(stages),
+    match form {
+        ErrorForm::BothDerivatives => 1.0,
+        ErrorForm::FirstDerivative => ieee::double_of(stages),
     }
 }
 
 // The scaled error norm; 0 without `adaptive`.
-pub fn error_norm(area: &[f64], n: usize, family: u64, stages: u64, arguments: Arguments) -> f64
+pub fn error_norm(area: &[f64], n: usize, setting: Setting, stages: u64, arguments: Arguments) -> f64
     requires { ⌜ 11 * n ≤ length (now area) ⌝ }
-    ensures { λ r. ⌜ r ≡ error-norm (family-of family) n stages arguments (unpack n (now (area .entry))) ⌝ }
+    ensures { λ r. ⌜ r ≡ error-norm setting n stages arguments (unpack n (now (area .entry))) ⌝ }
 {
     if arguments.adaptive {
         let norm = root_of(sum_of_scaled(area, n, arguments), ieee::double_of(n as u64));
-        norm / divisor(family, stages)
+        let form = error_form(setting);
+        norm / divisor(form, stages)
     } else {
         0.0
     }

@@ -2,10 +2,10 @@
 ghost use mathlib.Core.Path.{_≡_};
 ghost use Prim.Native.Nat.{ℕ, _+_, _-_, _*_, _≤_, _<_};
 ghost use lib.ListN.{length};
-ghost use Rattle.family.specs.Family.{family-of};
+ghost use Rattle.family.specs.Family.{facts-of, kind};
 ghost use lib.Ieee.{Float};
 ghost use Rattle.workspace.specs.Vectors.{Vector, column, unpack, Becomes};
-ghost use Rattle.workspace.specs.Kernel.{first-stage, entry, with-row, exchanged, with-candidate};
+ghost use Rattle.workspace.specs.Kernel.{first-stage, entry-in, with-row-in, with-row, exchanged, with-candidate};
 ghost use Rattle.workspace.specs.Reads.{taking, Reads, Moved, element, Holds, Put, picked};
 use crate::CANDIDATE;
 use crate::DERIVATIVE;
@@ -16,6 +16,10 @@ use crate::PREVIOUS_TWO;
 use crate::STATE;
 use crate::area::copy_vector;
 use coefficients::Coefficients;
+use coefficients::Recurrence;
+use family::CandidateForm;
+use family::RowForm;
+use family::Setting;
 
 // Stages 0 and 1.
 pub fn first_stage(area: &mut [f64], n: usize, step: f64, mu_tilde: f64)
@@ -68,27 +72,29 @@ fn entries_at(ten: &[f64], n: usize, i: usize, slope: f64) -> Entries
 }
 
 // An element of the row, from what it reads of its column.
-fn entry_of(family: u64, c: Coefficients, step: f64, x: Entries) -> f64
-    ensures { λ r. ⌜ ((v : Vector → Float) → Reads x v → r ≡ entry (family-of family) step c v) ⌝ }
+fn entry_of(form: RowForm, c: Coefficients, step: f64, x: Entries) -> f64
+    ensures { λ r. ⌜ ((v : Vector → Float) → Reads x v → r ≡ entry-in form step c v) ⌝ }
 {
     let sum = c.mu * x.one + c.nu * x.two + (1.0 - c.mu - c.nu) * x.initial;
-    match family {
-        1 => sum + step * c.mu_tilde * (x.slope - c.gamma_tilde * x.first),
-        _ => sum + step * c.mu_tilde * x.slope + step * c.gamma_tilde * x.first,
+    match form {
+        RowForm::ChebyshevRow => sum + step * c.mu_tilde * (x.slope - c.gamma_tilde * x.first),
+        RowForm::OrthogonalRow => {
+            sum + step * c.mu_tilde * x.slope + step * c.gamma_tilde * x.first
+        }
     }
 }
 
 // The derivative taken and the row in one pass over the columns.
-fn row_in(ten: &mut [f64], n: usize, family: u64, c: Coefficients, step: f64, derivative: &[f64])
+fn row_in(ten: &mut [f64], n: usize, form: RowForm, c: Coefficients, step: f64, derivative: &[f64])
     requires { ⌜ length (now ten) ≡ 10 * n ⌝ }
     requires { ⌜ length (now derivative) ≡ n ⌝ }
-    ensures { λ _. ⌜ unpack n (now (ten .exit)) ≡ with-row (family-of family) n step c (unpack n (now (ten .entry))) (now (derivative .entry)) ⌝ }
+    ensures { λ _. ⌜ unpack n (now (ten .exit)) ≡ with-row-in form n step c (unpack n (now (ten .entry))) (now (derivative .entry)) ⌝ }
 {
     let mut i = 0;
     while i < n {
         let slope = derivative[i];
         let x = entries_at(ten, n, i, slope);
-        let next = entry_of(family, c, step, x);
+        let next = entry_of(form, c, step, x);
         ten[DERIVATIVE * n + i] = slope;
         ten[NEXT_STAGE * n + i] = next;
         i += 1;
@@ -126,7 +132,7 @@ fn put_four(v: &mut [f64], p: usize, x: Four)
 
 // Four elements of the row.
 fn entries_of(
-    family: u64,
+    form: RowForm,
     c: Coefficients,
     step: f64,
     one: Four,
@@ -135,16 +141,16 @@ fn entries_of(
     slope: Four,
     first: Four,
 ) -> Four
-    ensures { λ r. ⌜ ((u : ℕ) → u < 4 → (v : Vector → Float) → Reads (picked one two initial slope first u) v → element r u ≡ entry (family-of family) step c v) ⌝ }
+    ensures { λ r. ⌜ ((u : ℕ) → u < 4 → (v : Vector → Float) → Reads (picked one two initial slope first u) v → element r u ≡ entry-in form step c v) ⌝ }
 {
     let at_a = gather(one.a, two.a, initial.a, slope.a, first.a);
     let at_b = gather(one.b, two.b, initial.b, slope.b, first.b);
     let at_c = gather(one.c, two.c, initial.c, slope.c, first.c);
     let at_d = gather(one.d, two.d, initial.d, slope.d, first.d);
-    let next_a = entry_of(family, c, step, at_a);
-    let next_b = entry_of(family, c, step, at_b);
-    let next_c = entry_of(family, c, step, at_c);
-    let next_d = entry_of(family, c, step, at_d);
+    let next_a = entry_of(form, c, step, at_a);
+    let next_b = entry_of(form, c, step, at_b);
+    let next_c = entry_of(form, c, step, at_c);
+    let next_d = entry_of(form, c, step, at_d);
     Four {
         a: next_a,
         b: next_b,
@@ -159,7 +165,7 @@ fn move_one(
     ten: &mut [f64],
     n: usize,
     i: usize,
-    family: u64,
+    form: RowForm,
     c: Coefficients,
     step: f64,
     derivative: &[f64],
@@ -167,14 +173,14 @@ fn move_one(
     requires { ⌜ length (now ten) ≡ 10 * n ⌝ }
     requires { ⌜ length (now derivative) ≡ n ⌝ }
     requires { ⌜ i < n ⌝ }
-    ensures { λ _. ⌜ Moved n (entry (family-of family) step c) (now (derivative .entry)) i 1 (now (ten .entry)) (now (ten .exit)) ⌝ }
+    ensures { λ _. ⌜ Moved n (entry-in form step c) (now (derivative .entry)) i 1 (now (ten .entry)) (now (ten .exit)) ⌝ }
 {
     let slope = derivative[i];
     let x = entries_at(ten, n, i, slope);
     ten[DERIVATIVE * n + i] = slope;
     ten[NEXT_STAGE * n + i] = x.two;
     ten[PREVIOUS_TWO * n + i] = x.one;
-    let next = entry_of(family, c, step, x);
+    let next = entry_of(form, c, step, x);
     ten[PREVIOUS_ONE * n + i] = next;
 }
 
@@ -184,7 +190,7 @@ fn move_four(
     ten: &mut [f64],
     n: usize,
     i: usize,
-    family: u64,
+    form: RowForm,
     c: Coefficients,
     step: f64,
     derivative: &[f64],
@@ -192,7 +198,7 @@ fn move_four(
     requires { ⌜ length (now ten) ≡ 10 * n ⌝ }
     requires { ⌜ length (now derivative) ≡ n ⌝ }
     requires { ⌜ i + 4 ≤ n ⌝ }
-    ensures { λ _. ⌜ Moved n (entry (family-of family) step c) (now (derivative .entry)) i 4 (now (ten .entry)) (now (ten .exit)) ⌝ }
+    ensures { λ _. ⌜ Moved n (entry-in form step c) (now (derivative .entry)) i 4 (now (ten .entry)) (now (ten .exit)) ⌝ }
 {
     let slope = four_at(derivative, i);
     let one = four_at(ten, PREVIOUS_ONE * n + i);
@@ -202,7 +208,7 @@ fn move_four(
     put_four(ten, DERIVATIVE * n + i, slope);
     put_four(ten, NEXT_STAGE * n + i, two);
     put_four(ten, PREVIOUS_TWO * n + i, one);
-    let next = entries_of(family, c, step, one, two, initial, slope, first);
+    let next = entries_of(form, c, step, one, two, initial, slope, first);
     put_four(ten, PREVIOUS_ONE * n + i, next);
 }
 
@@ -211,7 +217,7 @@ fn move_rest(
     ten: &mut [f64],
     n: usize,
     from: usize,
-    family: u64,
+    form: RowForm,
     c: Coefficients,
     step: f64,
     derivative: &[f64],
@@ -219,11 +225,11 @@ fn move_rest(
     requires { ⌜ length (now ten) ≡ 10 * n ⌝ }
     requires { ⌜ length (now derivative) ≡ n ⌝ }
     requires { ⌜ from ≤ n ⌝ }
-    ensures { λ _. ⌜ Moved n (entry (family-of family) step c) (now (derivative .entry)) from (n - from) (now (ten .entry)) (now (ten .exit)) ⌝ }
+    ensures { λ _. ⌜ Moved n (entry-in form step c) (now (derivative .entry)) from (n - from) (now (ten .entry)) (now (ten .exit)) ⌝ }
 {
     let mut i = from;
     while i < n {
-        move_one(ten, n, i, family, c, step, derivative);
+        move_one(ten, n, i, form, c, step, derivative);
         i += 1;
     }
 }
@@ -237,69 +243,92 @@ fn fours_within(n: usize) -> usize
 }
 
 // The derivative taken, the row and the exchange in one pass over the columns.
-fn move_all(ten: &mut [f64], n: usize, family: u64, c: Coefficients, step: f64, derivative: &[f64])
+fn move_all(ten: &mut [f64], n: usize, form: RowForm, c: Coefficients, step: f64, derivative: &[f64])
     requires { ⌜ length (now ten) ≡ 10 * n ⌝ }
     requires { ⌜ length (now derivative) ≡ n ⌝ }
-    ensures { λ _. ⌜ unpack n (now (ten .exit)) ≡ exchanged (with-row (family-of family) n step c (unpack n (now (ten .entry))) (now (derivative .entry))) ⌝ }
+    ensures { λ _. ⌜ unpack n (now (ten .exit)) ≡ exchanged (with-row-in form n step c (unpack n (now (ten .entry))) (now (derivative .entry))) ⌝ }
 {
     let short = fours_within(n);
     let mut i = 0;
     while i + 4 <= short {
-        move_four(ten, n, i, family, c, step, derivative);
+        move_four(ten, n, i, form, c, step, derivative);
         i += 4;
     }
-    move_rest(ten, n, i, family, c, step, derivative);
+    move_rest(ten, n, i, form, c, step, derivative);
 }
 
-// By the form of the family, so that the loop is compiled for each form by itself.
+// Form by form, so that the loop is compiled for each by itself.
 fn row_and_exchange_in(
     ten: &mut [f64],
     n: usize,
-    family: u64,
+    form: RowForm,
     c: Coefficients,
     step: f64,
     derivative: &[f64],
 )
     requires { ⌜ length (now ten) ≡ 10 * n ⌝ }
     requires { ⌜ length (now derivative) ≡ n ⌝ }
-    ensures { λ _. ⌜ unpack n (now (ten .exit)) ≡ exchanged (with-row (family-of family) n step c (unpack n (now (ten .entry))) (now (derivative .entry))) ⌝ }
+    ensures { λ _. ⌜ unpack n (now (ten .exit)) ≡ exchanged (with-row-in form n step c (unpack n (now (ten .entry))) (now (derivative .entry))) ⌝ }
 {
-    match family {
-        1 => move_all(ten, n, 1, c, step, derivative),
-        _ => move_all(ten, n, 2, c, step, derivative),
+    match form {
+        RowForm::ChebyshevRow => move_all(ten, n, RowForm::ChebyshevRow, c, step, derivative),
+        RowForm::OrthogonalRow => move_all(ten, n, RowForm::OrthogonalRow, c, step, derivative),
     }
 }
 
+// The form of an attempt's rows.
+fn row_form(setting: Setting) -> RowForm
+    ensures { λ r. ⌜ r ≡ facts-of (kind setting) .row ⌝ }
+{
+    let own = family::facts_of(setting.family);
+    own.row
+}
+
 // A stage's derivative taken: the row. So it stands after the last stage.
-pub fn row(area: &mut [f64], n: usize, family: u64, c: Coefficients, step: f64, derivative: &[f64])
+pub fn row(area: &mut [f64], n: usize, setting: Setting, c: Coefficients, step: f64, derivative: &[f64])
     requires { ⌜ 11 * n ≤ length (now area) ⌝ }
     requires { ⌜ length (now derivative) ≡ n ⌝ }
-    ensures { λ _. ⌜ Becomes n (now (area .entry)) (now (area .exit)) (λ w. with-row (family-of family) n step c w (now (derivative .entry))) ⌝ }
+    ensures { λ _. ⌜ Becomes n (now (area .entry)) (now (area .exit)) (λ w. with-row setting n step c w (now (derivative .entry))) ⌝ }
 {
+    let form = row_form(setting);
     let end = 10 * n;
-    row_in(&mut area[0..end], n, family, c, step, derivative);
+    row_in(&mut area[0..end], n, form, c, step, derivative);
 }
 
 // The row, and the exchange of the two stages before it, after any other stage.
 pub fn row_and_exchange(
     area: &mut [f64],
     n: usize,
-    family: u64,
+    setting: Setting,
     c: Coefficients,
     step: f64,
     derivative: &[f64],
 )
     requires { ⌜ 11 * n ≤ length (now area) ⌝ }
     requires { ⌜ length (now derivative) ≡ n ⌝ }
-    ensures { λ _. ⌜ Becomes n (now (area .entry)) (now (area .exit)) (λ w. exchanged (with-row (family-of family) n step c w (now (derivative .entry)))) ⌝ }
+    ensures { λ _. ⌜ Becomes n (now (area .entry)) (now (area .exit)) (λ w. exchanged (with-row setting n step c w (now (derivative .entry)))) ⌝ }
 {
+    let form = row_form(setting);
     let end = 10 * n;
-    row_and_exchange_in(&mut area[0..end], n, family, c, step, derivative);
+    row_and_exchange_in(&mut area[0..end], n, form, c, step, derivative);
 }
 
-pub fn keep_candidate(area: &mut [f64], n: usize)
+// The candidate after stage s, whose row and recurrence these are.
+pub fn keep_candidate(
+    area: &mut [f64],
+    n: usize,
+    setting: Setting,
+    step: f64,
+    s: u64,
+    c: Recurrence,
+    row: Coefficients,
+)
     requires { ⌜ 11 * n ≤ length (now area) ⌝ }
-    ensures { λ _. ⌜ Becomes n (now (area .entry)) (now (area .exit)) with-candidate ⌝ }
+    ensures { λ _. ⌜ Becomes n (now (area .entry)) (now (area .exit)) (with-candidate setting n step s c row) ⌝ }
 {
-    copy_vector(area, n, NEXT_STAGE, CANDIDATE);
+    let own = family::facts_of(setting.family);
+    let form = own.candidate;
+    match form {
+        CandidateForm::LastStage => copy_vector(area, n, NEXT_STAGE, CANDIDATE),
+    }
 }

@@ -1,6 +1,6 @@
 -- `first_recurrence` meets its contract, call by call.
 use lib.Ieee.{ofBits}
-use Rattle.coefficients.specs.Rows.{recurrence}
+use Rattle.coefficients.specs.Rows.{recurrence-of}
 use borrow.Author.Needs.{needs}
 use Rattle.coefficients.proofs.first_recurrence.Statement.{statement}
 use Rattle.coefficients.proofs.first_recurrence.Tie as tie
@@ -15,7 +15,7 @@ first-polynomials-requires : tie.Need-first-polynomials-requires
 first-polynomials-requires c κs = search needs
 
 returns : tie.Need-returns
-unfolding recurrence ofBits
+unfolding recurrence-of ofBits
 returns c = rw (c .first-polynomials .ensures, c .before .first-from .ensures, c .before .before .omega-one .ensures)
 
 pub first-recurrence-spec : {M : Type 1} → statement M

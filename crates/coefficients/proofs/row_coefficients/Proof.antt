@@ -1,6 +1,6 @@
 -- `row_coefficients` meets its contract, family by family.
 use Rattle.family.specs.Family.{family-of}
-use Rattle.coefficients.specs.Rows.{coefficients}
+use Rattle.coefficients.specs.Rows.{coefficients-of}
 use Rattle.family.proofs.Numbers.{last-family}
 use borrow.Author.Needs.{needs}
 use Rattle.coefficients.proofs.row_coefficients.Statement.{statement}
@@ -34,23 +34,23 @@ gegenbauer-two-requires : tie.Need-gegenbauer-two-requires
 gegenbauer-two-requires c κs = search needs
 
 returns : tie.Need-returns
-unfolding coefficients family-of
+unfolding coefficients-of family-of
 returns c = rw (c .row .ensures, c .before .match .keys1)
 
 returns-2 : tie.Need-returns-2
-unfolding coefficients family-of
+unfolding coefficients-of family-of
 returns-2 c = rw (c .legendre-one .ensures, c .before .omega-one .ensures, c .before .before .match .keys2)
 
 returns-3 : tie.Need-returns-3
-unfolding coefficients family-of
+unfolding coefficients-of family-of
 returns-3 c = rw (c .legendre-two .ensures, c .before .omega-one2 .ensures, c .before .before .match .keys3)
 
 returns-4 : tie.Need-returns-4
-unfolding coefficients family-of
+unfolding coefficients-of family-of
 returns-4 c = rw (c .gegenbauer-one .ensures, c .before .omega-one3 .ensures, c .before .before .match .keys4)
 
 returns-5 : tie.Need-returns-5
-unfolding coefficients
+unfolding coefficients-of
 returns-5 c = let r = c .before .before .match .rest in rw (c .gegenbauer-two .ensures, c .before .omega-one4 .ensures, last-family _ (r .0 .0 .0 .1) (r .0 .0 .1) (r .0 .1) (r .1))
 
 pub row-coefficients-spec : {M : Type 1} → statement M

@@ -1,78 +1,71 @@
--- `error_at` meets its contract: only the first family has a form of its own.
-use mathlib.Core.Path.{_≡_, refl, sym, ap}
-use Prim.Native.Nat.{ℕ}
-use lib.Ieee.{Float, ofBits}
-use Rattle.family.specs.Family.{RKC, RKL1, family-of}
-use Rattle.coefficients.proofs.Numbers.{orthogonal}
-use Rattle.workspace.specs.Vectors.{Vector, column}
-use Rattle.workspace.specs.Kernel.{error}
-use native.Mathlib.Omega.{arith}
+-- `error_at` meets its contract, form by form.
+use lib.Ieee.{ofBits}
+use Rattle.workspace.specs.Kernel.{error-in}
+use borrow.Author.Needs.{needs}
 use Rattle.workspace.proofs.error.error_at.Statement.{statement}
 use Rattle.workspace.proofs.error.error_at.Tie as tie
 
-first : (k : ℕ) (h : Float) (x : Vector → Float) → k ≡ 1 → error RKC h x ≡ error (family-of k) h x
-unfolding error family-of
-first k h x e = ap (λ (j : ℕ). error (family-of j) h x) (sym e)
-
-later : (k : ℕ) (h : Float) (x : Vector → Float) → (k ≡ 1 → ⊥) → error RKL1 h x ≡ error (family-of k) h x
-unfolding error
-later k h x d = orthogonal (λ f. error RKL1 h x ≡ error f h x) refl refl refl refl k d
-
 mul-initial : tie.Need-mul-initial
-mul-initial c = omega arith
+mul-initial c = search needs
 
 add-initial : tie.Need-add-initial
-add-initial c = omega arith
+add-initial c = search needs
 
 mul-initial-2 : tie.Need-mul-initial-2
-mul-initial-2 c = omega arith
+mul-initial-2 c = search needs
 
 shared-slice-read-initial : tie.Need-shared-slice-read-initial
-shared-slice-read-initial c = omega arith
+shared-slice-read-initial c = search needs
 
 mul-final-state : tie.Need-mul-final-state
-mul-final-state c = omega arith
+mul-final-state c = search needs
 
 add-final-state : tie.Need-add-final-state
-add-final-state c = omega arith
+add-final-state c = search needs
 
 mul-final-state-2 : tie.Need-mul-final-state-2
-mul-final-state-2 c = omega arith
+mul-final-state-2 c = search needs
 
 shared-slice-read-final-state : tie.Need-shared-slice-read-final-state
-shared-slice-read-final-state c = omega arith
+shared-slice-read-final-state c = search needs
 
 mul-first : tie.Need-mul-first
-mul-first c = omega arith
+mul-first c = search needs
 
 add-first : tie.Need-add-first
-add-first c = omega arith
+add-first c = search needs
 
 mul-first-2 : tie.Need-mul-first-2
-mul-first-2 c = omega arith
+mul-first-2 c = search needs
 
 shared-slice-read-first : tie.Need-shared-slice-read-first
-shared-slice-read-first c = omega arith
+shared-slice-read-first c = search needs
 
 mul-last : tie.Need-mul-last
-mul-last c = omega arith
+mul-last c = search needs
 
 add-last : tie.Need-add-last
-add-last c = omega arith
+add-last c = search needs
 
 mul-last-2 : tie.Need-mul-last-2
-mul-last-2 c = omega arith
+mul-last-2 c = search needs
 
 shared-slice-read-last : tie.Need-shared-slice-read-last
-shared-slice-read-last c = omega arith
+shared-slice-read-last c = search needs
+
+enum-told : tie.Need-enum-told
+enum-told c = search needs
+
+enum-told-2 : tie.Need-enum-told-2
+enum-told-2 c = search needs
 
 returns : tie.Need-returns
-unfolding error ofBits
-returns c = let a = c .before .before .before .before .before .args in first (a .family) (a .step) (column (a .n) (a .area .now) (a .i)) (c .match .keys1)
+unfolding error-in ofBits
+returns c = rw (c .enum-told .given .1)
 
 returns-2 : tie.Need-returns-2
-unfolding error
-returns-2 c = let a = c .before .before .before .before .before .args in later (a .family) (a .step) (column (a .n) (a .area .now) (a .i)) (c .match .rest .1)
+unfolding error-in
+returns-2 c = rw (c .enum-told2 .given .1)
 
 pub error-at-spec : {M : Type 1} → statement M
 error-at-spec =
@@ -94,5 +87,7 @@ error-at-spec =
     add-last
     mul-last-2
     shared-slice-read-last
+    enum-told
+    enum-told-2
     returns
     returns-2)

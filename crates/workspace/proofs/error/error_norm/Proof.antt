@@ -15,12 +15,15 @@ double-of-requires c κs = search needs
 root-of-requires : tie.Need-root-of-requires
 root-of-requires c κs = search needs
 
+error-form-requires : tie.Need-error-form-requires
+error-form-requires c κs = search needs
+
 divisor-requires : tie.Need-divisor-requires
 divisor-requires c κs = search needs
 
 returns : tie.Need-returns
 unfolding error-norm scaled-error-norm root-of-squares
-returns c = rw (c .divisor .ensures, c .before .root-of .ensures, c .before .before .double-of .ensures, c .before .before .before .sum-of-scaled .ensures, c .before .before .before .before .if1 .taken)
+returns c = rw (c .divisor .ensures, c .before .error-form .ensures, c .before .before .root-of .ensures, c .before .before .before .double-of .ensures, c .before .before .before .before .sum-of-scaled .ensures, c .before .before .before .before .before .if1 .taken)
 
 returns-2 : tie.Need-returns-2
 unfolding error-norm ofBits
@@ -33,6 +36,7 @@ error-norm-spec =
     sum-of-scaled-requires
     double-of-requires
     root-of-requires
+    error-form-requires
     divisor-requires
     returns
     returns-2)

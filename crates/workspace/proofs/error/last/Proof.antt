@@ -2,9 +2,9 @@
 use mathlib.Core.Path.{_≡_, sym, ap}
 use mathlib.Core.Bool.{Bool, cond}
 use mathlib.Core.List.{List}
-use Prim.Native.Nat.{ℕ}
 use lib.Ieee.{Float}
-use Rattle.family.specs.Family.{Family, family-of}
+use Prim.Native.Nat.{ℕ}
+use Rattle.family.specs.declared.Setting.{Setting}
 use Rattle.workspace.specs.declared.Arguments.{Arguments}
 use Rattle.workspace.specs.Vectors.{Vectors, _with_≔_, each, unpack, derivative, last-derivative}
 use Rattle.workspace.specs.Kernel.{with-last, error}
@@ -13,13 +13,16 @@ use borrow.Author.Needs.{needs}
 use Rattle.workspace.proofs.error.last.Statement.{statement}
 use Rattle.workspace.proofs.error.last.Tie as tie
 
-taken : (f : Family) (n : ℕ) (a : Arguments) (v : Vectors) (d : List Float) {t : Bool} → a .adaptive ≡ t
-    → (let w = v with last-derivative ≔ d in cond t (w with derivative ≔ each n w (error f (a .step))) w) ≡ with-last f n a v d
+taken : (m : Setting) (n : ℕ) (a : Arguments) (v : Vectors) (d : List Float) {t : Bool} → a .adaptive ≡ t
+    → (let w = v with last-derivative ≔ d in cond t (w with derivative ≔ each n w (error m (a .step))) w) ≡ with-last m n a v d
 unfolding with-last
-taken f n a v d e = let w = v with last-derivative ≔ d in sym (ap (λ (t : Bool). cond t (w with derivative ≔ each n w (error f (a .step))) w) e)
+taken m n a v d e = let w = v with last-derivative ≔ d in sym (ap (λ (t : Bool). cond t (w with derivative ≔ each n w (error m (a .step))) w) e)
 
 put-vector-requires : tie.Need-put-vector-requires
 put-vector-requires c κs = search needs
+
+error-form-requires : tie.Need-error-form-requires
+error-form-requires c κs = search needs
 
 put-error-requires : tie.Need-put-error-requires
 put-error-requires c κs = search needs
@@ -29,9 +32,11 @@ same-length c = search needs
 
 returns : tie.Need-returns
 returns c =
-    let x = c .before .before .before .before .before .before .before .before .before .before .before .args in
-    becomes-as (becomes-then (c .before .before .before .before .before .before .before .put-vector .ensures) (c .before .before .put-error .ensures))
-    (taken (family-of (x .family)) (x .n) (x .arguments) (unpack (x .n) (x .area .now)) (x .derivative .now) (c .before .before .before .before .if1 .taken))
+    let x = c .before .before .before .before .before .before .before .before .before .before .before .before .args in
+    let e = c .before .before .before .before .error-form .ensures in
+    let g : Vectors → Vectors = λ w. w with derivative ≔ each (x .n) w (error (x .setting) (x .arguments .step)) in
+    becomes-as (becomes-then {g = g} (c .before .before .before .before .before .before .before .before .put-vector .ensures) (rw (← e) (c .before .before .put-error .ensures)))
+    (taken (x .setting) (x .n) (x .arguments) (unpack (x .n) (x .area .now)) (x .derivative .now) (c .before .before .before .before .before .if1 .taken))
 
 same-length-2 : tie.Need-same-length-2
 same-length-2 c = search needs
@@ -39,9 +44,17 @@ same-length-2 c = search needs
 returns-2 : tie.Need-returns-2
 returns-2 c =
     let x = c .before .before .before .before .before .before .before .args in
-    becomes-as (c .before .before .before .put-vector .ensures) (taken (family-of (x .family)) (x .n) (x .arguments) (unpack (x .n) (x .area .now)) (x .derivative .now) (c .if1 .left))
+    becomes-as (c .before .before .before .put-vector .ensures)
+    (taken (x .setting) (x .n) (x .arguments) (unpack (x .n) (x .area .now)) (x .derivative .now) (c .if1 .left))
 
 pub last-spec : {M : Type 1} → statement M
 last-spec =
     tie.close
-    (tie.spec put-vector-requires put-error-requires same-length returns same-length-2 returns-2)
+    (tie.spec
+    put-vector-requires
+    error-form-requires
+    put-error-requires
+    same-length
+    returns
+    same-length-2
+    returns-2)

@@ -1,19 +1,18 @@
 -- `put_error` meets its contract, by the law of a loop over columns with one rule.
 use mathlib.Core.List.{[], _∷_}
 use Prim.Native.Nat.{_-_}
-use Rattle.family.specs.Family.{family-of}
 use Rattle.workspace.specs.Vectors.{derivative}
-use Rattle.workspace.specs.Kernel.{error}
+use Rattle.workspace.specs.Kernel.{error-in}
 use Rattle.workspace.proofs.Columns.{Working, begin, turn, finish}
 use native.Mathlib.Omega.{arith}
 use Rattle.workspace.proofs.error.put_error.Statement.{statement}
 use Rattle.workspace.proofs.error.put_error.Tie as tie
 
 abbrev Inv-loop : tie.InvT-loop
-Inv-loop area₀ n family step i₀ area i = Working n ((derivative, error (family-of family) step) ∷ []) area₀ area i
+Inv-loop area₀ n form step i₀ area i = Working n ((derivative, error-in form step) ∷ []) area₀ area i
 
 abbrev μ-loop : tie.MeasureT-loop
-μ-loop area₀ n family step i₀ area i = n - i
+μ-loop area₀ n form step i₀ area i = n - i
 
 loop-holds : tie.Need-loop-holds Inv-loop μ-loop
 loop-holds c = begin _ _ _ (omega arith)

@@ -1,10 +1,9 @@
 -- `entries_of` meets its contract, from `entry_of`, four times.
 use mathlib.Core.Path.{_≡_, sym, subst}
 use lib.Ieee.{Float}
-use Rattle.family.specs.Family.{family-of}
 use Rattle.workspace.specs.declared.stages.Entries.{Entries}
 use Rattle.workspace.specs.Vectors.{Vector}
-use Rattle.workspace.specs.Kernel.{entry}
+use Rattle.workspace.specs.Kernel.{entry-in}
 use Rattle.workspace.specs.Reads.{Reads, element, picked}
 use Rattle.workspace.proofs.Fours.{four-cases}
 use borrow.Author.Needs.{needs}
@@ -38,7 +37,7 @@ entry-of-requires-4 c κs = search needs
 returns : tie.Need-returns
 returns c =
     let a = c .before .before .before .before .before .before .before .before .args in
-    four-cases (λ u. (v : Vector → Float) → Reads (picked (a .one) (a .two) (a .initial) (a .slope) (a .first) u) v → element _ u ≡ entry (family-of (a .family)) (a .step) (a .c) v)
+    four-cases (λ u. (v : Vector → Float) → Reads (picked (a .one) (a .two) (a .initial) (a .slope) (a .first) u) v → element _ u ≡ entry-in (a .form) (a .step) (a .c) v)
     (λ v r. c .before .before .before .entry-of .ensures v (subst (λ (e : Entries). Reads e v) (sym (c .before .before .before .before .before .before .before .gather .ensures)) r))
     (λ v r. c .before .before .entry-of2 .ensures v (subst (λ (e : Entries). Reads e v) (sym (c .before .before .before .before .before .before .gather2 .ensures)) r))
     (λ v r. c .before .entry-of3 .ensures v (subst (λ (e : Entries). Reads e v) (sym (c .before .before .before .before .before .gather3 .ensures)) r))

@@ -2,9 +2,8 @@
 use mathlib.Core.Path.{_≡_, refl, _∙_}
 use Prim.Native.Nat.{_-_, _*_, _≤_}
 use lib.ListN.{length}
-use Rattle.family.specs.Family.{family-of}
 use Rattle.workspace.specs.Vectors.{derivative, previous-two, previous-one}
-use Rattle.workspace.specs.Kernel.{entry, with-row}
+use Rattle.workspace.specs.Kernel.{entry-in, with-row-in}
 use Rattle.workspace.proofs.Areas.{long-at}
 use Rattle.workspace.proofs.Rows.{exchange-rules, exchange-law}
 use Rattle.workspace.proofs.Taking.{Taking, begin-taking, finish-taking}
@@ -14,10 +13,10 @@ use Rattle.workspace.proofs.stages.move_all.Statement.{statement}
 use Rattle.workspace.proofs.stages.move_all.Tie as tie
 
 abbrev Inv-loop : tie.InvT-loop
-Inv-loop ten₀ n family c step d short i₀ ten i = Taking derivative d n ten₀ (exchange-rules (entry (family-of family) step c)) ten i × (length ten₀ ≡ 10 * n) × (length d ≡ n) × (short ≤ n)
+Inv-loop ten₀ n form c step d short i₀ ten i = Taking derivative d n ten₀ (exchange-rules (entry-in form step c)) ten i × (length ten₀ ≡ 10 * n) × (length d ≡ n) × (short ≤ n)
 
 abbrev μ-loop : tie.MeasureT-loop
-μ-loop ten₀ n family c step d short i₀ ten i = n - i
+μ-loop ten₀ n form c step d short i₀ ten i = n - i
 
 fours-within-requires : tie.Need-fours-within-requires Inv-loop μ-loop
 fours-within-requires c κs = omega arith
@@ -49,7 +48,7 @@ same-length : tie.Need-same-length Inv-loop μ-loop
 same-length c = omega arith
 
 returns : tie.Need-returns Inv-loop μ-loop
-unfolding with-row
+unfolding with-row-in
 returns c =
     let x = c .before .before .before .before .before .before .before .before .before .args in
     let l = x .ten .now in

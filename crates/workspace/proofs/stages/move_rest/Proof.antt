@@ -2,8 +2,7 @@
 use mathlib.Core.Path.{_≡_, _∙_}
 use Prim.Native.Nat.{_-_, _*_, _≤_}
 use lib.ListN.{length}
-use Rattle.family.specs.Family.{family-of}
-use Rattle.workspace.specs.Kernel.{entry}
+use Rattle.workspace.specs.Kernel.{entry-in}
 use Rattle.workspace.specs.Reads.{Moved}
 use Rattle.workspace.proofs.Fours.{moved-length, moved-start, moved-next, moved-end}
 use native.Mathlib.Omega.{arith}
@@ -11,11 +10,11 @@ use Rattle.workspace.proofs.stages.move_rest.Statement.{statement}
 use Rattle.workspace.proofs.stages.move_rest.Tie as tie
 
 abbrev Inv-loop : tie.InvT-loop
-Inv-loop ten₀ n from family c step d i₀ ten i =
-    Moved n (entry (family-of family) step c) d from (i - from) ten₀ ten × (from ≤ i) × (i ≤ n) × (length ten ≡ 10 * n) × (length d ≡ n)
+Inv-loop ten₀ n from form c step d i₀ ten i =
+    Moved n (entry-in form step c) d from (i - from) ten₀ ten × (from ≤ i) × (i ≤ n) × (length ten ≡ 10 * n) × (length d ≡ n)
 
 abbrev μ-loop : tie.MeasureT-loop
-μ-loop ten₀ n from family c step d i₀ ten i = n - i
+μ-loop ten₀ n from form c step d i₀ ten i = n - i
 
 loop-holds : tie.Need-loop-holds Inv-loop μ-loop
 loop-holds c =

@@ -3,9 +3,8 @@ use mathlib.Core.Path.{_≡_, refl}
 use mathlib.Core.List.{[], _∷_}
 use Prim.Native.Nat.{_-_, _*_}
 use lib.ListN.{length, length-set}
-use Rattle.family.specs.Family.{family-of}
 use Rattle.workspace.specs.Vectors.{derivative, next-stage}
-use Rattle.workspace.specs.Kernel.{entry, with-row}
+use Rattle.workspace.specs.Kernel.{entry-in, with-row-in}
 use Rattle.workspace.specs.Reads.{Reads}
 use Rattle.workspace.proofs.Taking.{Taking, begin-taking, turn-taking, finish-taking}
 use native.Mathlib.Omega.{arith}
@@ -13,10 +12,10 @@ use Rattle.workspace.proofs.stages.row_in.Statement.{statement}
 use Rattle.workspace.proofs.stages.row_in.Tie as tie
 
 abbrev Inv-loop : tie.InvT-loop
-Inv-loop ten₀ n family c step d i₀ ten i = Taking derivative d n ten₀ ((next-stage, entry (family-of family) step c) ∷ []) ten i × (length ten₀ ≡ 10 * n) × (length d ≡ n)
+Inv-loop ten₀ n form c step d i₀ ten i = Taking derivative d n ten₀ ((next-stage, entry-in form step c) ∷ []) ten i × (length ten₀ ≡ 10 * n) × (length d ≡ n)
 
 abbrev μ-loop : tie.MeasureT-loop
-μ-loop ten₀ n family c step d i₀ ten i = n - i
+μ-loop ten₀ n form c step d i₀ ten i = n - i
 
 loop-holds : tie.Need-loop-holds Inv-loop μ-loop
 loop-holds c = (begin-taking _ _ _ _ 10 _ refl (omega arith), c .before .before .pre .0, c .before .before .pre .1)
@@ -74,7 +73,7 @@ same-length : tie.Need-same-length Inv-loop μ-loop
 same-length c = omega arith
 
 returns : tie.Need-returns Inv-loop μ-loop
-unfolding with-row
+unfolding with-row-in
 returns c = finish-taking _ _ _ _ (c .before .loop .inv .2) (c .before .loop .inv .0) (c .loop-test .left)
 
 pub row-in-spec : {M : Type 1} → statement M

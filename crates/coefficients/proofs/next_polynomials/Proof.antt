@@ -1,0 +1,36 @@
+-- `next_polynomials` meets its contract, form by form.
+use Rattle.coefficients.specs.Rows.{next-polynomials}
+use borrow.Author.Needs.{needs}
+use Rattle.coefficients.proofs.next_polynomials.Statement.{statement}
+use Rattle.coefficients.proofs.next_polynomials.Tie as tie
+
+enum-told : tie.Need-enum-told
+enum-told c = search needs
+
+omega-zero-requires : tie.Need-omega-zero-requires
+omega-zero-requires c κs = search needs
+
+next-polynomials-requires : tie.Need-next-polynomials-requires
+next-polynomials-requires c κs = search needs
+
+enum-told-2 : tie.Need-enum-told-2
+enum-told-2 c = search needs
+
+returns : tie.Need-returns
+unfolding next-polynomials
+returns c = rw (c .next-polynomials .ensures, c .before .omega-zero .ensures, c .before .before .enum-told .given .1)
+
+returns-2 : tie.Need-returns-2
+unfolding next-polynomials
+returns-2 c = rw (c .enum-told2 .given .1)
+
+pub next-polynomials-spec : {M : Type 1} → statement M
+next-polynomials-spec =
+    tie.close
+    (tie.spec
+    enum-told
+    omega-zero-requires
+    next-polynomials-requires
+    enum-told-2
+    returns
+    returns-2)
