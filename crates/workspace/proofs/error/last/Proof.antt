@@ -1,13 +1,14 @@
 -- `last` meets its contract, with and without `adaptive`.
-use mathlib.Core.Path.{_≡_, sym, ap}
+use mathlib.Core.Path.{_≡_, sym, ap, subst}
 use mathlib.Core.Bool.{Bool, cond}
 use mathlib.Core.List.{List}
 use lib.Ieee.{Float}
 use Prim.Native.Nat.{ℕ}
 use Rattle.family.specs.declared.Setting.{Setting}
+use Rattle.family.specs.declared.ErrorForm.{ErrorForm}
 use Rattle.workspace.specs.declared.Arguments.{Arguments}
-use Rattle.workspace.specs.Vectors.{Vectors, _with_≔_, each, unpack, derivative, last-derivative}
-use Rattle.workspace.specs.Kernel.{with-last, error}
+use Rattle.workspace.specs.Vectors.{Vectors, Becomes, _with_≔_, each, unpack, derivative, last-derivative}
+use Rattle.workspace.specs.Kernel.{with-last, error-in, error}
 use Rattle.workspace.proofs.Areas.{becomes-as, becomes-then}
 use borrow.Author.Needs.{needs}
 use Rattle.workspace.proofs.error.last.Statement.{statement}
@@ -35,7 +36,8 @@ returns c =
     let x = c .before .before .before .before .before .before .before .before .before .before .before .before .args in
     let e = c .before .before .before .before .error-form .ensures in
     let g : Vectors → Vectors = λ w. w with derivative ≔ each (x .n) w (error (x .setting) (x .arguments .step)) in
-    becomes-as (becomes-then {g = g} (c .before .before .before .before .before .before .before .before .put-vector .ensures) (rw (← e) (c .before .before .put-error .ensures)))
+    becomes-as (becomes-then {g = g} (c .before .before .before .before .before .before .before .before .put-vector .ensures) 
+    (subst (λ (form : ErrorForm). Becomes (x .n) _ _ (λ w. w with derivative ≔ each (x .n) w (error-in form (x .arguments .step)))) e (c .before .before .put-error .ensures)))
     (taken (x .setting) (x .n) (x .arguments) (unpack (x .n) (x .area .now)) (x .derivative .now) (c .before .before .before .before .before .if1 .taken))
 
 same-length-2 : tie.Need-same-length-2
