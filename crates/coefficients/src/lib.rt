@@ -40,6 +40,12 @@ pub struct Recurrence {
     pub polynomials: Polynomials,
 }
 
+// A stage's row, and what is carried on from it.
+pub struct Advance {
+    pub row: Coefficients,
+    pub after: Recurrence,
+}
+
 pub fn omega_one(family: u64, s: u64) -> f64
     ensures { λ r. ⌜ r ≡ rows.omega-one-of (family-of family) s ⌝ }
 {
@@ -123,4 +129,18 @@ pub fn next_recurrence(family: u64, s: u64, c: Recurrence, row: Coefficients) ->
             polynomials,
         },
     }
+}
+
+// Both of stage j at once. RKC stands apart, since its row and what it carries on share the polynomials.
+pub fn row_and_recurrence(family: u64, s: u64, j: u64, c: Recurrence) -> Advance
+    requires { ⌜ (2 ≤ j) × (j + 1 < 2 ^ 32) ⌝ }
+    ensures { λ r. ⌜ r .row ≡ rows.coefficients (family-of family) s j c ⌝ }
+    ensures { λ r. ⌜ r .after ≡ rows.next (family-of family) s c (r .row) ⌝ }
+{
+    if family == 1 {
+        return chebyshev::advance(s, c);
+    }
+    let row = row_coefficients(family, s, j, c);
+    let after = next_recurrence(family, s, c, row);
+    Advance { row, after }
 }
