@@ -65,7 +65,7 @@ fn times(family: Family, n: usize, rate: f64, step: f64) -> Times {
         assert_eq!(ours.to_bits(), theirs.to_bits());
     }
     let record = engine.record();
-    let (stages, passes) = (record.staging.stages, record.iteration.pass);
+    let (stages, passes) = (record.wholes.stages, record.wholes.pass);
     let once = timed(10, || {
         black_box(rust.attempt(arguments, &rhs).ok());
     });
