@@ -49,13 +49,12 @@ pub struct Advance {
 pub fn omega_one(family: u64, s: u64) -> f64
     ensures { λ r. ⌜ r ≡ rows.omega-one-of (family-of family) s ⌝ }
 {
-    let x = ieee::double_of(s);
     match family {
         1 => chebyshev::omega_one(s),
-        2 => 2.0 / (x * x + x),
-        3 => 4.0 / (x * x + x - 2.0),
-        4 => 4.0 / (x * (x + 3.0)),
-        _ => 6.0 / ((x + 4.0) * (x - 1.0)),
+        2 => orthogonal::legendre_one_omega(s),
+        3 => orthogonal::legendre_two_omega(s),
+        4 => orthogonal::gegenbauer_one_omega(s),
+        _ => orthogonal::gegenbauer_two_omega(s),
     }
 }
 
@@ -101,10 +100,10 @@ pub fn row_coefficients(family: u64, s: u64, j: u64, c: Recurrence) -> Coefficie
 {
     match family {
         1 => chebyshev::row(s, c),
-        2 => orthogonal::legendre_one(omega_one(family, s), j, c),
-        3 => orthogonal::legendre_two(omega_one(family, s), j, c),
-        4 => orthogonal::gegenbauer_one(omega_one(family, s), j, c),
-        _ => orthogonal::gegenbauer_two(omega_one(family, s), j, c),
+        2 => orthogonal::legendre_one(orthogonal::legendre_one_omega(s), j, c),
+        3 => orthogonal::legendre_two(orthogonal::legendre_two_omega(s), j, c),
+        4 => orthogonal::gegenbauer_one(orthogonal::gegenbauer_one_omega(s), j, c),
+        _ => orthogonal::gegenbauer_two(orthogonal::gegenbauer_two_omega(s), j, c),
     }
 }
 
