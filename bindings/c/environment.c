@@ -14,12 +14,15 @@ static void step(double *candidate) {
   double area[STABILIZED_VECTORS * N] = {0};
   double state[N] = {1.0, DBL_MIN / 2.0}, derivative[N] = {0};
   stabilized_record record = {0};
+  stabilized_wholes *wholes = &record.wholes;
+  stabilized_doubles *doubles = &record.doubles;
   uint64_t counters[2] = {0};
-  stabilized_outcome outcome = stabilized_start(record, area, STABILIZED_VECTORS * N, STABILIZED_RKL1, N, state, N, 0.0);
-  while (outcome.answer.code == STABILIZED_EVALUATE || outcome.answer.code == STABILIZED_READY)
-    outcome = outcome.answer.code == STABILIZED_READY
-                  ? stabilized_attempt(outcome.record, area, STABILIZED_VECTORS * N, 0.0, 1.0, 1.0, 1.0, 0)
-                  : stabilized_reply(outcome.record, &counters[0], &counters[1], area, STABILIZED_VECTORS * N, derivative, N);
+  size_t length = STABILIZED_VECTORS * N;
+  stabilized_answer answer = stabilized_start(wholes, doubles, area, length, STABILIZED_RKL1, N, state, N, 0.0);
+  while (answer.code == STABILIZED_EVALUATE || answer.code == STABILIZED_READY)
+    answer = answer.code == STABILIZED_READY
+                 ? stabilized_attempt(wholes, doubles, area, length, 0.0, 1.0, 1.0, 1.0, 0)
+                 : stabilized_reply(wholes, doubles, &counters[0], &counters[1], area, length, derivative, N);
   memcpy(candidate, area + STABILIZED_CANDIDATE * N, N * sizeof(double));
 }
 

@@ -15,44 +15,50 @@ static void heat_flow(double *derivative, const double *state) {
   }
 }
 
+/* The engine, and what is lent to it. */
+typedef struct {
+  stabilized_record record;
+  uint64_t evaluations, attempts;
+  double area[STABILIZED_VECTORS * N];
+} engine;
+
 /* Brings derivatives until the engine asks for no more. */
-static stabilized_outcome run(stabilized_outcome outcome, uint64_t counters[2], double *area) {
-  while (outcome.answer.code == STABILIZED_EVALUATE) {
+static stabilized_answer run(engine *e, stabilized_answer answer) {
+  while (answer.code == STABILIZED_EVALUATE) {
     double derivative[N];
-    heat_flow(derivative, area + outcome.answer.number * N);
-    outcome = stabilized_reply(outcome.record, &counters[0], &counters[1], area, STABILIZED_VECTORS * N, derivative, N);
+    heat_flow(derivative, e->area + answer.number * N);
+    answer = stabilized_reply(&e->record.wholes, &e->record.doubles, &e->evaluations, &e->attempts, e->area,
+                              STABILIZED_VECTORS * N, derivative, N);
   }
-  return outcome;
+  return answer;
 }
 
 int main(void) {
-  double area[STABILIZED_VECTORS * N] = {0};
+  static engine e; /* all zeros */
   double state[N] = {0, 0, 100, 100, 100, 100, 0, 0};
   double time = 0.0, step = 0.0005;
-  stabilized_record record = {0};
-  uint64_t counters[2] = {0};
+  stabilized_wholes *wholes = &e.record.wholes;
+  stabilized_doubles *doubles = &e.record.doubles;
 
   int environment = stabilized_environment();
   if (environment != 0) {
     printf("not the floating-point environment of the proofs: %d\n", environment);
     return 1;
   }
-  stabilized_outcome outcome =
-      stabilized_start(record, area, STABILIZED_VECTORS * N, STABILIZED_RKL2, N, state, N, time);
-  outcome = run(outcome, counters, area);
-  for (int i = 0; i < 10 && outcome.answer.code == STABILIZED_READY; i++) {
-    outcome = stabilized_attempt(outcome.record, area, STABILIZED_VECTORS * N, time, step, 1e-3, 1e-3, 1);
-    outcome = run(outcome, counters, area);
-    if (outcome.answer.code != STABILIZED_FINISHED) break;
-    printf("t = %.4f  middle %9.5f  norm %.4f\n", time + step, area[STABILIZED_CANDIDATE * N + N / 2],
-           outcome.answer.value);
+  stabilized_answer answer = stabilized_start(wholes, doubles, e.area, STABILIZED_VECTORS * N, STABILIZED_RKL2, N, state, N, time);
+  answer = run(&e, answer);
+  for (int i = 0; i < 10 && answer.code == STABILIZED_READY; i++) {
+    answer = stabilized_attempt(wholes, doubles, e.area, STABILIZED_VECTORS * N, time, step, 1e-3, 1e-3, 1);
+    answer = run(&e, answer);
+    if (answer.code != STABILIZED_FINISHED) break;
+    printf("t = %.4f  middle %9.5f  norm %.4f\n", time + step, e.area[STABILIZED_CANDIDATE * N + N / 2], answer.value);
     time += step;
-    outcome = stabilized_accept(outcome.record, area, STABILIZED_VECTORS * N);
+    answer = stabilized_accept(wholes, doubles, e.area, STABILIZED_VECTORS * N);
   }
-  if (outcome.answer.code == STABILIZED_REFUSED) {
-    printf("turned away with %u\n", (unsigned)outcome.answer.number);
+  if (answer.code == STABILIZED_REFUSED) {
+    printf("turned away with %u\n", (unsigned)answer.number);
     return 1;
   }
-  printf("%llu evaluations, %llu attempts\n", (unsigned long long)counters[0], (unsigned long long)counters[1]);
+  printf("%llu evaluations, %llu attempts\n", (unsigned long long)e.evaluations, (unsigned long long)e.attempts);
   return 0;
 }

@@ -1,11 +1,12 @@
 /* Stabilized Runge-Kutta steps (RKC, RKL1, RKL2, RKG1, RKG2) by a proved engine, libcapi.a.
  *
- * Every call takes the record by value and gives it back beside an answer. While the answer is STABILIZED_EVALUATE, work
- * out the derivative of vector `number` of the area at time `value` and bring it with stabilized_reply. No call has a
- * precondition beyond these two: pointers are valid for the counts beside them, those to counters for one number each;
- * and what a call writes overlaps nothing else that it is handed, so the area overlaps neither the state nor the
- * derivative, and the two counters overlap neither each other nor the area nor the derivative. Whatever else it is
- * handed, it answers, and a call that is turned away says so by its number (docs/REFUSALS.md).
+ * Every call is lent the record, in two parts that it reads and writes in place, and answers. While the answer is
+ * STABILIZED_EVALUATE, work out the derivative of vector `number` of the area at time `value` and bring it with
+ * stabilized_reply. No call has a precondition beyond these two: pointers are valid for the counts beside them, those to a
+ * part of the record and to a counter for one each; and what a call writes overlaps nothing else that it is handed, so the
+ * two parts of the record, the two counters and the area overlap neither each other nor the state nor the derivative. (The
+ * parts of one stabilized_record do not.) Whatever else it is handed, it answers, and a call that is turned away says so by
+ * its number (docs/REFUSALS.md).
  *
  * The results are those of IEEE 754's default environment: to nearest, ties to even, subnormals kept, exceptions masked.
  * In another one, such as a program linked with -ffast-math starts in, bits differ, and an exception that is not masked
@@ -41,7 +42,7 @@ enum {
 
 enum { STABILIZED_RKC = 1, STABILIZED_RKL1 = 2, STABILIZED_RKL2 = 3, STABILIZED_RKG1 = 4, STABILIZED_RKG2 = 5 };
 
-/* The phases of a record. One of all zeros is a record to begin with. */
+/* The phases of a record. */
 enum {
   STABILIZED_PHASE_EMPTY = 0,
   STABILIZED_PHASE_FIRST = 1,
@@ -82,23 +83,29 @@ enum {
   STABILIZED_SUBNORMALS = 2 /* subnormals are flushed to zero or taken as zero */
 };
 
+/* The record: what the engine keeps beside the area, its whole numbers and its doubles. All zeros is one to begin with. A
+ * call that is turned away with 1 to 8 leaves it as it was. */
 typedef struct {
-  double time;
+  uint64_t family;
+  uint64_t n;
+  uint64_t phase;
+  uint64_t adaptive; /* 0 is a no, all else a yes */
+  uint64_t pass;     /* of the power iteration */
+  uint64_t stages;
+  uint64_t stage;
+} stabilized_wholes;
+
+typedef struct {
+  double time; /* the attempt's arguments */
   double step;
   double absolute_tolerance;
   double relative_tolerance;
-  uint64_t adaptive; /* 0 is a no, all else a yes */
-} stabilized_arguments;
-
-typedef struct {
-  uint64_t pass;
-  double perturbation;
+  double perturbation; /* the power iteration */
   double previous_radius;
   double scaled_radius;
-} stabilized_iteration;
-
-typedef struct {
-  double omega_one;
+  double theta_previous; /* what the stages carry on */
+  double theta_previous_two;
+  double omega_one; /* from here on RKC's alone */
   double b_previous;
   double b_previous_two;
   double value_previous;
@@ -107,27 +114,11 @@ typedef struct {
   double first_previous_two;
   double second_previous;
   double second_previous_two;
-} stabilized_polynomials;
+} stabilized_doubles;
 
 typedef struct {
-  double theta_previous;
-  double theta_previous_two;
-  stabilized_polynomials polynomials;
-} stabilized_recurrence;
-
-typedef struct {
-  uint64_t stages;
-  uint64_t stage;
-  stabilized_recurrence recurrence;
-} stabilized_staging;
-
-typedef struct {
-  uint64_t family;
-  uint64_t n;
-  uint64_t phase;
-  stabilized_arguments arguments;
-  stabilized_iteration iteration;
-  stabilized_staging staging;
+  stabilized_wholes wholes;
+  stabilized_doubles doubles;
 } stabilized_record;
 
 typedef struct {
@@ -136,34 +127,33 @@ typedef struct {
   double value;
 } stabilized_answer;
 
-typedef struct {
-  stabilized_answer answer;
-  stabilized_record record;
-} stabilized_outcome;
-
 /* Begins anew, in any phase: keeps the state and asks for the first derivative. */
-stabilized_outcome stabilized_start(stabilized_record record, double *area, size_t area_length, uint64_t family,
-                                    uint64_t n, const double *state, size_t state_length, double time);
+stabilized_answer stabilized_start(stabilized_wholes *wholes, stabilized_doubles *doubles, double *area,
+                                   size_t area_length, uint64_t family, uint64_t n, const double *state,
+                                   size_t state_length, double time);
 
 /* Steps from the kept state; when ready or after a finished attempt. */
-stabilized_outcome stabilized_attempt(stabilized_record record, double *area, size_t area_length, double time,
-                                      double step, double absolute_tolerance, double relative_tolerance,
-                                      uint64_t adaptive);
+stabilized_answer stabilized_attempt(stabilized_wholes *wholes, stabilized_doubles *doubles, double *area,
+                                     size_t area_length, double time, double step, double absolute_tolerance,
+                                     double relative_tolerance, uint64_t adaptive);
 
 /* Brings the derivative that was asked for. It counts as an evaluation, and the last of an attempt as a finished attempt. */
-stabilized_outcome stabilized_reply(stabilized_record record, uint64_t *evaluations, uint64_t *finished_attempts,
-                                    double *area, size_t area_length, const double *derivative,
-                                    size_t derivative_length);
+stabilized_answer stabilized_reply(stabilized_wholes *wholes, stabilized_doubles *doubles, uint64_t *evaluations,
+                                   uint64_t *finished_attempts, double *area, size_t area_length,
+                                   const double *derivative, size_t derivative_length);
 
 /* After a finished attempt: the candidate becomes the kept state. */
-stabilized_outcome stabilized_accept(stabilized_record record, double *area, size_t area_length);
+stabilized_answer stabilized_accept(stabilized_wholes *wholes, stabilized_doubles *doubles, double *area,
+                                    size_t area_length);
 
 /* After a finished attempt: another state and time are kept, and its derivative is asked for. */
-stabilized_outcome stabilized_accept_with_callback(stabilized_record record, double *area, size_t area_length,
-                                                   const double *state, size_t state_length, double time);
+stabilized_answer stabilized_accept_with_callback(stabilized_wholes *wholes, stabilized_doubles *doubles, double *area,
+                                                  size_t area_length, const double *state, size_t state_length,
+                                                  double time);
 
 /* While an evaluation is pending: ends it uncounted. Then only start is allowed. */
-stabilized_outcome stabilized_abandon(stabilized_record record, const double *area, size_t area_length);
+stabilized_answer stabilized_abandon(stabilized_wholes *wholes, stabilized_doubles *doubles, const double *area,
+                                     size_t area_length);
 
 /* Whether this thread's floating-point environment is the one that the engine is proved for: 0, or the sum of what is wrong.
  * To be called before start, in the thread that makes the calls. A few operations tell, made with the unit that the caller is

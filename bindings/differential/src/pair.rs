@@ -5,12 +5,10 @@
 //! the right-hand side stops it before a derivative is written.
 use crate::model::Replies;
 use crate::random::{Random, all_same, same};
-use crate::refusals::{Call, Given, Held, Start, check, number};
+use crate::refusals::{Arguments, Call, Given, Held, Outcome, Start, check, number};
 use crate::trace::Trace;
 use oracle::{Oracle, SolveError};
-use stabilized::calls::{
-    self, Answer, Arguments, Counters, Outcome, Record, VECTORS, code, phase, vector,
-};
+use stabilized::calls::{self, Answer, Counters, Record, VECTORS, code, phase, vector};
 use std::cell::{Cell, RefCell};
 
 /// From this r on the Rust's stage count of RKC overflows: a listed difference.
@@ -150,7 +148,7 @@ impl Pair {
     ) -> Compared {
         let radius = self.scaled_radius(arguments, replies);
         let outcome = self.engine(&Call::Attempt(arguments_of(arguments)))?;
-        if self.record.family == 1 && radius.is_ok_and(|r| r >= RKC_OVERFLOW) {
+        if self.record.wholes.family == 1 && radius.is_ok_and(|r| r >= RKC_OVERFLOW) {
             return self.left_out(outcome, replies);
         }
         let ending = self.follow(outcome, replies, stop, |oracle, rhs| {
@@ -170,9 +168,9 @@ impl Pair {
     }
 
     pub fn accept(&mut self) -> Result<(), String> {
-        let arguments = self.record.arguments;
+        let kept = self.record.doubles;
         let outcome = self.engine(&Call::Accept)?;
-        self.oracle.accept(arguments.time, arguments.step);
+        self.oracle.accept(kept.time, kept.step);
         expect(&outcome.answer, code::READY, 0, 0.0)?;
         self.compare(&self.oracle, true, "accept")
     }
@@ -184,7 +182,7 @@ impl Pair {
         replies: &Replies,
         stop: Option<(usize, Stop)>,
     ) -> Compared {
-        let step = self.record.arguments.step;
+        let step = self.record.doubles.step;
         let outcome = self.engine(&Call::AcceptWithCallback { state, time })?;
         self.follow(outcome, replies, stop, |oracle, rhs| {
             oracle
@@ -246,13 +244,13 @@ impl Pair {
         let mut at = self.oracle.clone();
         for (place, (time, point)) in whole.evaluated.iter().enumerate() {
             at = stopped_at(place, &self.oracle, replies, &run);
-            let number = asked(self.record.phase);
+            let number = asked(self.record.wholes.phase);
             expect(&outcome.answer, code::EVALUATE, number as u64, *time)?;
             if !all_same(self.vector(number), point) {
                 return Err(format!("another point at evaluation {place}"));
             }
             self.compare(&at, self.strict, &format!("evaluation {place}"))?;
-            passes += u64::from(self.record.phase == phase::PASS);
+            passes += u64::from(self.record.wholes.phase == phase::PASS);
             self.something_turned_away()?;
             if let Some((there, stop)) = stop
                 && there == place
@@ -310,8 +308,8 @@ impl Pair {
             Ok(norm) => {
                 expect(answer, code::FINISHED, 0, norm)?;
                 self.finished += 1;
-                let stages = self.record.staging.stages;
-                if evaluations != stages + passes || self.record.iteration.pass != passes {
+                let stages = self.record.wholes.stages;
+                if evaluations != stages + passes || self.record.wholes.pass != passes {
                     return Err(format!(
                         "{stages} stages and {passes} passes in {evaluations} evaluations"
                     ));
@@ -319,7 +317,7 @@ impl Pair {
                 if self.counters.finished_attempts != self.finished {
                     return Err("another count of finished attempts".to_string());
                 }
-                let scaled_radius = self.record.iteration.scaled_radius;
+                let scaled_radius = self.record.doubles.scaled_radius;
                 Ok(Ending::Finished {
                     stages,
                     passes,
@@ -352,10 +350,10 @@ impl Pair {
             outcome = self.engine(&Call::Reply {
                 derivative: &derivative,
             })?;
-            if self.record.phase == phase::STAGE && self.record.staging.stages != 200 {
+            if self.record.wholes.phase == phase::STAGE && self.record.wholes.stages != 200 {
                 return Err(format!(
                     "{} stages at an overflow",
-                    self.record.staging.stages
+                    self.record.wholes.stages
                 ));
             }
         }
@@ -365,7 +363,7 @@ impl Pair {
     /// The engine's vectors against the Rust's: all of them, or those that an attempt reads.
     fn compare(&self, oracle: &Oracle, all: bool, place: &str) -> Result<(), String> {
         const READ: [usize; 3] = [vector::EIGENVECTOR, vector::STATE, vector::FIRST_DERIVATIVE];
-        let begun = ![phase::FIRST, phase::EMPTY].contains(&self.record.phase);
+        let begun = ![phase::FIRST, phase::EMPTY].contains(&self.record.wholes.phase);
         let read = if begun { &READ[..] } else { &READ[..2] };
         for (number, theirs) in oracle.vectors().into_iter().enumerate() {
             if !all && !read.contains(&number) {
@@ -518,12 +516,14 @@ fn expect(answer: &Answer, code: u64, number: u64, value: f64) -> Result<(), Str
     })
 }
 
-/// One call of the engine.
+/// One call of the engine, lent a copy of the record.
 pub fn make(record: Record, counters: &mut Counters, area: &mut [f64], call: &Call) -> Outcome {
-    match *call {
-        Call::Start(s) => calls::start(record, area, s.family, s.n, s.state, s.time),
+    let mut record = record;
+    let lent = &mut record;
+    let answer = match *call {
+        Call::Start(s) => calls::start(lent, area, s.family, s.n, s.state, s.time),
         Call::Attempt(a) => calls::attempt(
-            record,
+            lent,
             area,
             a.time,
             a.step,
@@ -531,11 +531,12 @@ pub fn make(record: Record, counters: &mut Counters, area: &mut [f64], call: &Ca
             a.relative_tolerance,
             a.adaptive,
         ),
-        Call::Reply { derivative } => calls::reply(record, counters, area, derivative),
-        Call::Accept => calls::accept(record, area),
+        Call::Reply { derivative } => calls::reply(lent, counters, area, derivative),
+        Call::Accept => calls::accept(lent, area),
         Call::AcceptWithCallback { state, time } => {
-            calls::accept_with_callback(record, area, state, time)
+            calls::accept_with_callback(lent, area, state, time)
         }
-        Call::Abandon => calls::abandon(record, area),
-    }
+        Call::Abandon => calls::abandon(lent, area),
+    };
+    Outcome { answer, record }
 }

@@ -1,10 +1,8 @@
 //! Calls with any record, lengths, counters and doubles, each held against document 01's table.
 use crate::pair::make;
 use crate::random::Random;
-use crate::refusals::{Call, Given, Held, Start, check};
-use stabilized::calls::{
-    Arguments, Counters, Iteration, Polynomials, Record, Recurrence, Staging, VECTORS, code,
-};
+use crate::refusals::{Arguments, Call, Given, Held, Start, check};
+use stabilized::calls::{Counters, Record, VECTORS, code};
 use std::collections::BTreeMap;
 
 const NAMES: [&str; 6] = [
@@ -68,56 +66,41 @@ fn record(random: &mut Random, family: u64, n: u64) -> Record {
     let stages = random.draw() % 210;
     let stage = random.draw() % (stages + 3);
     let stage = if random.chance(30) { stages } else { stage };
-    Record {
-        family: number(random, family, 8),
-        n: number(random, n, 16),
-        phase: {
-            let usual = random.draw() % 8;
-            number(random, usual, 12)
-        },
-        arguments: Arguments {
-            time: double(random),
-            step: double(random),
-            absolute_tolerance: double(random),
-            relative_tolerance: double(random),
-            adaptive: {
-                let usual = random.draw() % 2;
-                number(random, usual, 4)
-            },
-        },
-        iteration: Iteration {
-            pass: {
-                let usual = random.draw() % 15;
-                number(random, usual, 20)
-            },
-            perturbation: double(random),
-            previous_radius: double(random),
-            scaled_radius: double(random),
-        },
-        staging: Staging {
-            stages: number(random, stages, 400),
-            stage: number(random, stage, 400),
-            recurrence: recurrence(random),
-        },
+    let mut record = Record::default();
+    let (w, x) = (&mut record.wholes, &mut record.doubles);
+    w.family = number(random, family, 8);
+    w.n = number(random, n, 16);
+    let usual = random.draw() % 8;
+    w.phase = number(random, usual, 12);
+    x.time = double(random);
+    x.step = double(random);
+    x.absolute_tolerance = double(random);
+    x.relative_tolerance = double(random);
+    let usual = random.draw() % 2;
+    w.adaptive = number(random, usual, 4);
+    let usual = random.draw() % 15;
+    w.pass = number(random, usual, 20);
+    x.perturbation = double(random);
+    x.previous_radius = double(random);
+    x.scaled_radius = double(random);
+    w.stages = number(random, stages, 400);
+    w.stage = number(random, stage, 400);
+    for carried in [
+        &mut x.theta_previous,
+        &mut x.theta_previous_two,
+        &mut x.omega_one,
+        &mut x.b_previous,
+        &mut x.b_previous_two,
+        &mut x.value_previous,
+        &mut x.value_previous_two,
+        &mut x.first_previous,
+        &mut x.first_previous_two,
+        &mut x.second_previous,
+        &mut x.second_previous_two,
+    ] {
+        *carried = double(random);
     }
-}
-
-fn recurrence(random: &mut Random) -> Recurrence {
-    Recurrence {
-        theta_previous: double(random),
-        theta_previous_two: double(random),
-        polynomials: Polynomials {
-            omega_one: double(random),
-            b_previous: double(random),
-            b_previous_two: double(random),
-            value_previous: double(random),
-            value_previous_two: double(random),
-            first_previous: double(random),
-            first_previous_two: double(random),
-            second_previous: double(random),
-            second_previous_two: double(random),
-        },
-    }
+    record
 }
 
 fn counter(random: &mut Random) -> u64 {

@@ -3,7 +3,7 @@
 //! [`number`] gives the number of the first test from 1 to 9 that a call fails. [`check`] compares what an engine answered
 //! and left with what the document settles, number 10 included: whether a candidate is finite is seen in the area.
 use crate::random::{all_same, same};
-use stabilized::calls::{Answer, Arguments, Counters, Outcome, Record, code, phase, vector};
+use stabilized::calls::{Answer, Counters, Doubles, Record, code, phase, vector};
 
 /// What start brings.
 #[derive(Clone, Copy, Debug)]
@@ -12,6 +12,16 @@ pub struct Start<'a> {
     pub n: u64,
     pub state: &'a [f64],
     pub time: f64,
+}
+
+/// What an attempt brings. `adaptive` is a no at 0, else a yes.
+#[derive(Clone, Copy, Debug, Default)]
+pub struct Arguments {
+    pub time: f64,
+    pub step: f64,
+    pub absolute_tolerance: f64,
+    pub relative_tolerance: f64,
+    pub adaptive: u64,
 }
 
 /// A call with what it brings.
@@ -51,15 +61,12 @@ fn permitted(family: u64, stages: u64) -> bool {
 
 /// The phase waits for a derivative, and what it uses is in range.
 fn pending(record: &Record) -> bool {
-    let staging = &record.staging;
-    match record.phase {
+    let at = &record.wholes;
+    match at.phase {
         phase::FIRST | phase::CALLBACK => true,
-        phase::PASS => (1..=12).contains(&record.iteration.pass),
-        phase::STAGE => {
-            permitted(record.family, staging.stages)
-                && (2..=staging.stages).contains(&staging.stage)
-        }
-        phase::CANDIDATE => permitted(record.family, staging.stages),
+        phase::PASS => (1..=12).contains(&at.pass),
+        phase::STAGE => permitted(at.family, at.stages) && (2..=at.stages).contains(&at.stage),
+        phase::CANDIDATE => permitted(at.family, at.stages),
         _ => false,
     }
 }
@@ -67,19 +74,20 @@ fn pending(record: &Record) -> bool {
 fn allowed(record: &Record, call: &Call) -> bool {
     match call {
         Call::Start(_) => true,
-        Call::Attempt(_) => [phase::READY, phase::FINISHED].contains(&record.phase),
+        Call::Attempt(_) => [phase::READY, phase::FINISHED].contains(&record.wholes.phase),
         Call::Reply { .. } | Call::Abandon => pending(record),
-        Call::Accept | Call::AcceptWithCallback { .. } => record.phase == phase::FINISHED,
+        Call::Accept | Call::AcceptWithCallback { .. } => record.wholes.phase == phase::FINISHED,
     }
 }
 
 /// Tests 1 to 3, on what start brings and on what the record of any other call holds.
 fn shape(held: &Held, call: &Call) -> Option<u64> {
+    let kept = held.record.wholes;
     let (family, n, brought) = match *call {
         Call::Start(start) => (start.family, start.n, Some(start.state)),
-        Call::Reply { derivative } => (held.record.family, held.record.n, Some(derivative)),
-        Call::AcceptWithCallback { state, .. } => (held.record.family, held.record.n, Some(state)),
-        _ => (held.record.family, held.record.n, None),
+        Call::Reply { derivative } => (kept.family, kept.n, Some(derivative)),
+        Call::AcceptWithCallback { state, .. } => (kept.family, kept.n, Some(state)),
+        _ => (kept.family, kept.n, None),
     };
     if !(1..=5).contains(&family) {
         return Some(1);
@@ -115,7 +123,8 @@ fn contents(held: &Held, call: &Call) -> Option<u64> {
         }
         Call::Reply { .. } if counters.evaluations == LIMIT => Some(8),
         Call::Reply { .. }
-            if held.record.phase == phase::CANDIDATE && counters.finished_attempts == LIMIT =>
+            if held.record.wholes.phase == phase::CANDIDATE
+                && counters.finished_attempts == LIMIT =>
         {
             Some(8)
         }
@@ -131,6 +140,13 @@ pub fn number(held: &Held, call: &Call) -> Option<u64> {
         .or_else(|| contents(held, call))
 }
 
+/// An answer, and the record as it was left.
+#[derive(Clone, Copy, Debug)]
+pub struct Outcome {
+    pub answer: Answer,
+    pub record: Record,
+}
+
 /// What an engine gave back and left.
 #[derive(Clone, Copy, Debug)]
 pub struct Given<'a> {
@@ -139,60 +155,53 @@ pub struct Given<'a> {
     pub area: &'a [f64],
 }
 
-fn words(record: &Record) -> [f64; 25] {
-    let Record {
-        arguments,
-        iteration,
-        staging,
-        ..
-    } = *record;
-    let recurrence = staging.recurrence;
-    let polynomials = recurrence.polynomials;
-    let numbers = [
-        record.family,
-        record.n,
-        record.phase,
-        arguments.adaptive,
-        iteration.pass,
-        staging.stages,
-        staging.stage,
-    ];
-    let doubles = [
-        arguments.time,
-        arguments.step,
-        arguments.absolute_tolerance,
-        arguments.relative_tolerance,
-        iteration.perturbation,
-        iteration.previous_radius,
-        iteration.scaled_radius,
-        recurrence.theta_previous,
-        recurrence.theta_previous_two,
-        polynomials.omega_one,
-        polynomials.b_previous,
-        polynomials.b_previous_two,
-        polynomials.value_previous,
-        polynomials.value_previous_two,
-        polynomials.first_previous,
-        polynomials.first_previous_two,
-        polynomials.second_previous,
-        polynomials.second_previous_two,
-    ];
-    let mut all = [0.0; 25];
-    for (to, from) in all.iter_mut().zip(numbers) {
-        *to = f64::from_bits(from);
-    }
-    all[7..].copy_from_slice(&doubles);
-    all
+/// Every field, by name.
+fn listed(doubles: &Doubles) -> Vec<f64> {
+    let Doubles {
+        time,
+        step,
+        absolute_tolerance,
+        relative_tolerance,
+        perturbation,
+        previous_radius,
+        scaled_radius,
+        theta_previous,
+        theta_previous_two,
+        omega_one,
+        b_previous,
+        b_previous_two,
+        value_previous,
+        value_previous_two,
+        first_previous,
+        first_previous_two,
+        second_previous,
+        second_previous_two,
+    } = *doubles;
+    vec![
+        time,
+        step,
+        absolute_tolerance,
+        relative_tolerance,
+        perturbation,
+        previous_radius,
+        scaled_radius,
+        theta_previous,
+        theta_previous_two,
+        omega_one,
+        b_previous,
+        b_previous_two,
+        value_previous,
+        value_previous_two,
+        first_previous,
+        first_previous_two,
+        second_previous,
+        second_previous_two,
+    ]
 }
 
-/// The same numbers, and the same doubles with NaN matching NaN.
+/// The same whole numbers, and the same doubles with NaN matching NaN.
 pub fn same_record(a: &Record, b: &Record) -> bool {
-    let (a, b) = (words(a), words(b));
-    a[..7]
-        .iter()
-        .zip(&b[..7])
-        .all(|(a, b)| a.to_bits() == b.to_bits())
-        && all_same(&a[7..], &b[7..])
+    a.wholes == b.wholes && all_same(&listed(&a.doubles), &listed(&b.doubles))
 }
 
 fn same_answer(a: &Answer, b: &Answer) -> bool {
@@ -236,12 +245,39 @@ struct Settled {
 }
 
 fn with_phase(record: Record, phase: u64) -> Record {
-    Record { phase, ..record }
+    let mut after = record;
+    after.wholes.phase = phase;
+    after
 }
 
 fn at_time(record: Record, phase: u64, time: f64) -> Record {
     let mut after = with_phase(record, phase);
-    after.arguments.time = time;
+    after.doubles.time = time;
+    after
+}
+
+/// With the power iteration's position of another record.
+fn with_iteration(record: Record, other: &Record) -> Record {
+    let mut after = record;
+    after.wholes.pass = other.wholes.pass;
+    after.doubles.perturbation = other.doubles.perturbation;
+    after.doubles.previous_radius = other.doubles.previous_radius;
+    after.doubles.scaled_radius = other.doubles.scaled_radius;
+    after
+}
+
+/// With the position among the stages of another record, and what they carry on.
+fn with_stages(record: Record, other: &Record) -> Record {
+    let (wholes, doubles) = (record.wholes, record.doubles);
+    let mut after = with_iteration(*other, &record);
+    after.wholes.family = wholes.family;
+    after.wholes.n = wholes.n;
+    after.wholes.phase = wholes.phase;
+    after.wholes.adaptive = wholes.adaptive;
+    after.doubles.time = doubles.time;
+    after.doubles.step = doubles.step;
+    after.doubles.absolute_tolerance = doubles.absolute_tolerance;
+    after.doubles.relative_tolerance = doubles.relative_tolerance;
     after
 }
 
@@ -271,28 +307,27 @@ impl Settled {
 fn settled(held: &Held, call: &Call, given: &Given) -> Settled {
     let mut s = Settled::standing(held);
     let record = held.record;
-    let n = record.n as usize;
+    let n = record.wholes.n as usize;
     match *call {
         Call::Start(start) => {
             s.answer = Some(evaluate(vector::STATE, start.time));
-            s.record = Some(Record {
-                family: start.family,
-                n: start.n,
-                ..at_time(record, phase::FIRST, start.time)
-            });
+            let mut after = at_time(record, phase::FIRST, start.time);
+            after.wholes.family = start.family;
+            after.wholes.n = start.n;
+            s.record = Some(after);
             s.put(vector::STATE, start.state);
             s.put(vector::EIGENVECTOR, &vec![0.0; start.n as usize]);
         }
         Call::Attempt(arguments) => {
             s.answer = Some(evaluate(vector::PERTURBED_STATE, arguments.time));
-            let mut record = Record {
-                phase: phase::PASS,
-                arguments,
-                ..record
-            };
-            record.iteration = given.outcome.record.iteration;
-            record.iteration.pass = 1;
-            s.record = Some(record);
+            let mut after = at_time(record, phase::PASS, arguments.time);
+            after.doubles.step = arguments.step;
+            after.doubles.absolute_tolerance = arguments.absolute_tolerance;
+            after.doubles.relative_tolerance = arguments.relative_tolerance;
+            after.wholes.adaptive = arguments.adaptive;
+            after = with_iteration(after, &given.outcome.record);
+            after.wholes.pass = 1;
+            s.record = Some(after);
             s.open = &[vector::EIGENVECTOR, vector::PERTURBED_STATE];
         }
         Call::Accept => {
@@ -317,14 +352,14 @@ fn settled(held: &Held, call: &Call, given: &Given) -> Settled {
 
 fn settle_reply(s: &mut Settled, record: Record, derivative: &[f64], given: &Given) {
     let n = derivative.len();
-    let arguments = record.arguments;
+    let adaptive = record.wholes.adaptive;
     s.counters.evaluations += 1;
-    match record.phase {
+    match record.wholes.phase {
         phase::FIRST | phase::CALLBACK => {
             s.answer = Some(without_values(code::READY));
             s.record = Some(with_phase(record, phase::READY));
             s.put(vector::FIRST_DERIVATIVE, derivative);
-            if record.phase == phase::CALLBACK {
+            if record.wholes.phase == phase::CALLBACK {
                 s.put(vector::EIGENVECTOR, &vec![0.0; n]);
             }
         }
@@ -344,7 +379,7 @@ fn settle_reply(s: &mut Settled, record: Record, derivative: &[f64], given: &Giv
         }
         _ => {
             let norm = given.outcome.answer.value;
-            let norm = if arguments.adaptive == 0 { 0.0 } else { norm };
+            let norm = if adaptive == 0 { 0.0 } else { norm };
             s.answer = Some(Answer {
                 code: code::FINISHED,
                 number: 0,
@@ -353,7 +388,7 @@ fn settle_reply(s: &mut Settled, record: Record, derivative: &[f64], given: &Giv
             s.record = Some(with_phase(record, phase::FINISHED));
             s.counters.finished_attempts += 1;
             s.put(vector::LAST_DERIVATIVE, derivative);
-            s.open = if arguments.adaptive == 0 {
+            s.open = if adaptive == 0 {
                 &[]
             } else {
                 &[vector::DERIVATIVE]
@@ -365,45 +400,42 @@ fn settle_reply(s: &mut Settled, record: Record, derivative: &[f64], given: &Giv
 /// On to the next pass, or to stage 2; never a pass after the twelfth.
 fn settle_pass(s: &mut Settled, record: Record, given: &Given) {
     let after = given.outcome.record;
-    let mut expected = Record {
-        phase: after.phase,
-        iteration: after.iteration,
-        ..record
-    };
-    if after.phase == phase::PASS && record.iteration.pass < 12 {
-        expected.iteration.pass = record.iteration.pass + 1;
-        s.answer = Some(evaluate(vector::PERTURBED_STATE, record.arguments.time));
+    let (time, step) = (record.doubles.time, record.doubles.step);
+    let mut expected = with_iteration(record, &after);
+    expected.wholes.phase = after.wholes.phase;
+    if after.wholes.phase == phase::PASS && record.wholes.pass < 12 {
+        expected.wholes.pass = record.wholes.pass + 1;
+        s.answer = Some(evaluate(vector::PERTURBED_STATE, time));
         s.open = &[vector::PERTURBED_STATE];
     } else {
-        expected.phase = phase::STAGE;
-        expected.staging = after.staging;
-        expected.staging.stage = 2;
-        expected.iteration.pass = record.iteration.pass;
-        let theta = after.staging.recurrence.theta_previous;
-        let time = record.arguments.time + record.arguments.step * theta;
-        s.answer = Some(evaluate(vector::PREVIOUS_ONE, time));
-        s.copy(vector::STATE, vector::PREVIOUS_TWO, record.n as usize);
+        expected.wholes.phase = phase::STAGE;
+        expected = with_stages(expected, &after);
+        expected.wholes.stage = 2;
+        expected.wholes.pass = record.wholes.pass;
+        let theta = after.doubles.theta_previous;
+        s.answer = Some(evaluate(vector::PREVIOUS_ONE, time + step * theta));
+        s.copy(
+            vector::STATE,
+            vector::PREVIOUS_TWO,
+            record.wholes.n as usize,
+        );
         s.open = &[vector::PREVIOUS_ONE];
     }
-    s.record = permitted(record.family, after.staging.stages)
+    s.record = permitted(record.wholes.family, after.wholes.stages)
         .then_some(expected)
-        .or((expected.phase == phase::PASS).then_some(expected));
+        .or((expected.wholes.phase == phase::PASS).then_some(expected));
 }
 
 /// On to the next stage with the exchange, or to the candidate, which is turned away with 10 where it is not finite.
 fn settle_stage(s: &mut Settled, record: Record, given: &Given, n: usize) {
-    let after = given.outcome.record;
-    let arguments = record.arguments;
-    if record.staging.stage < record.staging.stages {
-        let mut staging = after.staging;
-        staging.stages = record.staging.stages;
-        staging.stage = record.staging.stage + 1;
-        let theta = staging.recurrence.theta_previous;
-        s.answer = Some(evaluate(
-            vector::PREVIOUS_ONE,
-            arguments.time + arguments.step * theta,
-        ));
-        s.record = Some(Record { staging, ..record });
+    let (time, step) = (record.doubles.time, record.doubles.step);
+    if record.wholes.stage < record.wholes.stages {
+        let mut expected = with_stages(record, &given.outcome.record);
+        expected.wholes.stages = record.wholes.stages;
+        expected.wholes.stage = record.wholes.stage + 1;
+        let theta = expected.doubles.theta_previous;
+        s.answer = Some(evaluate(vector::PREVIOUS_ONE, time + step * theta));
+        s.record = Some(expected);
         let previous_two =
             s.area[vector::PREVIOUS_TWO * n..(vector::PREVIOUS_TWO + 1) * n].to_vec();
         s.copy(vector::PREVIOUS_ONE, vector::PREVIOUS_TWO, n);
@@ -416,7 +448,7 @@ fn settle_stage(s: &mut Settled, record: Record, given: &Given, n: usize) {
     s.put(vector::NEXT_STAGE, &row);
     s.put(vector::CANDIDATE, &row);
     if good {
-        s.answer = Some(evaluate(vector::CANDIDATE, arguments.time + arguments.step));
+        s.answer = Some(evaluate(vector::CANDIDATE, time + step));
         s.record = Some(with_phase(record, phase::CANDIDATE));
     } else {
         s.answer = Some(refused(10));

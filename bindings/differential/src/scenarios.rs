@@ -397,7 +397,7 @@ fn attempts(
     model: &Model,
     coverage: &mut Coverage,
 ) -> Result<Ending, String> {
-    let family = pair.record.family;
+    let family = pair.record.wholes.family;
     for _ in 0..random.below(10) + 1 {
         let arguments = Arguments {
             time: time(random, wild),

@@ -73,9 +73,9 @@ impl Trace {
             finished_attempts,
         ]);
         if answer.code == code::FINISHED {
-            let radius = bits(record.iteration.scaled_radius);
+            let radius = bits(record.doubles.scaled_radius);
             self.words
-                .extend([record.staging.stages, record.iteration.pass, radius]);
+                .extend([record.wholes.stages, record.wholes.pass, radius]);
         }
         self.area(held.area, given.area);
     }

@@ -1,4 +1,4 @@
-//! The six calls as the engine answers them: a record by value, the area and the inputs as slices, the answer as numbers.
+//! The six calls as the engine answers them: the record lent, the area and the inputs as slices, the answer as numbers.
 //!
 //! No call has a precondition: whatever it is handed, it answers, and a call that is turned away says so by its number
 //! (document 01, "When a call is turned away"). The layouts are those of bindings/c/stabilized.h.
@@ -16,31 +16,33 @@ pub struct Counters {
     pub finished_attempts: u64,
 }
 
-/// What an attempt was given. `adaptive` is a no at 0, else a yes.
+/// What the engine keeps in whole numbers. `adaptive` is a no at 0, else a yes; `pass` is the power iteration's.
+#[repr(C)]
+#[derive(Clone, Copy, Debug, Default, Eq, PartialEq)]
+pub struct Wholes {
+    pub family: u64,
+    pub n: u64,
+    pub phase: u64,
+    pub adaptive: u64,
+    pub pass: u64,
+    pub stages: u64,
+    pub stage: u64,
+}
+
+/// What it keeps in doubles: the attempt's arguments, the power iteration's position, and what the stages carry on, from
+/// `omega_one` on for RKC alone.
 #[repr(C)]
 #[derive(Clone, Copy, Debug, Default, PartialEq)]
-pub struct Arguments {
+pub struct Doubles {
     pub time: f64,
     pub step: f64,
     pub absolute_tolerance: f64,
     pub relative_tolerance: f64,
-    pub adaptive: u64,
-}
-
-/// Where the power iteration stands; the scaled radius once it is known.
-#[repr(C)]
-#[derive(Clone, Copy, Debug, Default, PartialEq)]
-pub struct Iteration {
-    pub pass: u64,
     pub perturbation: f64,
     pub previous_radius: f64,
     pub scaled_radius: f64,
-}
-
-/// RKC's `omega_one`, and its polynomials at the two stages before.
-#[repr(C)]
-#[derive(Clone, Copy, Debug, Default, PartialEq)]
-pub struct Polynomials {
+    pub theta_previous: f64,
+    pub theta_previous_two: f64,
     pub omega_one: f64,
     pub b_previous: f64,
     pub b_previous_two: f64,
@@ -52,34 +54,12 @@ pub struct Polynomials {
     pub second_previous_two: f64,
 }
 
-/// What a row takes from the rows before it.
-#[repr(C)]
-#[derive(Clone, Copy, Debug, Default, PartialEq)]
-pub struct Recurrence {
-    pub theta_previous: f64,
-    pub theta_previous_two: f64,
-    pub polynomials: Polynomials,
-}
-
-/// How many stages, which one is next, and its recurrence.
-#[repr(C)]
-#[derive(Clone, Copy, Debug, Default, PartialEq)]
-pub struct Staging {
-    pub stages: u64,
-    pub stage: u64,
-    pub recurrence: Recurrence,
-}
-
 /// All that the engine keeps beside the area. The default one is in the empty phase.
 #[repr(C)]
 #[derive(Clone, Copy, Debug, Default, PartialEq)]
 pub struct Record {
-    pub family: u64,
-    pub n: u64,
-    pub phase: u64,
-    pub arguments: Arguments,
-    pub iteration: Iteration,
-    pub staging: Staging,
+    pub wholes: Wholes,
+    pub doubles: Doubles,
 }
 
 /// The phases by number.
@@ -128,22 +108,16 @@ pub struct Answer {
     pub value: f64,
 }
 
-/// What every call gives back.
-#[repr(C)]
-#[derive(Clone, Copy, Debug, Default, PartialEq)]
-pub struct Outcome {
-    pub answer: Answer,
-    pub record: Record,
-}
-
 mod library {
-    use super::{Outcome, Record};
+    use super::{Answer, Doubles, Wholes};
 
-    // A slice is two arguments: the pointer and the count. The engine is proved for every record, number and content, so
-    // only the pointers can be wrong.
+    // Each part of the record is numbers of 64 bits without padding, which the engine has as an array; a slice is two
+    // arguments, the pointer and the count. The engine is proved for every record, number and content, so only the
+    // pointers can be wrong.
     unsafe extern "C" {
         pub fn stabilized_start(
-            record: Record,
+            wholes: *mut Wholes,
+            doubles: *mut Doubles,
             area: *mut f64,
             area_length: usize,
             family: u64,
@@ -151,9 +125,10 @@ mod library {
             state: *const f64,
             state_length: usize,
             time: f64,
-        ) -> Outcome;
+        ) -> Answer;
         pub fn stabilized_attempt(
-            record: Record,
+            wholes: *mut Wholes,
+            doubles: *mut Doubles,
             area: *mut f64,
             area_length: usize,
             time: f64,
@@ -161,43 +136,57 @@ mod library {
             absolute_tolerance: f64,
             relative_tolerance: f64,
             adaptive: u64,
-        ) -> Outcome;
+        ) -> Answer;
         pub fn stabilized_reply(
-            record: Record,
+            wholes: *mut Wholes,
+            doubles: *mut Doubles,
             evaluations: *mut u64,
             finished_attempts: *mut u64,
             area: *mut f64,
             area_length: usize,
             derivative: *const f64,
             derivative_length: usize,
-        ) -> Outcome;
-        pub fn stabilized_accept(record: Record, area: *mut f64, area_length: usize) -> Outcome;
+        ) -> Answer;
+        pub fn stabilized_accept(
+            wholes: *mut Wholes,
+            doubles: *mut Doubles,
+            area: *mut f64,
+            area_length: usize,
+        ) -> Answer;
         pub fn stabilized_accept_with_callback(
-            record: Record,
+            wholes: *mut Wholes,
+            doubles: *mut Doubles,
             area: *mut f64,
             area_length: usize,
             state: *const f64,
             state_length: usize,
             time: f64,
-        ) -> Outcome;
-        pub fn stabilized_abandon(record: Record, area: *const f64, area_length: usize) -> Outcome;
+        ) -> Answer;
+        pub fn stabilized_abandon(
+            wholes: *mut Wholes,
+            doubles: *mut Doubles,
+            area: *const f64,
+            area_length: usize,
+        ) -> Answer;
     }
 }
 
 /// Begins anew, in any phase: keeps the state and asks for the first derivative.
 #[inline]
 pub fn start(
-    record: Record,
+    record: &mut Record,
     area: &mut [f64],
     family: u64,
     n: u64,
     state: &[f64],
     time: f64,
-) -> Outcome {
-    // SAFETY: pointers and counts are those of live slices, the first one lent alone.
+) -> Answer {
+    // SAFETY: pointers and counts are those of a live record and live slices; what is written is lent alone, and the two
+    // parts of a record overlap nothing.
     unsafe {
         library::stabilized_start(
-            record,
+            &mut record.wholes,
+            &mut record.doubles,
             area.as_mut_ptr(),
             area.len(),
             family,
@@ -212,18 +201,19 @@ pub fn start(
 /// Steps from the kept state; when ready or after a finished attempt.
 #[inline]
 pub fn attempt(
-    record: Record,
+    record: &mut Record,
     area: &mut [f64],
     time: f64,
     step: f64,
     absolute_tolerance: f64,
     relative_tolerance: f64,
     adaptive: u64,
-) -> Outcome {
+) -> Answer {
     // SAFETY: as in `start`.
     unsafe {
         library::stabilized_attempt(
-            record,
+            &mut record.wholes,
+            &mut record.doubles,
             area.as_mut_ptr(),
             area.len(),
             time,
@@ -238,15 +228,16 @@ pub fn attempt(
 /// Brings the derivative that was asked for.
 #[inline]
 pub fn reply(
-    record: Record,
+    record: &mut Record,
     counters: &mut Counters,
     area: &mut [f64],
     derivative: &[f64],
-) -> Outcome {
-    // SAFETY: as in `start`; the counters are lent alone.
+) -> Answer {
+    // SAFETY: as in `start`; the counters are two numbers, lent alone.
     unsafe {
         library::stabilized_reply(
-            record,
+            &mut record.wholes,
+            &mut record.doubles,
             &mut counters.evaluations,
             &mut counters.finished_attempts,
             area.as_mut_ptr(),
@@ -259,18 +250,31 @@ pub fn reply(
 
 /// After a finished attempt: the candidate becomes the kept state.
 #[inline]
-pub fn accept(record: Record, area: &mut [f64]) -> Outcome {
+pub fn accept(record: &mut Record, area: &mut [f64]) -> Answer {
     // SAFETY: as in `start`.
-    unsafe { library::stabilized_accept(record, area.as_mut_ptr(), area.len()) }
+    unsafe {
+        library::stabilized_accept(
+            &mut record.wholes,
+            &mut record.doubles,
+            area.as_mut_ptr(),
+            area.len(),
+        )
+    }
 }
 
 /// After a finished attempt: another state and time are kept, and its derivative is asked for.
 #[inline]
-pub fn accept_with_callback(record: Record, area: &mut [f64], state: &[f64], time: f64) -> Outcome {
+pub fn accept_with_callback(
+    record: &mut Record,
+    area: &mut [f64],
+    state: &[f64],
+    time: f64,
+) -> Answer {
     // SAFETY: as in `start`.
     unsafe {
         library::stabilized_accept_with_callback(
-            record,
+            &mut record.wholes,
+            &mut record.doubles,
             area.as_mut_ptr(),
             area.len(),
             state.as_ptr(),
@@ -282,7 +286,14 @@ pub fn accept_with_callback(record: Record, area: &mut [f64], state: &[f64], tim
 
 /// While an evaluation is pending: ends it uncounted.
 #[inline]
-pub fn abandon(record: Record, area: &[f64]) -> Outcome {
+pub fn abandon(record: &mut Record, area: &[f64]) -> Answer {
     // SAFETY: as in `start`.
-    unsafe { library::stabilized_abandon(record, area.as_ptr(), area.len()) }
+    unsafe {
+        library::stabilized_abandon(
+            &mut record.wholes,
+            &mut record.doubles,
+            area.as_ptr(),
+            area.len(),
+        )
+    }
 }

@@ -1,4 +1,4 @@
-use crate::calls::{self, Counters, LARGEST, Outcome, Record, VECTORS, code, vector};
+use crate::calls::{self, Answer, Counters, LARGEST, Record, VECTORS, code, vector};
 use crate::{Error, Refusal, check_environment};
 
 /// The methods that the engine carries.
@@ -70,16 +70,17 @@ impl<F: FnMut(&mut [f64], &[f64], f64)> Stepper<F> {
     pub fn restart(&mut self, family: Family, state: &[f64], time: f64) -> Result<(), Error> {
         check_environment()?;
         let n = state.len() as u64;
-        let outcome = calls::start(self.record, &mut self.area, family as u64, n, state, time);
-        self.run(outcome)?;
+        let family = family as u64;
+        let answer = calls::start(&mut self.record, &mut self.area, family, n, state, time);
+        self.run(answer)?;
         Ok(())
     }
 
     /// Steps from the kept state; the error norm. The step is good when the norm is at most 1. A step that is not wanted
     /// needs no call: attempt again.
     pub fn attempt(&mut self, attempt: Attempt) -> Result<f64, Refusal> {
-        let outcome = calls::attempt(
-            self.record,
+        let answer = calls::attempt(
+            &mut self.record,
             &mut self.area,
             attempt.time,
             attempt.step,
@@ -87,41 +88,38 @@ impl<F: FnMut(&mut [f64], &[f64], f64)> Stepper<F> {
             attempt.relative_tolerance,
             u64::from(attempt.adaptive),
         );
-        self.run(outcome)
+        self.run(answer)
     }
 
     /// Takes the candidate of a finished attempt as the kept state.
     pub fn accept(&mut self) -> Result<(), Refusal> {
-        let outcome = calls::accept(self.record, &mut self.area);
-        self.run(outcome)?;
+        let answer = calls::accept(&mut self.record, &mut self.area);
+        self.run(answer)?;
         Ok(())
     }
 
     /// After a finished attempt, keeps another state at another time, and evaluates its derivative.
     pub fn accept_with_callback(&mut self, state: &[f64], time: f64) -> Result<(), Refusal> {
-        let outcome = calls::accept_with_callback(self.record, &mut self.area, state, time);
-        self.run(outcome)?;
+        let answer = calls::accept_with_callback(&mut self.record, &mut self.area, state, time);
+        self.run(answer)?;
         Ok(())
     }
 
     /// Evaluates as long as the engine asks for it. The value of the last answer.
-    fn run(&mut self, first: Outcome) -> Result<f64, Refusal> {
-        let mut outcome = first;
-        while outcome.answer.code == code::EVALUATE {
-            self.evaluate(outcome.answer.number as usize, outcome.answer.value);
-            outcome = calls::reply(
-                outcome.record,
+    fn run(&mut self, first: Answer) -> Result<f64, Refusal> {
+        let mut answer = first;
+        while answer.code == code::EVALUATE {
+            self.evaluate(answer.number as usize, answer.value);
+            answer = calls::reply(
+                &mut self.record,
                 &mut self.counters,
                 &mut self.area,
                 &self.derivative,
             );
         }
-        self.record = outcome.record;
-        match outcome.answer.code {
-            code::REFUSED => {
-                Err(Refusal::of_number(outcome.answer.number).expect("numbers are 1 to 10"))
-            }
-            _ => Ok(outcome.answer.value),
+        match answer.code {
+            code::REFUSED => Err(Refusal::of_number(answer.number).expect("numbers are 1 to 10")),
+            _ => Ok(answer.value),
         }
     }
 

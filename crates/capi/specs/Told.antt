@@ -1,4 +1,5 @@
--- The promises of the calls for C: answer, record and area are those of the definition, handed what the record means.
+-- The promises of the calls for C: answer, record and area are those of the definition, handed what the record means. `before` is the record as it was lent,
+-- `given` the answer with the record as it was left (specs/Lent).
 use Prim.Native.Nat.{ℕ}
 use mathlib.Core.Path.{_≡_}
 use mathlib.Core.List.{List}
@@ -22,3 +23,7 @@ counting evaluations finished = record { evaluations = evaluations; «finished_a
 -- a call that is lent no counters: whatever they are, they stand
 abbrev pub Tells : Record → ℕ → (Held → Called) → List Float → Outcome → List Float → Type 0
 Tells before adaptive call area given left = (c : Counters) → Told before adaptive (call (holding (meaning before) c area)) given c left
+
+-- and that brings no number for `adaptive`: the one that it finds stands
+abbrev pub Tells-on : Record → (Held → Called) → List Float → Outcome → List Float → Type 0
+Tells-on before = Tells before (before .arguments .adaptive)

@@ -1,19 +1,26 @@
-// The six calls for C: records of plain numbers, the answer as code, number and value. Each says what
-// driver's call of that name says.
+// The six calls for C: the record is lent, as its whole numbers and its doubles, and read and written in place; the answer
+// is code, number and value. Each says what driver's call of that name says.
 ghost use mathlib.Core.Path.{_≡_};
-ghost use Rattle.workspace.specs.Vectors.{number, previous-one};
-ghost use Rattle.driver.specs.declared.Answer.the-variants.{Evaluate};
+ghost use lib.ListN.{length};
+ghost use Rattle.driver.specs.declared.Staged.the-variants.{On, Ended, NotFinite};
 ghost use Rattle.driver.specs.Calls as calls;
 ghost use Rattle.driver.specs.Promises.{holding};
 ghost use Rattle.capi.specs.Numbers as numbers;
-ghost use Rattle.capi.specs.Told.{Told, Tells, counting};
+ghost use Rattle.capi.specs.Lent.{wholes-long, doubles-long, lent, leaves, in-stages};
+ghost use Rattle.capi.specs.Told.{Told, Tells, Tells-on, counting};
+use coefficients::Polynomials;
+use coefficients::Recurrence;
 use driver::Counters;
 use driver::Iteration;
 use driver::Phase;
+use driver::Staged;
 use driver::Staging;
 
+// How many whole numbers and how many doubles the record is lent as.
+const WHOLES: usize = 7;
+const DOUBLES: usize = 18;
+
 // What an attempt was given. `adaptive` is a no at 0, else a yes.
-#[repr(C)]
 pub struct Arguments {
     pub time: f64,
     pub step: f64,
@@ -24,7 +31,6 @@ pub struct Arguments {
 
 // The phases are numbered from 0 in driver's order. A number above 7 is a phase in which only start is
 // allowed.
-#[repr(C)]
 pub struct Record {
     pub family: u64,
     pub n: u64,
@@ -43,7 +49,6 @@ pub struct Answer {
     pub value: f64,
 }
 
-#[repr(C)]
 pub struct Outcome {
     pub answer: Answer,
     pub record: Record,
@@ -210,132 +215,284 @@ fn handed_back(
     }
 }
 
-// The next stage's evaluation at this time and position; all else of the record stands.
-fn asked_at(before: Record, time: f64, staging: Staging) -> Outcome
-    ensures { λ r. ⌜ r ≡ numbers.handed-back before (before .arguments .adaptive) (numbers.in-numbers (Evaluate time (number previous-one))) (calls.at-stage (staging .stages) (staging .stage) (staging .recurrence) (numbers.meaning before)) ⌝ }
+// The record as it is lent: the whole numbers are those of specs/Lent, and so are the doubles.
+fn read(wholes: &[u64; WHOLES], doubles: &[f64; DOUBLES]) -> Record
+    ensures { λ r. ⌜ r ≡ lent (now (wholes .entry)) (now (doubles .entry)) ⌝ }
 {
-    let arguments = before.arguments;
-    let iteration = before.iteration;
-    Outcome {
-        answer: Answer {
-            code: 1,
-            number: 4,
-            value: time,
+    Record {
+        family: wholes[0],
+        n: wholes[1],
+        phase: wholes[2],
+        arguments: Arguments {
+            time: doubles[0],
+            step: doubles[1],
+            absolute_tolerance: doubles[2],
+            relative_tolerance: doubles[3],
+            adaptive: wholes[3],
         },
-        record: Record {
-            family: before.family,
-            n: before.n,
-            phase: 4,
-            arguments,
-            iteration,
-            staging,
+        iteration: Iteration {
+            pass: wholes[4],
+            perturbation: doubles[4],
+            previous_radius: doubles[5],
+            scaled_radius: doubles[6],
         },
+        staging: Staging {
+            stages: wholes[5],
+            stage: wholes[6],
+            recurrence: Recurrence {
+                theta_previous: doubles[7],
+                theta_previous_two: doubles[8],
+                polynomials: Polynomials {
+                    omega_one: doubles[9],
+                    b_previous: doubles[10],
+                    b_previous_two: doubles[11],
+                    value_previous: doubles[12],
+                    value_previous_two: doubles[13],
+                    first_previous: doubles[14],
+                    first_previous_two: doubles[15],
+                    second_previous: doubles[16],
+                    second_previous_two: doubles[17],
+                },
+            },
+        },
+    }
+}
+
+// Leaves the whole record, and answers.
+fn leave(wholes: &mut [u64; WHOLES], doubles: &mut [f64; DOUBLES], outcome: Outcome) -> Answer
+    ensures { λ r. ⌜ leaves r (now (wholes .exit)) (now (doubles .exit)) ≡ outcome ⌝ }
+{
+    let r = outcome.record;
+    let c = r.staging.recurrence;
+    let p = c.polynomials;
+    *wholes = [
+        r.family,
+        r.n,
+        r.phase,
+        r.arguments.adaptive,
+        r.iteration.pass,
+        r.staging.stages,
+        r.staging.stage,
+    ];
+    *doubles = [
+        r.arguments.time,
+        r.arguments.step,
+        r.arguments.absolute_tolerance,
+        r.arguments.relative_tolerance,
+        r.iteration.perturbation,
+        r.iteration.previous_radius,
+        r.iteration.scaled_radius,
+        c.theta_previous,
+        c.theta_previous_two,
+        p.omega_one,
+        p.b_previous,
+        p.b_previous_two,
+        p.value_previous,
+        p.value_previous_two,
+        p.first_previous,
+        p.first_previous_two,
+        p.second_previous,
+        p.second_previous_two,
+    ];
+    let answer = outcome.answer;
+    answer
+}
+
+// The next stage's evaluation at this time and position. All else of the record stands and is not written: that it is
+// written back too costs an evaluation 4 to 8 ns.
+fn ask_stage(wholes: &mut [u64], doubles: &mut [f64], time: f64, staging: Staging) -> Answer
+    requires { ⌜ length (now wholes) ≡ wholes-long ⌝ }
+    requires { ⌜ length (now doubles) ≡ doubles-long ⌝ }
+    ensures { λ r. ⌜ leaves r (now (wholes .exit)) (now (doubles .exit)) ≡ in-stages (lent (now (wholes .entry)) (now (doubles .entry))) (On time staging) ⌝ }
+{
+    let c = staging.recurrence;
+    let p = c.polynomials;
+    wholes[2] = 4;
+    wholes[5] = staging.stages;
+    wholes[6] = staging.stage;
+    doubles[7] = c.theta_previous;
+    doubles[8] = c.theta_previous_two;
+    doubles[9] = p.omega_one;
+    doubles[10] = p.b_previous;
+    doubles[11] = p.b_previous_two;
+    doubles[12] = p.value_previous;
+    doubles[13] = p.value_previous_two;
+    doubles[14] = p.first_previous;
+    doubles[15] = p.first_previous_two;
+    doubles[16] = p.second_previous;
+    doubles[17] = p.second_previous_two;
+    Answer {
+        code: 1,
+        number: 4,
+        value: time,
+    }
+}
+
+// The candidate's evaluation at this time. Only the phase is written.
+fn ask_candidate(wholes: &mut [u64], doubles: &[f64; DOUBLES], time: f64) -> Answer
+    requires { ⌜ length (now wholes) ≡ wholes-long ⌝ }
+    ensures { λ r. ⌜ leaves r (now (wholes .exit)) (now (doubles .entry)) ≡ in-stages (lent (now (wholes .entry)) (now (doubles .entry))) (Ended time) ⌝ }
+{
+    wholes[2] = 5;
+    Answer {
+        code: 1,
+        number: 10,
+        value: time,
+    }
+}
+
+// A candidate that is not finite: the phase is emptied.
+fn refuse_candidate(wholes: &mut [u64], doubles: &[f64; DOUBLES]) -> Answer
+    requires { ⌜ length (now wholes) ≡ wholes-long ⌝ }
+    ensures { λ r. ⌜ leaves r (now (wholes .exit)) (now (doubles .entry)) ≡ in-stages (lent (now (wholes .entry)) (now (doubles .entry))) NotFinite ⌝ }
+{
+    wholes[2] = 0;
+    Answer {
+        code: 4,
+        number: 10,
+        value: 0.0,
     }
 }
 
 #[no_mangle]
 pub extern "C" fn stabilized_start(
-    record: Record,
+    wholes: &mut [u64; WHOLES],
+    doubles: &mut [f64; DOUBLES],
     area: &mut [f64],
     family: u64,
     n: u64,
     state: &[f64],
     time: f64,
-) -> Outcome
-    ensures { λ r. ⌜ Tells «record» («record» .arguments .adaptive) (λ h. calls.start h family n (now (state .entry)) time) (now (area .entry)) r (now (area .exit)) ⌝ }
+) -> Answer
+    ensures { λ r. ⌜ Tells-on (lent (now (wholes .entry)) (now (doubles .entry))) (λ h. calls.start h family n (now (state .entry)) time) (now (area .entry)) (leaves r (now (wholes .exit)) (now (doubles .exit))) (now (area .exit)) ⌝ }
 {
+    let record = read(wholes, doubles);
     let kept = meaning(record);
     let next = driver::start(kept, area, family, n as usize, state, time);
     let answer = next.answer;
     let after = next.record;
-    handed_back(record, record.arguments.adaptive, answer, after)
+    let outcome = handed_back(record, record.arguments.adaptive, answer, after);
+    leave(wholes, doubles, outcome)
 }
 
 #[no_mangle]
 pub extern "C" fn stabilized_attempt(
-    record: Record,
+    wholes: &mut [u64; WHOLES],
+    doubles: &mut [f64; DOUBLES],
     area: &mut [f64],
     time: f64,
     step: f64,
     absolute_tolerance: f64,
     relative_tolerance: f64,
     adaptive: u64,
-) -> Outcome
-    ensures { λ r. ⌜ Tells «record» adaptive (λ h. calls.attempt h (numbers.brought time step «absolute_tolerance» «relative_tolerance» adaptive)) (now (area .entry)) r (now (area .exit)) ⌝ }
+) -> Answer
+    ensures { λ r. ⌜ Tells (lent (now (wholes .entry)) (now (doubles .entry))) adaptive (λ h. calls.attempt h (numbers.brought time step «absolute_tolerance» «relative_tolerance» adaptive)) (now (area .entry)) (leaves r (now (wholes .exit)) (now (doubles .exit))) (now (area .exit)) ⌝ }
 {
+    let record = read(wholes, doubles);
     let kept = meaning(record);
     let arguments = brought(time, step, absolute_tolerance, relative_tolerance, adaptive);
     let next = driver::attempt(kept, area, arguments);
     let answer = next.answer;
     let after = next.record;
-    handed_back(record, adaptive, answer, after)
+    let outcome = handed_back(record, adaptive, answer, after);
+    leave(wholes, doubles, outcome)
 }
 
 #[no_mangle]
 pub extern "C" fn stabilized_reply(
-    record: Record,
+    wholes: &mut [u64; WHOLES],
+    doubles: &mut [f64; DOUBLES],
     evaluations: &mut u64,
     finished_attempts: &mut u64,
     area: &mut [f64],
     derivative: &[f64],
-) -> Outcome
-    ensures { λ r. ⌜ Told «record» («record» .arguments .adaptive) (calls.reply (holding (numbers.meaning «record») (counting (now (evaluations .entry)) (now («finished_attempts» .entry))) (now (area .entry))) (now (derivative .entry))) r (counting (now (evaluations .exit)) (now («finished_attempts» .exit))) (now (area .exit)) ⌝ }
+) -> Answer
+    ensures { λ r. ⌜ Told (lent (now (wholes .entry)) (now (doubles .entry))) (lent (now (wholes .entry)) (now (doubles .entry)) .arguments .adaptive) (calls.reply (holding (numbers.meaning (lent (now (wholes .entry)) (now (doubles .entry)))) (counting (now (evaluations .entry)) (now («finished_attempts» .entry))) (now (area .entry))) (now (derivative .entry))) (leaves r (now (wholes .exit)) (now (doubles .exit))) (counting (now (evaluations .exit)) (now («finished_attempts» .exit))) (now (area .exit)) ⌝ }
 {
+    let record = read(wholes, doubles);
     let kept = meaning(record);
     let counters = Counters {
         evaluations: *evaluations,
         finished_attempts: *finished_attempts,
     };
-    let on = driver::stage_on(kept, counters, area, derivative);
-    if on.went {
-        *evaluations = on.evaluations;
-        let staging = on.staging;
-        return asked_at(record, on.time, staging);
+    let staged = driver::reply_in_stages(kept, counters, area, derivative);
+    match staged {
+        Staged::On { time, staging } => {
+            *evaluations = counters.evaluations + 1;
+            ask_stage(wholes, doubles, time, staging)
+        }
+        Staged::Ended { time } => {
+            *evaluations = counters.evaluations + 1;
+            ask_candidate(wholes, doubles, time)
+        }
+        Staged::NotFinite => {
+            *evaluations = counters.evaluations + 1;
+            refuse_candidate(wholes, doubles)
+        }
+        Staged::Elsewhere => {
+            // a record of its own, so that a stage's need not be set down in memory
+            let before = read(wholes, doubles);
+            let again = meaning(before);
+            let replied = driver::reply_elsewhere(again, counters, area, derivative);
+            *evaluations = replied.counters.evaluations;
+            *finished_attempts = replied.counters.finished_attempts;
+            let answer = replied.answer;
+            let after = replied.record;
+            let outcome = handed_back(before, before.arguments.adaptive, answer, after);
+            leave(wholes, doubles, outcome)
+        }
     }
-    // a record of its own, so that a stage's need not be set down in memory
-    let again = meaning(record);
-    let replied = driver::reply(again, counters, area, derivative);
-    *evaluations = replied.counters.evaluations;
-    *finished_attempts = replied.counters.finished_attempts;
-    let answer = replied.answer;
-    let after = replied.record;
-    handed_back(record, record.arguments.adaptive, answer, after)
 }
 
 #[no_mangle]
-pub extern "C" fn stabilized_accept(record: Record, area: &mut [f64]) -> Outcome
-    ensures { λ r. ⌜ Tells «record» («record» .arguments .adaptive) calls.accept (now (area .entry)) r (now (area .exit)) ⌝ }
+pub extern "C" fn stabilized_accept(
+    wholes: &mut [u64; WHOLES],
+    doubles: &mut [f64; DOUBLES],
+    area: &mut [f64],
+) -> Answer
+    ensures { λ r. ⌜ Tells-on (lent (now (wholes .entry)) (now (doubles .entry))) calls.accept (now (area .entry)) (leaves r (now (wholes .exit)) (now (doubles .exit))) (now (area .exit)) ⌝ }
 {
+    let record = read(wholes, doubles);
     let kept = meaning(record);
     let next = driver::accept(kept, area);
     let answer = next.answer;
     let after = next.record;
-    handed_back(record, record.arguments.adaptive, answer, after)
+    let outcome = handed_back(record, record.arguments.adaptive, answer, after);
+    leave(wholes, doubles, outcome)
 }
 
 #[no_mangle]
 pub extern "C" fn stabilized_accept_with_callback(
-    record: Record,
+    wholes: &mut [u64; WHOLES],
+    doubles: &mut [f64; DOUBLES],
     area: &mut [f64],
     state: &[f64],
     time: f64,
-) -> Outcome
-    ensures { λ r. ⌜ Tells «record» («record» .arguments .adaptive) (λ h. calls.accept-with-callback h (now (state .entry)) time) (now (area .entry)) r (now (area .exit)) ⌝ }
+) -> Answer
+    ensures { λ r. ⌜ Tells-on (lent (now (wholes .entry)) (now (doubles .entry))) (λ h. calls.accept-with-callback h (now (state .entry)) time) (now (area .entry)) (leaves r (now (wholes .exit)) (now (doubles .exit))) (now (area .exit)) ⌝ }
 {
+    let record = read(wholes, doubles);
     let kept = meaning(record);
     let next = driver::accept_with_callback(kept, area, state, time);
     let answer = next.answer;
     let after = next.record;
-    handed_back(record, record.arguments.adaptive, answer, after)
+    let outcome = handed_back(record, record.arguments.adaptive, answer, after);
+    leave(wholes, doubles, outcome)
 }
 
 #[no_mangle]
-pub extern "C" fn stabilized_abandon(record: Record, area: &[f64]) -> Outcome
-    ensures { λ r. ⌜ Tells «record» («record» .arguments .adaptive) calls.abandon (now (area .entry)) r (now (area .entry)) ⌝ }
+pub extern "C" fn stabilized_abandon(
+    wholes: &mut [u64; WHOLES],
+    doubles: &mut [f64; DOUBLES],
+    area: &[f64],
+) -> Answer
+    ensures { λ r. ⌜ Tells-on (lent (now (wholes .entry)) (now (doubles .entry))) calls.abandon (now (area .entry)) (leaves r (now (wholes .exit)) (now (doubles .exit))) (now (area .entry)) ⌝ }
 {
+    let record = read(wholes, doubles);
     let kept = meaning(record);
     let next = driver::abandon(kept, area);
     let answer = next.answer;
     let after = next.record;
-    handed_back(record, record.arguments.adaptive, answer, after)
+    let outcome = handed_back(record, record.arguments.adaptive, answer, after);
+    leave(wholes, doubles, outcome)
 }

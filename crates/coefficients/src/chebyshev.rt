@@ -1,7 +1,10 @@
 // `run_rkc` of chebyshev.rs: omega_zero, omega_one, and the recurrence of the Chebyshev polynomials.
 ghost use mathlib.Core.Path.{_≡_};
+ghost use Prim.Native.Nat.{ℕ};
+ghost use Rattle.family.specs.Family.{RKC};
 ghost use Rattle.coefficients.specs.Rows as rows;
 ghost use Rattle.coefficients.specs.Table.{omega};
+use crate::Advance;
 use crate::Coefficients;
 use crate::Polynomials;
 use crate::Recurrence;
@@ -275,14 +278,11 @@ pub fn next_polynomials(w: f64, p: Polynomials) -> Polynomials
     }
 }
 
-// The row, from the count s and what is carried.
-pub fn row(s: u64, c: Recurrence) -> Coefficients
-    ensures { λ r. ⌜ r ≡ rows.chebyshev s c ⌝ }
+// The row, from omega_zero, b of its stage and what is carried.
+fn row_from(w: f64, b: f64, c: Recurrence) -> Coefficients
+    ensures { λ r. ⌜ ((s : ℕ) → w ≡ rows.omega-zero s → b ≡ rows.b-of w (c .polynomials) → r ≡ rows.chebyshev s c) ⌝ }
 {
-    let w = omega_zero(s);
     let p = c.polynomials;
-    let after = next_polynomials(w, p);
-    let b = after.b_previous;
     let nu_tilde = 1.0 - p.value_previous * p.b_previous;
     let mu = 2.0 * w * b / p.b_previous;
     let nu = -b / p.b_previous_two;
@@ -294,4 +294,31 @@ pub fn row(s: u64, c: Recurrence) -> Coefficients
         gamma_tilde: nu_tilde,
         theta: mu * c.theta_previous + nu * c.theta_previous_two + mu_tilde * (1.0 - nu_tilde),
     }
+}
+
+// The row, from the count s and what is carried.
+pub fn row(s: u64, c: Recurrence) -> Coefficients
+    ensures { λ r. ⌜ r ≡ rows.chebyshev s c ⌝ }
+{
+    let w = omega_zero(s);
+    let p = c.polynomials;
+    let after = next_polynomials(w, p);
+    row_from(w, after.b_previous, c)
+}
+
+// The row and what is carried on from it, with the polynomials worked out once.
+pub fn advance(s: u64, c: Recurrence) -> Advance
+    ensures { λ r. ⌜ r .row ≡ rows.chebyshev s c ⌝ }
+    ensures { λ r. ⌜ r .after ≡ rows.next-of RKC s c (r .row) ⌝ }
+{
+    let w = omega_zero(s);
+    let p = c.polynomials;
+    let polynomials = next_polynomials(w, p);
+    let row = row_from(w, polynomials.b_previous, c);
+    let after = Recurrence {
+        theta_previous: row.theta,
+        theta_previous_two: c.theta_previous,
+        polynomials,
+    };
+    Advance { row, after }
 }

@@ -42,16 +42,21 @@ pub struct Recurrence {
     pub polynomials: Polynomials,
 }
 
+// A stage's row, and what is carried on from it.
+pub struct Advance {
+    pub row: Coefficients,
+    pub after: Recurrence,
+}
+
 pub fn omega_one(family: u64, s: u64) -> f64
     ensures { λ r. ⌜ r ≡ rows.omega-one-of (family-of family) s ⌝ }
 {
-    let x = ieee::double_of(s);
     match family {
         1 => chebyshev::omega_one(s),
-        2 => 2.0 / (x * x + x),
-        3 => 4.0 / (x * x + x - 2.0),
-        4 => 4.0 / (x * (x + 3.0)),
-        _ => 6.0 / ((x + 4.0) * (x - 1.0)),
+        2 => orthogonal::legendre_one_omega(s),
+        3 => orthogonal::legendre_two_omega(s),
+        4 => orthogonal::gegenbauer_one_omega(s),
+        _ => orthogonal::gegenbauer_two_omega(s),
     }
 }
 
@@ -98,10 +103,10 @@ pub fn row_coefficients(setting: Setting, s: u64, j: u64, c: Recurrence) -> Coef
     let family = setting.family;
     match family {
         1 => chebyshev::row(s, c),
-        2 => orthogonal::legendre_one(omega_one(family, s), j, c),
-        3 => orthogonal::legendre_two(omega_one(family, s), j, c),
-        4 => orthogonal::gegenbauer_one(omega_one(family, s), j, c),
-        _ => orthogonal::gegenbauer_two(omega_one(family, s), j, c),
+        2 => orthogonal::legendre_one(orthogonal::legendre_one_omega(s), j, c),
+        3 => orthogonal::legendre_two(orthogonal::legendre_two_omega(s), j, c),
+        4 => orthogonal::gegenbauer_one(orthogonal::gegenbauer_one_omega(s), j, c),
+        _ => orthogonal::gegenbauer_two(orthogonal::gegenbauer_two_omega(s), j, c),
     }
 }
 
@@ -127,4 +132,18 @@ pub fn next_recurrence(setting: Setting, s: u64, c: Recurrence, row: Coefficient
         theta_previous_two: c.theta_previous,
         polynomials,
     }
+}
+
+// Both of stage j at once. RKC stands apart, since its row and what it carries on share the polynomials.
+pub fn row_and_recurrence(setting: Setting, s: u64, j: u64, c: Recurrence) -> Advance
+    requires { ⌜ (2 ≤ j) × (j + 1 < 2 ^ 32) ⌝ }
+    ensures { λ r. ⌜ r .row ≡ rows.coefficients setting s j c ⌝ }
+    ensures { λ r. ⌜ r .after ≡ rows.next setting s c (r .row) ⌝ }
+{
+    if setting.family == 1 {
+        return chebyshev::advance(s, c);
+    }
+    let row = row_coefficients(setting, s, j, c);
+    let after = next_recurrence(setting, s, c, row);
+    Advance { row, after }
 }

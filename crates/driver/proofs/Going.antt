@@ -1,6 +1,7 @@
--- A reply within the stages: where the tests pass, before the last stage, it is the call's own.
-use mathlib.Core.Path.{_≡_, refl, sym, ap, _∙_}
-use mathlib.Core.Bool.{Bool, true, _&&_, false≢true}
+-- A reply to a stage's evaluation, from the tests of it: where they pass it is the call's own (`goes`, `comes`), and where they do not and the call's own
+-- tests pass, no stage's evaluation is pending (`elsewhere`).
+use mathlib.Core.Path.{_≡_, refl, sym, ap, ap₂, subst, _∙_}
+use mathlib.Core.Bool.{Bool, true, false, _&&_, false≢true}
 use mathlib.Core.List.{List}
 use Prim.Native.Nat.{ℕ, _*_, _<_, _-_, _^_}
 use borrow.Author.Tests.{ltb-true}
@@ -11,11 +12,13 @@ use Rattle.workspace.specs.Vectors.{unpack, vector-count, all-finite}
 use Rattle.driver.specs.declared.Phase.{Phase}
 use Rattle.driver.specs.declared.Phase.the-variants as P
 use Rattle.driver.specs.declared.Record.{Record}
-use Rattle.driver.specs.declared.Staging.{Staging}
 use Rattle.driver.specs.declared.Counters.{Counters}
-use Rattle.driver.specs.Calls.{sized, whole-area, as-long, pending, in-range, good-stage, awaiting, finishes, room, has-room}
+use Rattle.driver.specs.declared.Replied.{Replied}
+use Rattle.driver.specs.declared.Staged.{Staged}
+use Rattle.driver.specs.declared.Staged.the-variants.{Elsewhere, On, Ended, NotFinite}
+use Rattle.driver.specs.Calls.{Called, sized, whole-area, as-long, pending, in-range, good-stage, awaiting, finishes, room, has-room}
 use Rattle.driver.specs.Calls.{reply-tests, reply, replied, take-stage, one-more, counted}
-use Rattle.driver.specs.Promises.{Meets, Steps, holding, asked-at, in-stages, goes-on}
+use Rattle.driver.specs.Promises.{Meets, Steps, Within, holding, in-stages, stage-taken, of-stages, outcome-of}
 use Rattle.driver.proofs.Ladder.{Passing, admits, admitted-meets}
 use Rattle.driver.proofs.Sizes.{both, three, four}
 use Rattle.driver.proofs.Steps.{as-step}
@@ -30,36 +33,33 @@ pub record Passed (r : Record) (c : Counters) (area d : List Float) : Type 0 whe
   pub more : room (c .evaluations) ≡ true
   pub lengths : (whole-area (r .family) (r .n) area && as-long (r .n) d) ≡ true
   pub place : good-stage (r .family) (r .staging .stages) (r .staging .stage) ≡ true
-  pub before-last : r .staging .stage < r .staging .stages
   pub finite : all-finite d ≡ true
 
-of-stages : (p : Phase) → in-stages p ≡ true → p ≡ P.Stage
+is-stage : (p : Phase) → in-stages p ≡ true → p ≡ P.Stage
 unfolding in-stages
-of-stages P.Empty e = absurd (false≢true e)
-of-stages P.First e = absurd (false≢true e)
-of-stages P.Ready e = absurd (false≢true e)
-of-stages P.Pass e = absurd (false≢true e)
-of-stages P.Stage e = refl
-of-stages P.Candidate e = absurd (false≢true e)
-of-stages P.Finished e = absurd (false≢true e)
-of-stages P.Callback e = absurd (false≢true e)
+is-stage P.Empty e = absurd (false≢true e)
+is-stage P.First e = absurd (false≢true e)
+is-stage P.Ready e = absurd (false≢true e)
+is-stage P.Pass e = absurd (false≢true e)
+is-stage P.Stage e = refl
+is-stage P.Candidate e = absurd (false≢true e)
+is-stage P.Finished e = absurd (false≢true e)
+is-stage P.Callback e = absurd (false≢true e)
 
-pub passed : (r : Record) (c : Counters) (area d : List Float) → goes-on r c area d ≡ true → Passed r c area d
-unfolding goes-on
+pub passed : (r : Record) (c : Counters) (area d : List Float) → stage-taken r c area d ≡ true → Passed r c area d
+unfolding stage-taken
 passed r c area d e =
     let rounds = both _ _ e in
     let first = four _ _ _ _ (rounds .0) in
-    let second = both _ _ (rounds .1) in
-    let place = three _ _ _ (second .0) in
+    let second = three _ _ _ (rounds .1) in
     record {
       family = first .0;
       size = first .1;
-      phase = of-stages (r .phase) (first .2);
+      phase = is-stage (r .phase) (first .2);
       more = first .3;
-      lengths = place .0;
-      place = place .1;
-      before-last = ltb-true (r .staging .stage) (r .staging .stages) (place .2);
-      finite = second .1;
+      lengths = second .0;
+      place = second .1;
+      finite = second .2;
     }
 
 -- ---- the reply
@@ -68,7 +68,7 @@ awaits : (r : Record) → r .phase ≡ P.Stage → good-stage (r .family) (r .st
 unfolding awaiting pending in-range
 awaits r e g = ap (λ (p : Phase). pending p && in-range p r) e ∙ g
 
-pub counts-one : (k : ℕ) → room k ≡ true → k < 2 ^ 64 - 1
+counts-one : (k : ℕ) → room k ≡ true → k < 2 ^ 64 - 1
 unfolding room
 counts-one k e = ltb-true k (2 ^ 64 - 1) e
 
@@ -76,12 +76,65 @@ roomy : (p : Phase) (c : Counters) → p ≡ P.Stage → room (c .evaluations) �
 unfolding has-room finishes
 roomy p c e h = ap (λ (p : Phase). has-room p c) e ∙ ap (λ (b : Bool). b && true) h
 
-pub goes : (r : Record) (c : Counters) (area d : List Float) (g : Staging) (left : List Float) → Passed r c area d
-    → length left ≡ vector-count (family-of (r .family)) * r .n → Steps (take-stage r (unpack (r .n) area) d) (asked-at g r) (unpack (r .n) left)
-    → Meets (reply (holding r c area) d) (asked-at g r .answer) (asked-at g r .«record») (one-more c) left
-unfolding reply reply-tests replied counted
-goes r c area d g left p h t =
+-- whatever it comes to, it counts as one evaluation
+counts-as : (x : Staged) (r : Record) (c : Counters) → one-more c ≡ counted (outcome-of x r .answer) c
+unfolding outcome-of counted
+counts-as Elsewhere r c = refl
+counts-as (On t g) r c = refl
+counts-as (Ended t) r c = refl
+counts-as NotFinite r c = refl
+
+pub goes : (r : Record) (c : Counters) (area d : List Float) (x : Staged) (left : List Float) → Passed r c area d
+    → length left ≡ vector-count (family-of (r .family)) * r .n → Steps (take-stage r (unpack (r .n) area) d) (outcome-of x r) (unpack (r .n) left)
+    → Meets (reply (holding r c area) d) (outcome-of x r .answer) (outcome-of x r .«record») (one-more c) left
+unfolding reply reply-tests replied
+goes r c area d x left p h t =
     let ts = reply-tests r c area d in
     let each : Passing ts = (p .family, (p .size, (p .lengths, (awaits r (p .phase) (p .place), (roomy (r .phase) c (p .phase) (p .more), tt))))) in
-    admitted-meets _ _ (admits ts each)
-    (settles _ (family-of (r .family)) (r .n) left (p .finite) h (as-step (sym (ap (λ (q : Phase). replied q r (unpack (r .n) area) d) (p .phase))) t) refl)
+    let step = as-step (sym (ap (λ (q : Phase). replied q r (unpack (r .n) area) d) (p .phase))) t in
+    admitted-meets _ _ (admits ts each) (settles _ (family-of (r .family)) (r .n) left (p .finite) h step (counts-as x r c))
+
+-- ---- for the call over both
+
+module _ {promised : Called} {r : Record} {c : Counters} {area d left : List Float} {x : Staged} (w : Within promised r c area d x left) where
+  -- such a reply has room to be counted
+  pub has-one : of-stages x ≡ true → c .evaluations < 2 ^ 64 - 1
+  has-one e = counts-one _ (passed r c area d (sym (w .exactly) ∙ e) .more)
+
+  -- its outcome, written out
+  pub comes : (y : Staged) {z : Replied} {made : Record} → x ≡ y → of-stages y ≡ true
+      → z ≡ record { answer = outcome-of y r .answer; «record» = made; counters = one-more c } → made ≡ outcome-of y r .«record»
+      → Meets promised (z .answer) (z .«record») (z .counters) left
+  comes y {z} {made} e g q m =
+      let with-made : Record → Replied = λ u. record { answer = outcome-of y r .answer; «record» = u; counters = one-more c } in
+      subst (λ (u : Replied). Meets promised (u .answer) (u .«record») (u .counters) left) (sym (q ∙ ap with-made m))
+      (subst (λ (v : Staged). Within promised r c area d v left) e w .went g)
+
+  -- any other is not taken, of the area as it stands
+  pub left-over : of-stages x ≡ false → stage-taken r c left d ≡ false
+  left-over e = subst (λ (a : List Float). stage-taken r c a d ≡ false) (sym (w .stood e)) (sym (w .exactly) ∙ e)
+
+-- of an area that has been lent before, and stood
+pub still : (r : Record) (c : Counters) (d : List Float) {area lent left : List Float} {x : Replied} → lent ≡ area
+    → Meets (reply (holding r c lent) d) (x .answer) (x .«record») (x .counters) left → Meets (reply (holding r c area) d) (x .answer) (x .«record») (x .counters) left
+still r c d {left = left} {x} e m = subst (λ (a : List Float). Meets (reply (holding r c a) d) (x .answer) (x .«record») (x .counters) left) e m
+
+-- ---- a reply that is not taken within the stages, and that the call's own tests pass
+
+stage-passes : (r : Record) (c : Counters) (area d : List Float) → in-stages (r .phase) ≡ true → Passing (reply-tests r c area d) → all-finite d ≡ true
+    → stage-taken r c area d ≡ true
+unfolding stage-taken reply-tests awaiting has-room in-range
+stage-passes r c area d e p q =
+    let t = p .1 .1 in
+    let range = both (pending (r .phase)) (in-range (r .phase) r) (t .1 .0) .1 in
+    let place : in-range P.Stage r ≡ true = ap (λ (k : Phase). in-range k r) (sym (is-stage (r .phase) e)) ∙ range in
+    let more = both (room (c .evaluations)) _ (t .1 .1 .0) .0 in
+    ap₂ _&&_ (ap₂ _&&_ (ap₂ _&&_ (ap₂ _&&_ (p .0) (p .1 .0)) e) more) (ap₂ _&&_ (ap₂ _&&_ (t .0) place) q)
+
+not-so : (b : Bool) → (b ≡ true → ⊥) → b ≡ false
+not-so true n = absurd (n refl)
+not-so false n = refl
+
+pub elsewhere : (r : Record) (c : Counters) (area d : List Float) → stage-taken r c area d ≡ false → Passing (reply-tests r c area d) → all-finite d ≡ true
+    → in-stages (r .phase) ≡ false
+elsewhere r c area d z p q = not-so (in-stages (r .phase)) (λ e. false≢true (sym z ∙ stage-passes r c area d e p q))

@@ -1,6 +1,6 @@
 -- Steps in code are the steps of the definition: how one is put together from its parts, and what a call leaves of the area.
 use mathlib.Core.Path.{_≡_, refl, sym, ap, subst, _∙_}
-use mathlib.Core.Bool.{Bool, true, false, cond, _||_}
+use mathlib.Core.Bool.{Bool, true, false, cond, _||_, false≢true}
 use mathlib.Core.List.{List, [], _∷_}
 use Prim.Native.Nat.{ℕ, _+_, _*_, _≤_, _<_}
 use borrow.Author.Tests.{lt-ltb, le-ltb}
@@ -9,13 +9,13 @@ use denote.Enum.Declared.{tagOf}
 use lib.Dec.{eqb}
 use lib.ListN.{length}
 use lib.Ieee.{Float}
-use Rattle.ieee.specs.Double.{nought}
+use Rattle.ieee.specs.Double.{_⊕_, nought}
 use Rattle.family.specs.Family.{Family, family-of}
 use Rattle.coefficients.specs.declared.Coefficients.{Coefficients}
 use Rattle.coefficients.specs.declared.Recurrence.{Recurrence}
 use Rattle.coefficients.specs.Rows.{recurrence, coefficients, next}
 use Rattle.workspace.specs.declared.Arguments.{Arguments}
-use Rattle.workspace.specs.Vectors.{Vectors, unpack, vector-count}
+use Rattle.workspace.specs.Vectors.{Vectors, unpack, vector-count, all-finite, candidate}
 use Rattle.workspace.specs.Kernel.{with-direction, perturbation-of, turned, radius-of, ended, scaled, first-stage, with-row, exchanged, with-candidate}
 use Rattle.workspace.proofs.Areas.{packed}
 use Rattle.driver.specs.declared.Phase.{Phase}
@@ -25,7 +25,9 @@ use Rattle.driver.specs.declared.Next.{Next}
 use Rattle.driver.specs.declared.Need.the-variants.{Met}
 use Rattle.driver.specs.Calls.{Step, going-on, with-radius, at-pass, at-stage, ask-pass, ask-stage, by-need, begin-stages, take-first, take-pass, ask-candidate, take-stage, replied}
 use Rattle.driver.proofs.Phase as Phases
-use Rattle.driver.specs.Promises.{Keeps, Steps}
+use Rattle.driver.specs.declared.Staged.the-variants.{Ended, NotFinite}
+use Rattle.driver.specs.Promises.{Keeps, Steps, in-stages, outcome-of}
+use Rattle.driver.proofs.Ladder.{says}
 
 -- what a call leaves, from its step
 pub keeps : (f : Family) (n : ℕ) {s : Step} {x : Next} (left : List Float) → length left ≡ vector-count f * n → Steps s x (unpack n left) → Keeps (λ c. going-on c s) x left
@@ -137,14 +139,24 @@ module _ (r : Record) (v : Vectors) (d : List Float) where
       ∙ sym (ap staged (le-ltb (r .staging .stage) (r .staging .stages) h)))
       t
 
--- the phases that a reply takes alike: those of these positions among the variants
-pub alike : (p : Phase) → OneOf (0 ∷ 1 ∷ 2 ∷ 6 ∷ []) (tagOf Phases.the-type p) → take-first ≡ replied p
-unfolding replied
-alike P.Empty k = refl
-alike P.First k = refl
-alike P.Ready k = refl
-alike P.Pass k = absurd (miss (0 ∷ 1 ∷ 2 ∷ 6 ∷ []) 3 tt k)
-alike P.Stage k = absurd (miss (0 ∷ 1 ∷ 2 ∷ 6 ∷ []) 4 tt k)
-alike P.Candidate k = absurd (miss (0 ∷ 1 ∷ 2 ∷ 6 ∷ []) 5 tt k)
-alike P.Finished k = refl
-alike P.Callback k = absurd (miss (0 ∷ 1 ∷ 2 ∷ 6 ∷ []) 7 tt k)
+-- after it: the candidate, by its test
+pub candidate-asked : (r : Record) (v : Vectors) {b : Bool} → b ≡ all-finite (v candidate) → b ≡ true
+    → Steps (ask-candidate r v) (outcome-of (Ended (r .arguments .time ⊕ r .arguments .step)) r) v
+unfolding ask-candidate outcome-of
+candidate-asked r v e t = rw (sym e ∙ t) (record { answer = says refl; kept = refl; vectors = refl })
+
+pub candidate-refused : (r : Record) (v : Vectors) {b : Bool} → b ≡ all-finite (v candidate) → b ≡ false → Steps (ask-candidate r v) (outcome-of NotFinite r) v
+unfolding ask-candidate outcome-of
+candidate-refused r v e t = rw (sym e ∙ t) (record { answer = says refl; kept = refl; vectors = refl })
+
+-- the phases that a reply outside the stages takes alike: those of these positions among the variants
+pub alike : (p : Phase) → in-stages p ≡ false → OneOf (0 ∷ 1 ∷ 2 ∷ 4 ∷ 6 ∷ []) (tagOf Phases.the-type p) → take-first ≡ replied p
+unfolding replied in-stages
+alike P.Empty n k = refl
+alike P.First n k = refl
+alike P.Ready n k = refl
+alike P.Pass n k = absurd (miss (0 ∷ 1 ∷ 2 ∷ 4 ∷ 6 ∷ []) 3 tt k)
+alike P.Stage n k = absurd (false≢true (sym n))
+alike P.Candidate n k = absurd (miss (0 ∷ 1 ∷ 2 ∷ 4 ∷ 6 ∷ []) 5 tt k)
+alike P.Finished n k = refl
+alike P.Callback n k = absurd (miss (0 ∷ 1 ∷ 2 ∷ 4 ∷ 6 ∷ []) 7 tt k)

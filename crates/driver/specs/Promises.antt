@@ -3,12 +3,11 @@ use Prim.Native.Nat.{ℕ}
 use mathlib.Core.Path.{_≡_}
 use mathlib.Core.Bool.{Bool, true, false, _&&_}
 use mathlib.Core.List.{List}
-use lib.Dec.{ltb}
 use lib.Ieee.{Float}
-use Rattle.ieee.specs.Double.{_⊕_, _⊗_, nought}
+use Rattle.ieee.specs.Double.{nought}
 use Rattle.family.specs.Family.{known}
 use Rattle.workspace.specs.declared.Arguments.{Arguments}
-use Rattle.workspace.specs.Vectors.{Vectors, number, all-finite, previous-one}
+use Rattle.workspace.specs.Vectors.{Vectors, number, all-finite, previous-one, candidate}
 use Rattle.coefficients.specs.declared.Polynomials.{Polynomials}
 use Rattle.coefficients.specs.declared.Recurrence.{Recurrence}
 use Rattle.driver.specs.declared.Phase.{Phase}
@@ -18,12 +17,13 @@ use Rattle.driver.specs.declared.Staging.{Staging}
 use Rattle.driver.specs.declared.Record.{Record}
 use Rattle.driver.specs.declared.Counters.{Counters}
 use Rattle.driver.specs.declared.Answer.{Answer}
-use Rattle.driver.specs.declared.Answer.the-variants.{Evaluate, Refused}
+use Rattle.driver.specs.declared.Answer.the-variants.{Evaluate, Refused, Empty}
 use Rattle.driver.specs.declared.Next.{Next}
 use Rattle.driver.specs.declared.Replied.{Replied}
-use Rattle.driver.specs.declared.Onward.{Onward}
+use Rattle.driver.specs.declared.Staged.{Staged}
+use Rattle.driver.specs.declared.Staged.the-variants.{Elsewhere, On, Ended, NotFinite}
 use Rattle.driver.specs.Answers.{Says}
-use Rattle.driver.specs.Calls.{Held, Called, Step, at-stage, sized, whole-area, as-long, good-stage, room}
+use Rattle.driver.specs.Calls.{Held, Called, Step, in-phase, at-stage, sized, whole-area, as-long, good-stage, room, one-more}
 
 -- what a call is handed
 abbrev pub holding : Record → Counters → List Float → Held
@@ -53,11 +53,7 @@ pub record Steps (promised : Step) (x : Next) (left : Vectors) : Type 0 where
   pub kept : x .«record» ≡ promised .kept
   pub vectors : left ≡ promised .vectors
 
--- the next stage is asked for, from this position
-abbrev pub asked-at : Staging → Record → Next
-asked-at g r = record { answer = Evaluate (r .arguments .time ⊕ r .arguments .step ⊗ g .recurrence .«theta_previous») (number previous-one); «record» = at-stage (g .stages) (g .stage) (g .recurrence) r }
-
--- ---- a reply that is tried: does it pass every test and bring the derivative of a stage before the last?
+-- ---- a reply to a stage's evaluation: does it pass every test and bring the derivative of a stage?
 
 unfoldable pub in-stages : Phase → Bool
 in-stages P.Empty = false
@@ -69,24 +65,30 @@ in-stages P.Candidate = false
 in-stages P.Finished = false
 in-stages P.Callback = false
 
-unfoldable pub goes-on : Record → Counters → List Float → List Float → Bool
-goes-on r c area d =
+unfoldable pub stage-taken : Record → Counters → List Float → List Float → Bool
+stage-taken r c area d =
     (((known (r .family) && sized (r .n)) && in-stages (r .phase)) && room (c .evaluations))
-    && ((((whole-area (r .family) (r .n) area && as-long (r .n) d) && good-stage (r .family) (r .staging .stages) (r .staging .stage))
-    && ltb (r .staging .stage) (r .staging .stages)) && all-finite d)
+    && (((whole-area (r .family) (r .n) area && as-long (r .n) d) && good-stage (r .family) (r .staging .stages) (r .staging .stage)) && all-finite d)
 
--- handed back where it does not
-abbrev pub stays : Record → Counters → Onward
-stays r c = record { went = false; time = nought; evaluations = c .evaluations; staging = r .staging }
+-- whether what is handed back is of such a reply
+unfoldable pub of-stages : Staged → Bool
+of-stages Elsewhere = false
+of-stages (On t g) = true
+of-stages (Ended t) = true
+of-stages NotFinite = true
 
--- where it does, what is handed back is the call's own outcome, the next stage being asked for; else nothing is written
-pub record Goes-on (promised : Called) (r : Record) (c : Counters) (area d : List Float) (x : Onward) (left : List Float) : Type 0 where
-  pub exactly : x .went ≡ goes-on r c area d
-  pub went : x .went ≡ true
-      → Meets promised (Evaluate (x .time) (number previous-one)) (at-stage (x .staging .stages) (x .staging .stage) (x .staging .recurrence) r)
-      (record { evaluations = x .evaluations; «finished_attempts» = c .«finished_attempts» }) left
-  pub stayed : x .went ≡ false → x ≡ stays r c
-  pub stood : x .went ≡ false → left ≡ area
+-- the answer that it stands for, and the record (of Elsewhere nothing is said)
+unfoldable pub outcome-of : Staged → Record → Next
+outcome-of Elsewhere r = record { answer = Empty; «record» = r }
+outcome-of (On t g) r = record { answer = Evaluate t (number previous-one); «record» = at-stage (g .stages) (g .stage) (g .recurrence) r }
+outcome-of (Ended t) r = record { answer = Evaluate t (number candidate); «record» = in-phase P.Candidate r }
+outcome-of NotFinite r = record { answer = Refused 10; «record» = in-phase P.Empty r }
+
+-- where it is such a reply, what is handed back stands for the call's own outcome; else nothing is written
+pub record Within (promised : Called) (r : Record) (c : Counters) (area d : List Float) (x : Staged) (left : List Float) : Type 0 where
+  pub exactly : of-stages x ≡ stage-taken r c area d
+  pub went : of-stages x ≡ true → Meets promised (outcome-of x r .answer) (outcome-of x r .«record») (one-more c) left
+  pub stood : of-stages x ≡ false → left ≡ area
 
 -- ---- a record that was never started: it is refused by every call but start (its family is none)
 

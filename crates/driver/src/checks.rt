@@ -4,7 +4,7 @@ ghost use mathlib.Core.Bool.{_&&_};
 ghost use Prim.Native.Nat.{_≤_};
 ghost use Rattle.family.specs.Family as families;
 ghost use Rattle.driver.specs.Calls as calls;
-ghost use Rattle.driver.specs.Promises.{in-stages, goes-on};
+ghost use Rattle.driver.specs.Promises.{in-stages, stage-taken};
 use crate::Counters;
 use crate::Phase;
 use crate::Record;
@@ -222,16 +222,13 @@ fn in_stages(phase: Phase) -> bool
     }
 }
 
-// Whether a reply passes every test and brings the derivative of a stage before the last. Two rounds of tests without
-// branches between them: after one branch a test the compiler takes what follows to be rare, and calls it instead of
-// compiling it in place.
-pub fn goes_on(record: Record, counters: Counters, area: &[f64], derivative: &[f64]) -> bool
-    ensures { λ r. ⌜ r ≡ goes-on «record» counters (now (area .entry)) (now (derivative .entry)) ⌝ }
+// Whether a reply passes every test and brings the derivative of a stage. Two rounds of tests without branches between
+// them: after one branch a test the compiler takes what follows to be rare, and calls it instead of compiling it in place.
+pub fn stage_taken(record: Record, counters: Counters, area: &[f64], derivative: &[f64]) -> bool
+    ensures { λ r. ⌜ r ≡ stage-taken «record» counters (now (area .entry)) (now (derivative .entry)) ⌝ }
 {
     let phase = record.phase;
     let n = record.n;
-    let s = record.staging.stages;
-    let j = record.staging.stage;
     let family = known(record.family);
     let size = sized(n);
     let stages = in_stages(phase);
@@ -241,8 +238,8 @@ pub fn goes_on(record: Record, counters: Counters, area: &[f64], derivative: &[f
         return false;
     }
     let lengths = both_long(record.family, n, area, derivative);
-    let place = good_stage(record.family, s, j);
-    let second = lengths & place & (j < s);
+    let place = good_stage(record.family, record.staging.stages, record.staging.stage);
+    let second = lengths & place;
     if !second {
         return false;
     }

@@ -1,12 +1,13 @@
 // driver.rs: the six calls. A record goes in by value and comes back by value; the area and the inputs
 // are slices; no call requires anything of its caller.
 ghost use mathlib.Core.Path.{_≡_};
+ghost use mathlib.Core.Bool.{false};
 ghost use Prim.Native.Nat.{_<_, _-_, _^_};
 ghost use Rattle.driver.specs.declared.Phase.the-variants as P;
 ghost use Rattle.driver.specs.declared.Answer.the-variants.{Refused};
 ghost use Rattle.driver.specs.Answers.{case-number};
 ghost use Rattle.driver.specs.Calls as calls;
-ghost use Rattle.driver.specs.Promises.{Meets, Keeps, Goes-on, holding, refusal, turned-away, new-record, no-recurrence};
+ghost use Rattle.driver.specs.Promises.{Meets, Keeps, Within, holding, stage-taken, refusal, turned-away, new-record, no-recurrence};
 use coefficients::Polynomials;
 use coefficients::Recurrence;
 use workspace::Arguments;
@@ -84,13 +85,13 @@ pub struct Replied {
     pub counters: Counters,
 }
 
-// What a reply within the stages comes to, where it does: the time and the position of the evaluation that it asks for,
-// and the evaluations so far.
-pub struct Onward {
-    pub went: bool,
-    pub time: f64,
-    pub evaluations: u64,
-    pub staging: Staging,
+// What a reply to a stage's evaluation comes to: the next stage's evaluation at this time and position; after stage s the
+// candidate's at this time, or a candidate that is not finite. Elsewhere: the reply is none to a stage, or a test refuses it.
+pub enum Staged {
+    Elsewhere,
+    On { time: f64, staging: Staging },
+    Ended { time: f64 },
+    NotFinite,
 }
 
 // How many stages an attempt runs, or the number that its stage need is refused with.
@@ -243,22 +244,52 @@ fn turned_away(record: Record, counters: Counters, number: u64) -> Replied
     }
 }
 
+// A reply that counts as an evaluation and finishes no attempt.
+fn evaluated_with(answer: Answer, record: Record, counters: Counters) -> Replied
+    requires { ⌜ counters .evaluations < 2 ^ 64 - 1 ⌝ }
+    ensures { λ r. ⌜ r ≡ record { answer = answer; «record» = «record»; counters = calls.one-more counters } ⌝ }
+{
+    let more = evaluated(counters);
+    Replied {
+        answer,
+        record,
+        counters: more,
+    }
+}
+
 // A derivative that is not finite: counted and not written.
 fn spoiled(record: Record, counters: Counters) -> Replied
     requires { ⌜ counters .evaluations < 2 ^ 64 - 1 ⌝ }
     ensures { λ r. ⌜ r ≡ record { answer = Refused 9; «record» = calls.in-phase P.Empty «record»; counters = calls.one-more counters } ⌝ }
 {
     let empty = position::in_phase(record, Phase::Empty);
-    let more = evaluated(counters);
-    Replied {
-        answer: Answer::Refused(9),
-        record: empty,
-        counters: more,
-    }
+    evaluated_with(Answer::Refused(9), empty, counters)
 }
 
-// Brings the derivative that was asked for.
-pub fn reply(record: Record, counters: Counters, area: &mut [f64], derivative: &[f64]) -> Replied
+// A reply to a stage's evaluation that passes every test, for a caller that keeps the record where it is: what is handed
+// back is what changes. Elsewhere nothing is written.
+pub fn reply_in_stages(
+    record: Record,
+    counters: Counters,
+    area: &mut [f64],
+    derivative: &[f64],
+) -> Staged
+    ensures { λ r. ⌜ Within (calls.reply (holding «record» counters (now (area .entry))) (now (derivative .entry))) «record» counters (now (area .entry)) (now (derivative .entry)) r (now (area .exit)) ⌝ }
+{
+    if !checks::stage_taken(record, counters, area, derivative) {
+        return Staged::Elsewhere;
+    }
+    replies::take_stage(record, area, derivative)
+}
+
+// Every other reply.
+pub fn reply_elsewhere(
+    record: Record,
+    counters: Counters,
+    area: &mut [f64],
+    derivative: &[f64],
+) -> Replied
+    requires { ⌜ stage-taken «record» counters (now area) (now derivative) ≡ false ⌝ }
     ensures { λ r. ⌜ Meets (calls.reply (holding «record» counters (now (area .entry))) (now (derivative .entry))) (r .answer) (r .«record») (r .counters) (now (area .exit)) ⌝ }
 {
     let cause = causes::of_reply(record, counters, area, derivative);
@@ -279,28 +310,28 @@ pub fn reply(record: Record, counters: Counters, area: &mut [f64], derivative: &
     }
 }
 
-// The commonest reply, for a caller to try before `reply`: the derivative of a stage before the last, where no test fails.
-// It hands back the parts that change, so that the record is not copied. Where it does not go on, nothing is written.
-pub fn stage_on(record: Record, counters: Counters, area: &mut [f64], derivative: &[f64]) -> Onward
-    ensures { λ r. ⌜ Goes-on (calls.reply (holding «record» counters (now (area .entry))) (now (derivative .entry))) «record» counters (now (area .entry)) (now (derivative .entry)) r (now (area .exit)) ⌝ }
+// Brings the derivative that was asked for.
+pub fn reply(record: Record, counters: Counters, area: &mut [f64], derivative: &[f64]) -> Replied
+    ensures { λ r. ⌜ Meets (calls.reply (holding «record» counters (now (area .entry))) (now (derivative .entry))) (r .answer) (r .«record») (r .counters) (now (area .exit)) ⌝ }
 {
-    if !checks::goes_on(record, counters, area, derivative) {
-        let staging = record.staging;
-        return Onward {
-            went: false,
-            time: 0.0,
-            evaluations: counters.evaluations,
-            staging,
-        };
-    }
-    let staging = replies::next_stage(record, area, derivative);
-    let time = record.arguments.time + record.arguments.step * staging.recurrence.theta_previous;
-    let evaluations = counters.evaluations + 1;
-    Onward {
-        went: true,
-        time,
-        evaluations,
-        staging,
+    let staged = reply_in_stages(record, counters, area, derivative);
+    match staged {
+        Staged::Elsewhere => reply_elsewhere(record, counters, area, derivative),
+        Staged::On { time, staging } => {
+            let recurrence = staging.recurrence;
+            let on = position::at_stage(record, staging.stages, staging.stage, recurrence);
+            let vector = workspace::PREVIOUS_ONE;
+            evaluated_with(Answer::Evaluate { time, vector }, on, counters)
+        }
+        Staged::Ended { time } => {
+            let asked = position::in_phase(record, Phase::Candidate);
+            let vector = workspace::CANDIDATE;
+            evaluated_with(Answer::Evaluate { time, vector }, asked, counters)
+        }
+        Staged::NotFinite => {
+            let empty = position::in_phase(record, Phase::Empty);
+            evaluated_with(Answer::Refused(10), empty, counters)
+        }
     }
 }
 

@@ -1,6 +1,6 @@
 // A derivative that no test up to 9 turns away: what it does in each phase, and what is asked next.
 ghost use mathlib.Core.Path.{_≡_};
-ghost use mathlib.Core.Bool.{true, _||_};
+ghost use mathlib.Core.Bool.{true, false, _||_};
 ghost use Prim.Native.Nat.{_+_, _*_, _≤_, _<_, _^_};
 ghost use lib.Dec.{eqb};
 ghost use lib.ListN.{length};
@@ -9,12 +9,13 @@ ghost use Rattle.workspace.specs.Vectors.{Vectors, unpack, eigenvector, vector-
 ghost use Rattle.workspace.specs.Kernel.{ended};
 ghost use Rattle.driver.specs.declared.Need as need;
 ghost use Rattle.driver.specs.Calls as calls;
-ghost use Rattle.driver.specs.Promises.{Steps, asked-at};
+ghost use Rattle.driver.specs.Promises.{Steps, in-stages, of-stages, outcome-of};
 use crate::Answer;
 use crate::Need;
 use crate::Next;
 use crate::Phase;
 use crate::Record;
+use crate::Staged;
 use crate::Staging;
 use crate::position;
 
@@ -148,34 +149,14 @@ pub fn take_pass(record: Record, area: &mut [f64], derivative: &[f64]) -> Next
     ask_pass(on, area, norm)
 }
 
-// The vectors stand.
-fn ask_candidate(record: Record, area: &[f64]) -> Next
-    requires { ⌜ 11 * «record» .n ≤ length (now area) ⌝ }
-    ensures { λ r. ⌜ Steps (calls.ask-candidate «record» (unpack («record» .n) (now (area .entry)))) r (unpack («record» .n) (now (area .entry))) ⌝ }
-{
-    let n = record.n;
-    if workspace::finite_vector(area, n, workspace::CANDIDATE) {
-        let time = record.arguments.time + record.arguments.step;
-        let vector = workspace::CANDIDATE;
-        let answer = Answer::Evaluate { time, vector };
-        let asked = position::in_phase(record, Phase::Candidate);
-        return Next {
-            answer,
-            record: asked,
-        };
-    }
-    let empty = position::in_phase(record, Phase::Empty);
-    Next {
-        answer: Answer::Refused(10),
-        record: empty,
-    }
-}
-
-pub fn take_stage(record: Record, area: &mut [f64], derivative: &[f64]) -> Next
+// A stage's derivative: on to the next stage, or after stage s to the candidate. The only caller of the rows, so that they
+// are compiled in place.
+pub fn take_stage(record: Record, area: &mut [f64], derivative: &[f64]) -> Staged
     requires { ⌜ 11 * «record» .n ≤ length (now area) ⌝ }
     requires { ⌜ length (now derivative) ≡ «record» .n ⌝ }
     requires { ⌜ (2 ≤ «record» .staging .stage) × («record» .staging .stage + 1 < 2 ^ 32) ⌝ }
-    ensures { λ r. ⌜ Steps (calls.take-stage «record» (unpack («record» .n) (now (area .entry))) (now (derivative .entry))) r (unpack («record» .n) (now (area .exit))) ⌝ }
+    ensures { λ r. ⌜ of-stages r ≡ true ⌝ }
+    ensures { λ r. ⌜ Steps (calls.take-stage «record» (unpack («record» .n) (now (area .entry))) (now (derivative .entry))) (outcome-of r «record») (unpack («record» .n) (now (area .exit))) ⌝ }
 {
     let n = record.n;
     let family = record.family;
@@ -183,44 +164,26 @@ pub fn take_stage(record: Record, area: &mut [f64], derivative: &[f64]) -> Next
     let s = record.staging.stages;
     let j = record.staging.stage;
     let c = record.staging.recurrence;
-    let row = coefficients::row_coefficients(family, s, j, c);
+    let advance = coefficients::row_and_recurrence(family, s, j, c);
+    let row = advance.row;
     if j < s {
         workspace::row_and_exchange(area, n, family, row, step, derivative);
-        let next = coefficients::next_recurrence(family, s, c, row);
-        let on = position::at_stage(record, s, j + 1, next);
-        return ask_stage(on);
+        let recurrence = advance.after;
+        let time = record.arguments.time + step * recurrence.theta_previous;
+        let staging = Staging {
+            stages: s,
+            stage: j + 1,
+            recurrence,
+        };
+        return Staged::On { time, staging };
     }
     workspace::row(area, n, family, row, step, derivative);
     workspace::keep_candidate(area, n);
-    ask_candidate(record, area)
-}
-
-// A stage before the last: the position after it. The answer, and the rest of the record, follow from that.
-pub fn next_stage(record: Record, area: &mut [f64], derivative: &[f64]) -> Staging
-    requires { ⌜ 11 * «record» .n ≤ length (now area) ⌝ }
-    requires { ⌜ length (now derivative) ≡ «record» .n ⌝ }
-    requires { ⌜ (2 ≤ «record» .staging .stage) × («record» .staging .stage < «record» .staging .stages) ⌝ }
-    requires { ⌜ «record» .staging .stage + 1 < 2 ^ 32 ⌝ }
-    ensures { λ r. ⌜ Steps (calls.take-stage «record» (unpack («record» .n) (now (area .entry))) (now (derivative .entry))) (asked-at r «record») (unpack («record» .n) (now (area .exit))) ⌝ }
-{
-    let s = record.staging.stages;
-    let j = record.staging.stage;
-    let c = record.staging.recurrence;
-    let row = coefficients::row_coefficients(record.family, s, j, c);
-    workspace::row_and_exchange(
-        area,
-        record.n,
-        record.family,
-        row,
-        record.arguments.step,
-        derivative,
-    );
-    let recurrence = coefficients::next_recurrence(record.family, s, c, row);
-    Staging {
-        stages: s,
-        stage: j + 1,
-        recurrence,
+    if workspace::finite_vector(area, n, workspace::CANDIDATE) {
+        let time = record.arguments.time + step;
+        return Staged::Ended { time };
     }
+    Staged::NotFinite
 }
 
 pub fn take_candidate(record: Record, area: &mut [f64], derivative: &[f64]) -> Next
@@ -239,17 +202,17 @@ pub fn take_candidate(record: Record, area: &mut [f64], derivative: &[f64]) -> N
     }
 }
 
-// By the phase. Those with no evaluation pending are turned away before.
+// By the phase. The stages are `take_stage`'s, and a phase with no evaluation pending is turned away before.
 pub fn replied(record: Record, area: &mut [f64], derivative: &[f64]) -> Next
     requires { ⌜ 11 * «record» .n ≤ length (now area) ⌝ }
     requires { ⌜ length (now derivative) ≡ «record» .n ⌝ }
     requires { ⌜ calls.in-range («record» .phase) «record» ≡ true ⌝ }
+    requires { ⌜ in-stages («record» .phase) ≡ false ⌝ }
     ensures { λ r. ⌜ Steps (calls.replied («record» .phase) «record» (unpack («record» .n) (now (area .entry))) (now (derivative .entry))) r (unpack («record» .n) (now (area .exit))) ⌝ }
 {
     let phase = record.phase;
     match phase {
         Phase::Pass => take_pass(record, area, derivative),
-        Phase::Stage => take_stage(record, area, derivative),
         Phase::Candidate => take_candidate(record, area, derivative),
         Phase::Callback => take_callback(record, area, derivative),
         _ => take_first(record, area, derivative),

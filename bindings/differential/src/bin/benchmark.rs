@@ -1,8 +1,11 @@
-//! Times an attempt of the engine against the same attempt of the Rust: same model, same inputs, same run, in turns.
+//! Times an attempt of the engine, called from C and from Rust, against the same attempt of the Rust: same model, same
+//! inputs, same run, in turns.
 //!
-//! The model is a rod of n cells. An attempt is made again and again from the same state, as after a rejection. Each time
-//! is the least of many rounds. The model's share is the time of its evaluations alone over the Rust's attempt.
+//! The model is a rod of n cells, in C and in Rust. An attempt is made again and again from the same state, as after a
+//! rejection. Each time is the least of many rounds. The model's share is the time of its evaluations alone over the
+//! Rust's attempt.
 use oracle::{Arguments, Oracle};
+use stabilized::calls::{Answer, Record, VECTORS};
 use stabilized::{Attempt, Family, Stepper};
 use std::hint::black_box;
 use std::time::{Duration, Instant};
@@ -19,6 +22,47 @@ fn rod(rate: f64, derivative: &mut [f64], state: &[f64]) {
     }
 }
 
+/// The caller in C, bindings/c/benchmark.c: the model, and what it lends to the engine.
+#[repr(C)]
+struct Rod {
+    rate: f64,
+    n: usize,
+    record: Record,
+    evaluations: u64,
+    attempts: u64,
+    area: *mut f64,
+    derivative: *mut f64,
+}
+
+unsafe extern "C" {
+    fn rod_start(rod: *mut Rod, family: u64, state: *const f64) -> Answer;
+    fn rod_attempt(rod: *mut Rod, step: f64, absolute: f64, relative: f64) -> Answer;
+}
+
+/// An attempt from C, again and again: the error norm.
+fn from_c(family: Family, state: &[f64], rate: f64, attempt: Attempt) -> impl FnMut() -> f64 {
+    let n = state.len();
+    let mut rod = Rod {
+        rate,
+        n,
+        record: Record::default(),
+        evaluations: 0,
+        attempts: 0,
+        area: vec![0.0; VECTORS * n].leak().as_mut_ptr(),
+        derivative: vec![0.0; n].leak().as_mut_ptr(),
+    };
+    // SAFETY: the rod is lent alone, and its vectors are its own, of the lengths that benchmark.c takes.
+    unsafe { rod_start(&mut rod, family as u64, state.as_ptr()) };
+    let Attempt {
+        step,
+        absolute_tolerance: absolute,
+        relative_tolerance: relative,
+        ..
+    } = attempt;
+    // SAFETY: as before.
+    move || unsafe { rod_attempt(&mut rod, black_box(step), absolute, relative) }.value
+}
+
 /// Nanoseconds a turn, over turns that fill a round.
 fn timed(turns: u32, mut work: impl FnMut()) -> f64 {
     let begin = Instant::now();
@@ -31,7 +75,8 @@ fn timed(turns: u32, mut work: impl FnMut()) -> f64 {
 struct Times {
     stages: u64,
     passes: u64,
-    engine: f64,
+    from_c: f64,
+    from_rust: f64,
     rust: f64,
     model: f64,
 }
@@ -59,18 +104,20 @@ fn times(family: Family, n: usize, rate: f64, step: f64) -> Times {
         relative_tolerance: attempt.relative_tolerance,
         adaptive: attempt.adaptive,
     };
+    let mut c = from_c(family, &state, rate, attempt);
     for _ in 0..20 {
         let ours = engine.attempt(attempt).expect("a finished attempt");
         let theirs = rust.attempt(arguments, &rhs).expect("a finished attempt");
         assert_eq!(ours.to_bits(), theirs.to_bits());
+        assert_eq!(c().to_bits(), theirs.to_bits());
     }
     let record = engine.record();
-    let (stages, passes) = (record.staging.stages, record.iteration.pass);
+    let (stages, passes) = (record.wholes.stages, record.wholes.pass);
     let once = timed(10, || {
         black_box(rust.attempt(arguments, &rhs).ok());
     });
     let turns = (ROUND.as_nanos() as f64 / once).max(1.0) as u32;
-    let mut least = [f64::INFINITY; 3];
+    let mut least = [f64::INFINITY; 4];
     let mut derivative = vec![0.0; n];
     for _ in 0..ROUNDS {
         least[0] = least[0].min(timed(turns, || {
@@ -84,13 +131,17 @@ fn times(family: Family, n: usize, rate: f64, step: f64) -> Times {
                 rod(rate, black_box(&mut derivative), black_box(&state));
             }
         }));
+        least[3] = least[3].min(timed(turns, || {
+            black_box(c());
+        }));
     }
     Times {
         stages,
         passes,
-        engine: least[0],
+        from_rust: least[0],
         rust: least[1],
         model: least[2],
+        from_c: least[3],
     }
 }
 
@@ -101,8 +152,10 @@ fn rate(n: usize, scaled_radius: f64) -> f64 {
 }
 
 fn main() {
-    println!("| family | n | s | k | engine, µs | Rust, µs | engine/Rust | model/Rust |");
-    println!("|---|---|---|---|---|---|---|---|");
+    println!(
+        "| family | n | s | k | from C, µs | from Rust, µs | the Rust, µs | C/Rust | Rust/Rust | model/Rust |"
+    );
+    println!("|---|---|---|---|---|---|---|---|---|---|");
     // Each family with the scaled radius of its largest count.
     for (family, largest) in [
         (Family::Rkc, 25_700.0),
@@ -115,13 +168,15 @@ fn main() {
             for scaled_radius in [0.5, largest] {
                 let t = times(family, n, rate(n, scaled_radius), 1.0);
                 println!(
-                    "| {} | {n} | {} | {} | {:.2} | {:.2} | {:.2} | {:.2} |",
+                    "| {} | {n} | {} | {} | {:.2} | {:.2} | {:.2} | {:.2} | {:.2} | {:.2} |",
                     oracle::name(family as u64),
                     t.stages,
                     t.passes,
-                    t.engine / 1000.0,
+                    t.from_c / 1000.0,
+                    t.from_rust / 1000.0,
                     t.rust / 1000.0,
-                    t.engine / t.rust,
+                    t.from_c / t.rust,
+                    t.from_rust / t.rust,
                     t.model / t.rust
                 );
             }

@@ -9,26 +9,26 @@ use Rattle.coefficients.proofs.row_coefficients.Tie as tie
 row-requires : tie.Need-row-requires
 row-requires c κs = search needs
 
-omega-one-requires : tie.Need-omega-one-requires
-omega-one-requires c κs = search needs
+legendre-one-omega-requires : tie.Need-legendre-one-omega-requires
+legendre-one-omega-requires c κs = search needs
 
 legendre-one-requires : tie.Need-legendre-one-requires
 legendre-one-requires c κs = search needs
 
-omega-one-requires-2 : tie.Need-omega-one-requires-2
-omega-one-requires-2 c κs = search needs
+legendre-two-omega-requires : tie.Need-legendre-two-omega-requires
+legendre-two-omega-requires c κs = search needs
 
 legendre-two-requires : tie.Need-legendre-two-requires
 legendre-two-requires c κs = search needs
 
-omega-one-requires-3 : tie.Need-omega-one-requires-3
-omega-one-requires-3 c κs = search needs
+gegenbauer-one-omega-requires : tie.Need-gegenbauer-one-omega-requires
+gegenbauer-one-omega-requires c κs = search needs
 
 gegenbauer-one-requires : tie.Need-gegenbauer-one-requires
 gegenbauer-one-requires c κs = search needs
 
-omega-one-requires-4 : tie.Need-omega-one-requires-4
-omega-one-requires-4 c κs = search needs
+gegenbauer-two-omega-requires : tie.Need-gegenbauer-two-omega-requires
+gegenbauer-two-omega-requires c κs = search needs
 
 gegenbauer-two-requires : tie.Need-gegenbauer-two-requires
 gegenbauer-two-requires c κs = search needs
@@ -39,32 +39,32 @@ returns c = rw (c .row .ensures, c .before .match .keys1)
 
 returns-2 : tie.Need-returns-2
 unfolding coefficients-of family-of
-returns-2 c = rw (c .legendre-one .ensures, c .before .omega-one .ensures, c .before .before .match .keys2)
+returns-2 c = rw (c .legendre-one .ensures, c .before .legendre-one-omega .ensures, c .before .before .match .keys2)
 
 returns-3 : tie.Need-returns-3
 unfolding coefficients-of family-of
-returns-3 c = rw (c .legendre-two .ensures, c .before .omega-one2 .ensures, c .before .before .match .keys3)
+returns-3 c = rw (c .legendre-two .ensures, c .before .legendre-two-omega .ensures, c .before .before .match .keys3)
 
 returns-4 : tie.Need-returns-4
 unfolding coefficients-of family-of
-returns-4 c = rw (c .gegenbauer-one .ensures, c .before .omega-one3 .ensures, c .before .before .match .keys4)
+returns-4 c = rw (c .gegenbauer-one .ensures, c .before .gegenbauer-one-omega .ensures, c .before .before .match .keys4)
 
 returns-5 : tie.Need-returns-5
 unfolding coefficients-of
-returns-5 c = let r = c .before .before .match .rest in rw (c .gegenbauer-two .ensures, c .before .omega-one4 .ensures, last-family _ (r .0 .0 .0 .1) (r .0 .0 .1) (r .0 .1) (r .1))
+returns-5 c = let r = c .before .before .match .rest in rw (c .gegenbauer-two .ensures, c .before .gegenbauer-two-omega .ensures, last-family _ (r .0 .0 .0 .1) (r .0 .0 .1) (r .0 .1) (r .1))
 
 pub row-coefficients-spec : {M : Type 1} → statement M
 row-coefficients-spec =
     tie.close
     (tie.spec
     row-requires
-    omega-one-requires
+    legendre-one-omega-requires
     legendre-one-requires
-    omega-one-requires-2
+    legendre-two-omega-requires
     legendre-two-requires
-    omega-one-requires-3
+    gegenbauer-one-omega-requires
     gegenbauer-one-requires
-    omega-one-requires-4
+    gegenbauer-two-omega-requires
     gegenbauer-two-requires
     returns
     returns-2

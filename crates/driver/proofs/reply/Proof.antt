@@ -1,105 +1,102 @@
--- `reply` meets its contract: turned away with the number of its cause (Ladder); without one (Clear), the derivative is spoiled or taken, and counted.
-use mathlib.Core.Path.{refl, sym, _∙_}
+-- `reply` meets its contract: by what it comes to within the stages, or elsewhere.
+use mathlib.Core.Path.{refl, ap}
 use borrow.Author.Needs.{needs}
-use Rattle.family.specs.Family.{family-of}
-use Rattle.workspace.proofs.Areas.{whole}
-use Rattle.workspace.specs.Vectors.{unpack}
-use Rattle.driver.specs.Calls.{reply-tests, reply, awaiting, pending, in-range}
-use Rattle.driver.proofs.Clear.{brings}
-use Rattle.driver.proofs.Counting.{evaluations-room, attempts-room, finishing, spoils, settles}
-use Rattle.driver.proofs.Ladder.{fails, passes, refused-meets, admitted-meets}
-use Rattle.driver.proofs.Sizes.{both}
+use Rattle.driver.specs.Promises.{of-stages, outcome-of}
+use Rattle.driver.proofs.Going.{has-one, comes, left-over, still}
 use Rattle.driver.proofs.reply.Statement.{statement}
 use Rattle.driver.proofs.reply.Tie as tie
 
-of-reply-requires : tie.Need-of-reply-requires
-of-reply-requires c κs = search needs
+reply-in-stages-requires : tie.Need-reply-in-stages-requires
+reply-in-stages-requires c κs = search needs
 
-turned-away-requires : tie.Need-turned-away-requires
-turned-away-requires c κs = search needs
+enum-told : tie.Need-enum-told
+enum-told c = search needs
+
+reply-elsewhere-requires : tie.Need-reply-elsewhere-requires
+unfolding of-stages
+reply-elsewhere-requires c κs = left-over (c .before .before .before .before .before .reply-in-stages .ensures) (ap of-stages (c .before .enum-told .given .1))
+
+enum-known-staged : tie.Need-enum-known-staged
+enum-known-staged c = search needs
+
+at-stage-requires : tie.Need-at-stage-requires
+at-stage-requires c κs = search needs
+
+evaluated-with-requires : tie.Need-evaluated-with-requires
+unfolding of-stages
+evaluated-with-requires c κs = has-one (c .before .before .before .before .before .before .before .reply-in-stages .ensures) (ap of-stages (c .before .before .before .staged .given .1))
+
+enum-known-staged-2 : tie.Need-enum-known-staged-2
+enum-known-staged-2 c = search needs
+
+in-phase-requires : tie.Need-in-phase-requires
+in-phase-requires c κs = search needs
+
+evaluated-with-requires-2 : tie.Need-evaluated-with-requires-2
+unfolding of-stages
+evaluated-with-requires-2 c κs = has-one (c .before .before .before .before .before .before .reply-in-stages .ensures) (ap of-stages (c .before .before .staged2 .given .1))
+
+enum-told-2 : tie.Need-enum-told-2
+enum-told-2 c = search needs
+
+in-phase-requires-2 : tie.Need-in-phase-requires-2
+in-phase-requires-2 c κs = search needs
+
+evaluated-with-requires-3 : tie.Need-evaluated-with-requires-3
+unfolding of-stages
+evaluated-with-requires-3 c κs = has-one (c .before .before .before .before .before .reply-in-stages .ensures) (ap of-stages (c .before .enum-told2 .given .1))
 
 same-length : tie.Need-same-length
 same-length c = search needs
 
 returns : tie.Need-returns
-unfolding reply
-returns c = refused-meets _ _ _ (c .before .before .of-reply .ensures) (c .before .if1 .taken) (c .turned-away .ensures)
-
-all-finite-requires : tie.Need-all-finite-requires
-all-finite-requires c κs = search needs
-
-spoiled-requires : tie.Need-spoiled-requires
-unfolding reply-tests
-spoiled-requires c κs =
-    let t = c .before .before in
-    let a = t .before .before .before .before .before .args in
-    let r = a .«record» in
-    let l = brings (r .family) (r .n) (a .area .now) (a .derivative .now) _ refl (t .before .of-reply .ensures) (t .if1 .left) in
-    evaluations-room _ _ (l .passing .1 .1 .1 .1 .0)
+unfolding of-stages
+returns c =
+    let a = c .before .before .before .before .before .before .before .before .before .before .before .before .args in
+    still (a .«record») (a .counters) (a .derivative .now) (c .before .before .before .before .before .before .before .before .reply-in-stages .ensures .stood (ap of-stages (c .before .before .before .before .enum-told .given .1))) (c .before .before .reply-elsewhere .ensures)
 
 same-length-2 : tie.Need-same-length-2
 same-length-2 c = search needs
 
 returns-2 : tie.Need-returns-2
-unfolding reply reply-tests
-returns-2 c =
-    let t = c .before .before .before in
-    let a = t .before .before .before .before .before .args in
-    let r = a .«record» in
-    let l = brings (r .family) (r .n) (a .area .now) (a .derivative .now) _ refl (t .before .of-reply .ensures) (t .if1 .left) in
-    admitted-meets _ _ (l .none) (spoils _ _ (fails (c .before .before .all-finite .ensures) (c .before .if2 .taken)) (c .spoiled .ensures))
-
-replied-requires : tie.Need-replied-requires
-unfolding reply-tests awaiting
-replied-requires c κs =
-    let t = c .before .before .before in
-    let a = t .before .before .before .before .before .args in
-    let r = a .«record» in
-    let l = brings (r .family) (r .n) (a .area .now) (a .derivative .now) _ refl (t .before .of-reply .ensures) (t .if1 .left) in
-    let p = l .passing in
-    let in-range = both (pending (r .phase)) (in-range (r .phase) r) (p .1 .1 .1 .0) .1 in
-    (whole (family-of (r .family)) (r .n) (a .area .now) (l .long), (l .brought, in-range))
-
-counted-requires : tie.Need-counted-requires
-unfolding reply-tests
-counted-requires c κs =
-    let t = c .before .before .before .before .before .before .before in
-    let a = t .before .before .before .before .before .args in
-    let r = a .«record» in
-    let l = brings (r .family) (r .n) (a .area .now) (a .derivative .now) _ refl (t .before .of-reply .ensures) (t .if1 .left) in
-    let room = l .passing .1 .1 .1 .1 .0 in
-    let same-case = c .before .before .before .replied .ensures .answer .same-case in
-    let v = unpack (r .n) (a .area .now) in
-    (evaluations-room _ _ room, λ e. attempts-room (r .phase) (a .counters) room (finishing (r .phase) r v (a .derivative .now) (sym same-case ∙ e)))
+unfolding of-stages outcome-of
+returns-2 c = comes (c .before .before .before .before .before .before .before .before .reply-in-stages .ensures) _ (c .before .before .before .before .staged .given .1) refl (c .evaluated-with .ensures) (c .before .at-stage .ensures)
 
 same-length-3 : tie.Need-same-length-3
 same-length-3 c = search needs
 
 returns-3 : tie.Need-returns-3
-unfolding reply reply-tests
-returns-3 c =
-    let t = c .before .before .before .before .before .before .before .before in
-    let a = t .before .before .before .before .before .args in
-    let r = a .«record» in
-    let l = brings (r .family) (r .n) (a .area .now) (a .derivative .now) _ refl (t .before .of-reply .ensures) (t .if1 .left) in
-    let f = c .before .before .before .before .before .before in
-    let finite = passes (f .before .all-finite .ensures) (f .if2 .left) in
-    admitted-meets _ _ (l .none)
-    (settles _ (family-of (r .family)) (r .n) _ finite (same-length-3 c ∙ l .long) (c .before .before .before .before .replied .ensures) (c .counted .ensures))
+unfolding of-stages outcome-of
+returns-3 c = comes (c .before .before .before .before .before .before .before .reply-in-stages .ensures) _ (c .before .before .before .staged2 .given .1) refl (c .evaluated-with2 .ensures) (c .before .in-phase .ensures)
+
+same-length-4 : tie.Need-same-length-4
+same-length-4 c = search needs
+
+returns-4 : tie.Need-returns-4
+unfolding of-stages outcome-of
+returns-4 c = comes (c .before .before .before .before .before .before .reply-in-stages .ensures) _ (c .before .before .enum-told2 .given .1) refl (c .evaluated-with3 .ensures) (c .before .in-phase2 .ensures)
 
 pub reply-spec : {M : Type 1} → statement M
 reply-spec =
     tie.close
     (tie.spec
-    of-reply-requires
-    turned-away-requires
+    reply-in-stages-requires
+    enum-told
+    reply-elsewhere-requires
+    enum-known-staged
+    at-stage-requires
+    evaluated-with-requires
+    enum-known-staged-2
+    in-phase-requires
+    evaluated-with-requires-2
+    enum-told-2
+    in-phase-requires-2
+    evaluated-with-requires-3
     same-length
     returns
-    all-finite-requires
-    spoiled-requires
     same-length-2
     returns-2
-    replied-requires
-    counted-requires
     same-length-3
-    returns-3)
+    returns-3
+    same-length-4
+    returns-4)

@@ -1,6 +1,7 @@
 -- `row` meets its contract, from omega_zero and the polynomials of its stage.
-use lib.Ieee.{ofBits}
-use Rattle.coefficients.specs.Rows.{chebyshev, polynomials-on}
+use mathlib.Core.Path.{ap}
+use Rattle.coefficients.specs.declared.Polynomials.{Polynomials}
+use Rattle.coefficients.specs.Rows.{polynomials-on}
 use borrow.Author.Needs.{needs}
 use Rattle.coefficients.proofs.chebyshev.row.Statement.{statement}
 use Rattle.coefficients.proofs.chebyshev.row.Tie as tie
@@ -11,9 +12,13 @@ omega-zero-requires c κs = search needs
 next-polynomials-requires : tie.Need-next-polynomials-requires
 next-polynomials-requires c κs = search needs
 
+row-from-requires : tie.Need-row-from-requires
+row-from-requires c κs = search needs
+
 returns : tie.Need-returns
-unfolding chebyshev polynomials-on ofBits
-returns c = rw (c .before .before .before .before .before .before .next-polynomials .ensures, c .before .before .before .before .before .before .before .before .omega-zero .ensures)
+unfolding polynomials-on
+returns c = c .row-from .ensures (c .before .before .before .before .args .s) (c .before .before .before .omega-zero .ensures) (ap (λ (p : Polynomials). p .«b_previous») (c .before .next-polynomials .ensures))
 
 pub row-spec : {M : Type 1} → statement M
-row-spec = tie.close (tie.spec omega-zero-requires next-polynomials-requires returns)
+row-spec =
+    tie.close (tie.spec omega-zero-requires next-polynomials-requires row-from-requires returns)

@@ -1,14 +1,13 @@
 -- `replied` meets its contract, phase by phase; what each phase requires of the position is in range.
 use mathlib.Core.List.{List}
 use mathlib.Core.Path.{sym, ap, _∙_}
-use native.Mathlib.Omega.{arith}
 use borrow.Author.Needs.{needs}
 use lib.Ieee.{Float}
 use Rattle.workspace.specs.Vectors.{Vectors, unpack}
 use Rattle.driver.specs.declared.Record.{Record}
 use Rattle.driver.specs.declared.Phase.{Phase}
 use Rattle.driver.specs.Calls.{Step, replied, in-range}
-use Rattle.driver.proofs.Ranges.{pass-in, stage-in}
+use Rattle.driver.proofs.Ranges.{pass-in}
 use Rattle.driver.proofs.Steps.{as-step, alike}
 use Rattle.driver.proofs.replies.replied.Statement.{statement}
 use Rattle.driver.proofs.replies.replied.Tie as tie
@@ -18,25 +17,17 @@ enum-told c = search needs
 
 take-pass-requires : tie.Need-take-pass-requires
 take-pass-requires c κs =
-    let s = pass-in _ (ap (λ (p : Phase). in-range p (c .before .before .before .before .before .args .«record»)) (sym (c .before .enum-told .given .1)) ∙ c .before .before .before .before .before .pre .1 .1) in
+    let s = pass-in _ (ap (λ (p : Phase). in-range p (c .before .before .before .before .before .args .«record»)) (sym (c .before .enum-told .given .1)) ∙ c .before .before .before .before .before .pre .1 .1 .0) in
     (c .before .before .before .before .before .pre .0, (c .before .before .before .before .before .pre .1 .0, s))
 
 enum-told-2 : tie.Need-enum-told-2
 enum-told-2 c = search needs
 
-take-stage-requires : tie.Need-take-stage-requires
-take-stage-requires c κs =
-    let s = stage-in _ (ap (λ (p : Phase). in-range p (c .before .before .before .before .before .args .«record»)) (sym (c .before .enum-told2 .given .1)) ∙ c .before .before .before .before .before .pre .1 .1) in
-    (c .before .before .before .before .before .pre .0, (c .before .before .before .before .before .pre .1 .0, (s .from, omega (arith, s .to, s .most))))
-
-enum-told-3 : tie.Need-enum-told-3
-enum-told-3 c = search needs
-
 take-candidate-requires : tie.Need-take-candidate-requires
 take-candidate-requires c κs = search needs
 
-enum-told-4 : tie.Need-enum-told-4
-enum-told-4 c = search needs
+enum-told-3 : tie.Need-enum-told-3
+enum-told-3 c = search needs
 
 take-callback-requires : tie.Need-take-callback-requires
 take-callback-requires c κs = search needs
@@ -62,7 +53,7 @@ unfolding replied
 returns-2 c =
     let a = c .before .before .before .before .before .before .before .before .args in
     let r = a .«record» in
-    as-step (ap (λ (p : Phase). replied p r (unpack (r .n) (a .area .now)) (a .derivative .now)) (sym (c .before .before .before .before .enum-told2 .given .1))) (c .before .before .take-stage .ensures)
+    as-step (ap (λ (p : Phase). replied p r (unpack (r .n) (a .area .now)) (a .derivative .now)) (sym (c .before .before .before .before .enum-told2 .given .1))) (c .before .before .take-candidate .ensures)
 
 same-length-3 : tie.Need-same-length-3
 same-length-3 c = search needs
@@ -72,26 +63,16 @@ unfolding replied
 returns-3 c =
     let a = c .before .before .before .before .before .before .before .before .args in
     let r = a .«record» in
-    as-step (ap (λ (p : Phase). replied p r (unpack (r .n) (a .area .now)) (a .derivative .now)) (sym (c .before .before .before .before .enum-told3 .given .1))) (c .before .before .take-candidate .ensures)
+    as-step (ap (λ (p : Phase). replied p r (unpack (r .n) (a .area .now)) (a .derivative .now)) (sym (c .before .before .before .before .enum-told3 .given .1))) (c .before .before .take-callback .ensures)
 
 same-length-4 : tie.Need-same-length-4
 same-length-4 c = search needs
 
 returns-4 : tie.Need-returns-4
-unfolding replied
 returns-4 c =
-    let a = c .before .before .before .before .before .before .before .before .args in
-    let r = a .«record» in
-    as-step (ap (λ (p : Phase). replied p r (unpack (r .n) (a .area .now)) (a .derivative .now)) (sym (c .before .before .before .before .enum-told4 .given .1))) (c .before .before .take-callback .ensures)
-
-same-length-5 : tie.Need-same-length-5
-same-length-5 c = search needs
-
-returns-5 : tie.Need-returns-5
-returns-5 c =
     let a = c .before .before .before .before .before .before .before .args in
     let r = a .«record» in
-    as-step (ap (λ (take : Record → Vectors → List Float → Step). take r (unpack (r .n) (a .area .now)) (a .derivative .now)) (alike (r .phase) (c .before .before .before .before .match .keys5))) (c .before .before .take-first .ensures)
+    as-step (ap (λ (take : Record → Vectors → List Float → Step). take r (unpack (r .n) (a .area .now)) (a .derivative .now)) (alike (r .phase) (c .before .before .before .before .before .before .before .pre .1 .1 .1) (c .before .before .before .before .match .keys4))) (c .before .before .take-first .ensures)
 
 pub replied-spec : {M : Type 1} → statement M
 replied-spec =
@@ -100,10 +81,8 @@ replied-spec =
     enum-told
     take-pass-requires
     enum-told-2
-    take-stage-requires
-    enum-told-3
     take-candidate-requires
-    enum-told-4
+    enum-told-3
     take-callback-requires
     take-first-requires
     same-length
@@ -113,6 +92,4 @@ replied-spec =
     same-length-3
     returns-3
     same-length-4
-    returns-4
-    same-length-5
-    returns-5)
+    returns-4)

@@ -1,36 +1,35 @@
--- `take_stage` meets its contract, by whether the stage is the last.
+-- `take_stage` meets its contract, by whether the stage is the last, and by the test of the candidate.
+use mathlib.Core.Path.{refl}
 use borrow.Author.Needs.{needs}
 use Rattle.workspace.specs.Vectors.{unpack}
-use Rattle.driver.proofs.Steps.{stages-on, stages-end}
+use Rattle.driver.specs.Calls.{at-stage, ask-stage}
+use Rattle.driver.specs.Promises.{of-stages, outcome-of}
+use Rattle.driver.proofs.Ladder.{says}
+use Rattle.driver.proofs.Steps.{stages-on, stages-end, candidate-asked, candidate-refused}
 use Rattle.driver.proofs.replies.take_stage.Statement.{statement}
 use Rattle.driver.proofs.replies.take_stage.Tie as tie
 
-row-coefficients-requires : tie.Need-row-coefficients-requires
-row-coefficients-requires c κs = search needs
+row-and-recurrence-requires : tie.Need-row-and-recurrence-requires
+row-and-recurrence-requires c κs = search needs
 
 row-and-exchange-requires : tie.Need-row-and-exchange-requires
 row-and-exchange-requires c κs = search needs
 
-next-recurrence-requires : tie.Need-next-recurrence-requires
-next-recurrence-requires c κs = search needs
-
-add-at-stage : tie.Need-add-at-stage
-add-at-stage c = search needs
-
-at-stage-requires : tie.Need-at-stage-requires
-at-stage-requires c κs = search needs
-
-ask-stage-requires : tie.Need-ask-stage-requires
-ask-stage-requires c κs = search needs
+add-t21 : tie.Need-add-t21
+add-t21 c = search needs
 
 same-length : tie.Need-same-length
 same-length c = search needs
 
 returns : tie.Need-returns
+unfolding of-stages outcome-of ask-stage at-stage
 returns c =
-    let a = c .before .before .before .before .before .before .before .before .before .before .before .before .args in
+    let a = c .before .before .before .before .before .before .before .before .before .before .before .before .before .args in
     let r = a .«record» in
-    stages-on r (unpack (r .n) (a .area .now)) (a .derivative .now) (c .before .before .before .before .before .before .before .before .row-coefficients .ensures) (c .before .before .before .before .before .before .before .if1 .taken) (c .before .before .before .before .before .row-and-exchange .ensures .vectors) (c .before .before .next-recurrence .ensures) (c .before .at-stage .ensures) (c .ask-stage .ensures _)
+    let both = c .before .before .before .before .before .before .before .before .before .row-and-recurrence .ensures in
+    let below = c .before .before .before .before .before .before .before .if1 .taken in
+    let exchanged = c .before .before .before .before .before .row-and-exchange .ensures .vectors in
+    (refl, stages-on r (unpack (r .n) (a .area .now)) (a .derivative .now) (both .0) below exchanged (both .1) refl (record { answer = says refl; kept = refl; vectors = refl }))
 
 row-requires : tie.Need-row-requires
 row-requires c κs = search needs
@@ -38,32 +37,46 @@ row-requires c κs = search needs
 keep-candidate-requires : tie.Need-keep-candidate-requires
 keep-candidate-requires c κs = search needs
 
-ask-candidate-requires : tie.Need-ask-candidate-requires
-ask-candidate-requires c κs = search needs
+finite-vector-requires : tie.Need-finite-vector-requires
+finite-vector-requires c κs = search needs
 
 same-length-2 : tie.Need-same-length-2
 same-length-2 c = search needs
 
 returns-2 : tie.Need-returns-2
+unfolding of-stages
 returns-2 c =
-    let a = c .before .before .before .before .before .before .before .before .before .before .before .before .before .before .before .args in
+    let t = c .before .before .before .before .before .before in
+    let a = t .before .before .before .before .before .before .before .before .before .before .before .before .args in
     let r = a .«record» in
-    stages-end r (unpack (r .n) (a .area .now)) (a .derivative .now) (c .before .before .before .before .before .before .before .before .before .before .before .row-coefficients .ensures) (c .before .before .before .before .before .before .before .before .before .before .if1 .left) (c .before .before .before .before .before .before .before .before .row .ensures .vectors) (c .before .before .before .before .keep-candidate .ensures .vectors) (c .ask-candidate .ensures)
+    let asked = candidate-asked r _ (c .before .before .finite-vector .ensures) (c .before .if2 .taken) in
+    (refl, stages-end r (unpack (r .n) (a .area .now)) (a .derivative .now) (t .before .before .before .before .before .before .before .before .row-and-recurrence .ensures .0) (t .before .before .before .before .before .before .if1 .left) (t .before .before .before .before .row2 .ensures .vectors) (t .keep-candidate .ensures .vectors) asked)
+
+same-length-3 : tie.Need-same-length-3
+same-length-3 c = search needs
+
+returns-3 : tie.Need-returns-3
+unfolding of-stages
+returns-3 c =
+    let t = c .before .before .before .before .before in
+    let a = t .before .before .before .before .before .before .before .before .before .before .before .before .args in
+    let r = a .«record» in
+    let refused = candidate-refused r _ (c .before .finite-vector .ensures) (c .if2 .left) in
+    (refl, stages-end r (unpack (r .n) (a .area .now)) (a .derivative .now) (t .before .before .before .before .before .before .before .before .row-and-recurrence .ensures .0) (t .before .before .before .before .before .before .if1 .left) (t .before .before .before .before .row2 .ensures .vectors) (t .keep-candidate .ensures .vectors) refused)
 
 pub take-stage-spec : {M : Type 1} → statement M
 take-stage-spec =
     tie.close
     (tie.spec
-    row-coefficients-requires
+    row-and-recurrence-requires
     row-and-exchange-requires
-    next-recurrence-requires
-    add-at-stage
-    at-stage-requires
-    ask-stage-requires
+    add-t21
     same-length
     returns
     row-requires
     keep-candidate-requires
-    ask-candidate-requires
+    finite-vector-requires
     same-length-2
-    returns-2)
+    returns-2
+    same-length-3
+    returns-3)

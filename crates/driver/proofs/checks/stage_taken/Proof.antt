@@ -1,12 +1,13 @@
--- `goes_on` meets its contract: each round of tests says whether all of its tests pass, and the last test is the answer.
-use mathlib.Core.Path.{refl, sym, _∙_}
+-- `stage_taken` meets its contract: each round of tests says whether all of its tests pass, and the last test is the answer.
+use mathlib.Core.Path.{sym, ap₂, _∙_}
+use mathlib.Core.Bool.{_&&_}
 use borrow.Author.Needs.{needs}
 use borrow.Author.Tests.{not-false}
-use Rattle.driver.specs.Promises.{goes-on}
+use Rattle.driver.specs.Promises.{stage-taken}
 use Rattle.driver.proofs.Sizes.{most, four}
-use Rattle.driver.proofs.Ladder.{fails, passes, stop, go-on, all-three, all-four}
-use Rattle.driver.proofs.checks.goes_on.Statement.{statement}
-use Rattle.driver.proofs.checks.goes_on.Tie as tie
+use Rattle.driver.proofs.Ladder.{fails, passes, stop, go-on, all-four}
+use Rattle.driver.proofs.checks.stage_taken.Statement.{statement}
+use Rattle.driver.proofs.checks.stage_taken.Tie as tie
 
 known-requires : tie.Need-known-requires
 known-requires c κs = search needs
@@ -21,7 +22,7 @@ room-requires : tie.Need-room-requires
 room-requires c κs = search needs
 
 returns : tie.Need-returns
-unfolding goes-on
+unfolding stage-taken
 returns c =
     stop _ (fails (all-four (c .before .before .before .before .known .ensures) (c .before .before .before .sized .ensures) (c .before .before .in-stages .ensures) (c .before .room .ensures)) (c .if1 .taken))
 
@@ -34,24 +35,24 @@ good-stage-requires : tie.Need-good-stage-requires
 good-stage-requires c κs = search needs
 
 returns-2 : tie.Need-returns-2
-unfolding goes-on
+unfolding stage-taken
 returns-2 c =
     let d = c .before .before .before in
     go-on (passes (all-four (d .before .before .before .before .known .ensures) (d .before .before .before .sized .ensures) (d .before .before .in-stages .ensures) (d .before .room .ensures)) (d .if1 .left))
-    (stop _ (fails (all-three (c .before .before .both-long .ensures) (c .before .good-stage .ensures) refl) (c .if2 .taken)))
+    (stop _ (fails (ap₂ _&&_ (c .before .before .both-long .ensures) (c .before .good-stage .ensures)) (c .if2 .taken)))
 
 all-finite-requires : tie.Need-all-finite-requires
 all-finite-requires c κs = search needs
 
 returns-3 : tie.Need-returns-3
-unfolding goes-on
+unfolding stage-taken
 returns-3 c =
     let d = c .before .before .before .before in
     go-on (passes (all-four (d .before .before .before .before .known .ensures) (d .before .before .before .sized .ensures) (d .before .before .in-stages .ensures) (d .before .room .ensures)) (d .if1 .left))
-    (go-on (passes (all-three (c .before .before .before .both-long .ensures) (c .before .before .good-stage .ensures) refl) (c .before .if2 .left)) (c .all-finite .ensures))
+    (go-on (passes (ap₂ _&&_ (c .before .before .before .both-long .ensures) (c .before .before .good-stage .ensures)) (c .before .if2 .left)) (c .all-finite .ensures))
 
-pub goes-on-spec : {M : Type 1} → statement M
-goes-on-spec =
+pub stage-taken-spec : {M : Type 1} → statement M
+stage-taken-spec =
     tie.close
     (tie.spec
     known-requires

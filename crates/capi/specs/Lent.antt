@@ -1,0 +1,49 @@
+-- The record as it is lent: its whole numbers w and its doubles x, each in the order of the record's fields.
+use Prim.Native.Nat.{ℕ}
+use mathlib.Core.List.{List}
+use lib.ListN.{getD}
+use lib.Ieee.{Float, nan}
+use Rattle.coefficients.specs.declared.Polynomials.{Polynomials}
+use Rattle.coefficients.specs.declared.Recurrence.{Recurrence}
+use Rattle.driver.specs.declared.Iteration.{Iteration}
+use Rattle.driver.specs.declared.Staging.{Staging}
+use Rattle.driver.specs.declared.Staged.{Staged}
+use Rattle.driver.specs.Promises.{outcome-of}
+use Rattle.capi.specs.declared.Arguments.{Arguments}
+use Rattle.capi.specs.declared.Record.{Record}
+use Rattle.capi.specs.declared.Answer.{Answer}
+use Rattle.capi.specs.declared.Outcome.{Outcome}
+use Rattle.capi.specs.Numbers.{meaning, in-numbers, handed-back}
+
+abbrev pub wholes-long : ℕ
+wholes-long = 7
+
+abbrev pub doubles-long : ℕ
+doubles-long = 18
+
+abbrev pub lent : List ℕ → List Float → Record
+lent w x =
+    let a : Arguments = record { time = getD x 0 nan; step = getD x 1 nan; «absolute_tolerance» = getD x 2 nan; «relative_tolerance» = getD x 3 nan; adaptive = getD w 3 0 } in
+    let i : Iteration = record { pass = getD w 4 0; perturbation = getD x 4 nan; «previous_radius» = getD x 5 nan; «scaled_radius» = getD x 6 nan } in
+    let p : Polynomials = record {
+      «omega_one» = getD x 9 nan;
+      «b_previous» = getD x 10 nan;
+      «b_previous_two» = getD x 11 nan;
+      «value_previous» = getD x 12 nan;
+      «value_previous_two» = getD x 13 nan;
+      «first_previous» = getD x 14 nan;
+      «first_previous_two» = getD x 15 nan;
+      «second_previous» = getD x 16 nan;
+      «second_previous_two» = getD x 17 nan;
+    } in
+    let c : Recurrence = record { «theta_previous» = getD x 7 nan; «theta_previous_two» = getD x 8 nan; polynomials = p } in
+    let g : Staging = record { stages = getD w 5 0; stage = getD w 6 0; recurrence = c } in
+    record { family = getD w 0 0; n = getD w 1 0; phase = getD w 2 0; arguments = a; iteration = i; staging = g }
+
+-- what a call answers, and what it leaves of the record
+abbrev pub leaves : Answer → List ℕ → List Float → Outcome
+leaves a w x = record { answer = a; «record» = lent w x }
+
+-- what a reply to a stage's evaluation hands back, from the record before it
+abbrev pub in-stages : Record → Staged → Outcome
+in-stages before y = let x = outcome-of y (meaning before) in handed-back before (before .arguments .adaptive) (in-numbers (x .answer)) (x .«record»)
