@@ -7,7 +7,8 @@ use lib.ListN.{length, replicate}
 use lib.Ieee.{Float, eq, lt}
 use lib.Ieee.Scale.{finite}
 use Rattle.ieee.specs.Double.{_⊕_, _⊗_, nought}
-use Rattle.family.specs.Family.{Family, known, family-of, stage-count, permitted}
+use Rattle.family.specs.declared.Setting.{Setting}
+use Rattle.family.specs.Family.{known, family-of, setting, kind, stage-count, permitted}
 use Rattle.coefficients.specs.declared.Recurrence.{Recurrence}
 use Rattle.coefficients.specs.Rows.{recurrence, coefficients, next}
 use Rattle.workspace.specs.declared.Arguments.{Arguments}
@@ -37,28 +38,42 @@ pub record Called : Type 0 where
 
 -- ---- the record in another phase, and further on
 
+-- with another phase and position: family and n stand
+abbrev pub moved-to : Phase → Arguments → Iteration → Staging → Record → Record
+moved-to p a i g r = record { family = r .family; n = r .n; phase = p; arguments = a; iteration = i; staging = g }
+
+-- of this family, with vectors of this length: the position stands
+abbrev pub sized-for : ℕ → ℕ → Record → Record
+sized-for f n r = record { family = f; n = n; phase = r .phase; arguments = r .arguments; iteration = r .iteration; staging = r .staging }
+
 unfoldable pub in-phase : Phase → Record → Record
-in-phase p r = record { family = r .family; n = r .n; phase = p; arguments = r .arguments; iteration = r .iteration; staging = r .staging }
+in-phase p r = moved-to p (r .arguments) (r .iteration) (r .staging) r
 
 unfoldable pub at-time : Float → Arguments → Arguments
 at-time t a = record { time = t; step = a .step; «absolute_tolerance» = a .«absolute_tolerance»; «relative_tolerance» = a .«relative_tolerance»; adaptive = a .adaptive }
 
 -- waiting for the derivative of a state that is kept at this time
 unfoldable pub first-at : Phase → ℕ → ℕ → Float → Record → Record
-first-at p f n t r = record { family = f; n = n; phase = p; arguments = at-time t (r .arguments); iteration = r .iteration; staging = r .staging }
+first-at p f n t r = moved-to p (at-time t (r .arguments)) (r .iteration) (r .staging) (sized-for f n r)
+
+abbrev pub iteration-at : ℕ → Float → Float → Float → Iteration
+iteration-at k perturbation previous radius = record { pass = k; perturbation = perturbation; «previous_radius» = previous; «scaled_radius» = radius }
 
 unfoldable pub at-pass : Arguments → ℕ → Float → Float → Record → Record
-at-pass a k perturbation previous r = let i : Iteration = record { pass = k; perturbation = perturbation; «previous_radius» = previous; «scaled_radius» = nought } in
-    record { family = r .family; n = r .n; phase = P.Pass; arguments = a; iteration = i; staging = r .staging }
+at-pass a k perturbation previous r = moved-to P.Pass a (iteration-at k perturbation previous nought) (r .staging) r
 
 -- the iteration has found the scaled radius
 unfoldable pub with-radius : Float → Record → Record
-with-radius radius r = let i : Iteration = record { pass = r .iteration .pass; perturbation = r .iteration .perturbation; «previous_radius» = r .iteration .«previous_radius»; «scaled_radius» = radius } in
-    record { family = r .family; n = r .n; phase = r .phase; arguments = r .arguments; iteration = i; staging = r .staging }
+with-radius radius r = let i = r .iteration in
+    moved-to (r .phase) (r .arguments) (iteration-at (i .pass) (i .perturbation) (i .«previous_radius») radius) (r .staging) r
 
 unfoldable pub at-stage : ℕ → ℕ → Recurrence → Record → Record
-at-stage s j c r = let g : Staging = record { stages = s; stage = j; recurrence = c } in
-    record { family = r .family; n = r .n; phase = P.Stage; arguments = r .arguments; iteration = r .iteration; staging = g }
+at-stage s j c r = moved-to P.Stage (r .arguments) (r .iteration) (record { stages = s; stage = j; recurrence = c }) r
+
+-- ---- what an attempt of this record runs under: it decides the stage need, the permitted counts, the rows, the candidate and the error
+
+abbrev pub setting-of : Record → Setting
+setting-of r = setting (r .family)
 
 -- ---- a reply that is not turned away with 1 to 9: by the phase, what comes next
 
@@ -86,18 +101,18 @@ ask-stage r v = let a = r .arguments in
     step-to (Evaluate (a .time ⊕ a .step ⊗ r .staging .recurrence .«theta_previous») (number previous-one)) r v
 
 -- how many stages this scaled radius takes (here every need is met)
-unfoldable pub stage-need : Family → Float → Need
-stage-need f radius = Met (stage-count f radius)
+unfoldable pub stage-need : Setting → Float → Need
+stage-need m radius = Met (stage-count (kind m) radius)
 
 -- the stages begin; or the need is refused: the iteration's work is kept, the phase is empty and all else stands (an empty branch today: no family's need is
 -- refused yet)
 unfoldable pub by-need : Need → Record → Vectors → Float → Step
-by-need (Met s) r v radius = let c = recurrence (family-of (r .family)) s in
+by-need (Met s) r v radius = let c = recurrence (setting-of r) s in
     ask-stage (at-stage s 2 c (with-radius radius r)) (first-stage (r .n) (r .arguments .step) (c .«theta_previous») v)
 by-need (Unmet i) r v radius = step-to (Refused i) (in-phase P.Empty r) v
 
 unfoldable pub begin-stages : Record → Vectors → Float → Step
-begin-stages r v radius = by-need (stage-need (family-of (r .family)) radius) r v radius
+begin-stages r v radius = by-need (stage-need (setting-of r) radius) r v radius
 
 unfoldable pub take-pass : Record → Vectors → List Float → Step
 take-pass r v d = let w = turned (r .n) v d in
@@ -114,19 +129,20 @@ ask-candidate r v = let a = r .arguments in
     (step-to (Refused 10) (in-phase P.Empty r) v)
 
 unfoldable pub take-stage : Record → Vectors → List Float → Step
-take-stage r v d = let f = family-of (r .family) in
+take-stage r v d = let m = setting-of r in
     let s = r .staging .stages in
     let j = r .staging .stage in
-    let row = coefficients f s j (r .staging .recurrence) in
-    let w = with-row f (r .n) (r .arguments .step) row v d in
+    let c = r .staging .recurrence in
+    let row = coefficients m s j c in
+    let w = with-row m (r .n) (r .arguments .step) row v d in
     cond (ltb j s)
-    (ask-stage (at-stage s (j + 1) (next f s (r .staging .recurrence) row) r) (exchanged w))
-    (ask-candidate r (with-candidate w))
+    (ask-stage (at-stage s (j + 1) (next m s c row) r) (exchanged w))
+    (ask-candidate r (with-candidate m (r .n) (r .arguments .step) s c row w))
 
 unfoldable pub take-candidate : Record → Vectors → List Float → Step
-take-candidate r v d = let f = family-of (r .family) in
-    let w = with-last f (r .n) (r .arguments) v d in
-    step-to (Finished (error-norm f (r .n) (r .staging .stages) (r .arguments) w)) (in-phase P.Finished r) w
+take-candidate r v d = let m = setting-of r in
+    let w = with-last m (r .n) (r .arguments) v d in
+    step-to (Finished (error-norm m (r .n) (r .staging .stages) (r .arguments) w)) (in-phase P.Finished r) w
 
 -- (Empty, Ready and Finished are never reached here: test 4 answers first)
 unfoldable pub replied : Phase → Record → Vectors → List Float → Step
@@ -163,8 +179,11 @@ pending P.Callback = true
 abbrev pub good-pass : ℕ → Bool
 good-pass k = leb 1 k && leb k 12
 
-abbrev pub good-stage : ℕ → ℕ → ℕ → Bool
-good-stage f s j = permitted (family-of f) s && (leb 2 j && leb j s)
+unfoldable pub permits : Setting → ℕ → Bool
+permits m s = permitted (kind m) s
+
+abbrev pub good-stage : Setting → ℕ → ℕ → Bool
+good-stage m s j = permits m s && (leb 2 j && leb j s)
 
 -- what a phase uses of the record is in range: the pass, s, the stage
 unfoldable pub in-range : Phase → Record → Bool
@@ -172,8 +191,8 @@ in-range P.Empty r = true
 in-range P.First r = true
 in-range P.Ready r = true
 in-range P.Pass r = good-pass (r .iteration .pass)
-in-range P.Stage r = good-stage (r .family) (r .staging .stages) (r .staging .stage)
-in-range P.Candidate r = permitted (family-of (r .family)) (r .staging .stages)
+in-range P.Stage r = good-stage (setting-of r) (r .staging .stages) (r .staging .stage)
+in-range P.Candidate r = permits (setting-of r) (r .staging .stages)
 in-range P.Finished r = true
 in-range P.Callback r = true
 

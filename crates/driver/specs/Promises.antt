@@ -23,7 +23,7 @@ use Rattle.driver.specs.declared.Replied.{Replied}
 use Rattle.driver.specs.declared.Staged.{Staged}
 use Rattle.driver.specs.declared.Staged.the-variants.{Elsewhere, On, Ended, NotFinite}
 use Rattle.driver.specs.Answers.{Says}
-use Rattle.driver.specs.Calls.{Held, Called, Step, in-phase, at-stage, sized, whole-area, as-long, good-stage, room, one-more}
+use Rattle.driver.specs.Calls.{Held, Called, Step, in-phase, at-stage, sized, whole-area, as-long, good-stage, room, one-more, setting-of}
 
 -- what a call is handed
 abbrev pub holding : Record → Counters → List Float → Held
@@ -68,7 +68,7 @@ in-stages P.Callback = false
 unfoldable pub stage-taken : Record → Counters → List Float → List Float → Bool
 stage-taken r c area d =
     (((known (r .family) && sized (r .n)) && in-stages (r .phase)) && room (c .evaluations))
-    && (((whole-area (r .family) (r .n) area && as-long (r .n) d) && good-stage (r .family) (r .staging .stages) (r .staging .stage)) && all-finite d)
+    && (((whole-area (r .family) (r .n) area && as-long (r .n) d) && good-stage (setting-of r) (r .staging .stages) (r .staging .stage)) && all-finite d)
 
 -- whether what is handed back is of such a reply
 unfoldable pub of-stages : Staged → Bool

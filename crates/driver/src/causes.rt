@@ -10,7 +10,7 @@ use workspace::Arguments;
 pub fn of_start(family: u64, n: usize, area: &[f64], state: &[f64], time: f64) -> u64
     ensures { λ r. ⌜ r ≡ cause-of (first-failing (start-tests family n (now (area .entry)) (now (state .entry)) time)) ⌝ }
 {
-    if !checks::known(family) {
+    if !family::known(family) {
         return 1;
     }
     if !checks::sized(n) {
@@ -32,7 +32,7 @@ pub fn of_attempt(record: Record, area: &[f64], arguments: Arguments) -> u64
     ensures { λ r. ⌜ r ≡ cause-of (first-failing (attempt-tests «record» (now (area .entry)) arguments)) ⌝ }
 {
     let phase = record.phase;
-    if !checks::known(record.family) {
+    if !family::known(record.family) {
         return 1;
     }
     if !checks::sized(record.n) {
@@ -57,7 +57,7 @@ pub fn of_reply(record: Record, counters: Counters, area: &[f64], derivative: &[
     ensures { λ r. ⌜ r ≡ cause-of (first-failing (reply-tests «record» counters (now (area .entry)) (now (derivative .entry)))) ⌝ }
 {
     let phase = record.phase;
-    if !checks::known(record.family) {
+    if !family::known(record.family) {
         return 1;
     }
     if !checks::sized(record.n) {
@@ -79,7 +79,7 @@ pub fn of_accept(record: Record, area: &[f64]) -> u64
     ensures { λ r. ⌜ r ≡ cause-of (first-failing (accept-tests «record» (now (area .entry)))) ⌝ }
 {
     let phase = record.phase;
-    if !checks::known(record.family) {
+    if !family::known(record.family) {
         return 1;
     }
     if !checks::sized(record.n) {
@@ -98,7 +98,7 @@ pub fn of_callback(record: Record, area: &[f64], state: &[f64], time: f64) -> u6
     ensures { λ r. ⌜ r ≡ cause-of (first-failing (callback-tests «record» (now (area .entry)) (now (state .entry)) time)) ⌝ }
 {
     let phase = record.phase;
-    if !checks::known(record.family) {
+    if !family::known(record.family) {
         return 1;
     }
     if !checks::sized(record.n) {
@@ -122,7 +122,7 @@ pub fn of_callback(record: Record, area: &[f64], state: &[f64], time: f64) -> u6
 pub fn of_abandon(record: Record, area: &[f64]) -> u64
     ensures { λ r. ⌜ r ≡ cause-of (first-failing (abandon-tests «record» (now (area .entry)))) ⌝ }
 {
-    if !checks::known(record.family) {
+    if !family::known(record.family) {
         return 1;
     }
     if !checks::sized(record.n) {

@@ -2,22 +2,14 @@
 ghost use mathlib.Core.Path.{_≡_};
 ghost use mathlib.Core.Bool.{_&&_};
 ghost use Prim.Native.Nat.{_≤_};
-ghost use Rattle.family.specs.Family as families;
 ghost use Rattle.driver.specs.Calls as calls;
 ghost use Rattle.driver.specs.Promises.{in-stages, stage-taken};
 use crate::Counters;
 use crate::Phase;
 use crate::Record;
+use crate::position::setting_of;
+use family::Setting;
 use workspace::Arguments;
-
-pub fn known(family: u64) -> bool
-    ensures { λ r. ⌜ r ≡ families.known family ⌝ }
-{
-    if family < 1 {
-        return false;
-    }
-    family <= 5
-}
 
 pub fn sized(n: usize) -> bool
     ensures { λ r. ⌜ r ≡ calls.sized n ⌝ }
@@ -72,10 +64,17 @@ pub fn good_pass(pass: u64) -> bool
     pass <= 12
 }
 
-pub fn good_stage(family: u64, stages: u64, stage: u64) -> bool
-    ensures { λ r. ⌜ r ≡ calls.good-stage family stages stage ⌝ }
+// Whether an attempt under this setting may run s stages.
+fn permits(setting: Setting, s: u64) -> bool
+    ensures { λ r. ⌜ r ≡ calls.permits setting s ⌝ }
 {
-    if !family::permitted(family, stages) {
+    family::permitted(setting.family, s)
+}
+
+pub fn good_stage(setting: Setting, stages: u64, stage: u64) -> bool
+    ensures { λ r. ⌜ r ≡ calls.good-stage setting stages stage ⌝ }
+{
+    if !permits(setting, stages) {
         return false;
     }
     if stage < 2 {
@@ -88,14 +87,15 @@ pub fn good_stage(family: u64, stages: u64, stage: u64) -> bool
 pub fn in_range(record: Record) -> bool
     ensures { λ r. ⌜ r ≡ calls.in-range («record» .phase) «record» ⌝ }
 {
+    let setting = setting_of(record);
     let phase = record.phase;
     match phase {
         Phase::Empty => true,
         Phase::First => true,
         Phase::Ready => true,
         Phase::Pass => good_pass(record.iteration.pass),
-        Phase::Stage => good_stage(record.family, record.staging.stages, record.staging.stage),
-        Phase::Candidate => family::permitted(record.family, record.staging.stages),
+        Phase::Stage => good_stage(setting, record.staging.stages, record.staging.stage),
+        Phase::Candidate => permits(setting, record.staging.stages),
         Phase::Finished => true,
         Phase::Callback => true,
     }
@@ -229,7 +229,7 @@ pub fn stage_taken(record: Record, counters: Counters, area: &[f64], derivative:
 {
     let phase = record.phase;
     let n = record.n;
-    let family = known(record.family);
+    let family = family::known(record.family);
     let size = sized(n);
     let stages = in_stages(phase);
     let more = room(counters.evaluations);
@@ -238,7 +238,7 @@ pub fn stage_taken(record: Record, counters: Counters, area: &[f64], derivative:
         return false;
     }
     let lengths = both_long(record.family, n, area, derivative);
-    let place = good_stage(record.family, record.staging.stages, record.staging.stage);
+    let place = good_stage(setting_of(record), record.staging.stages, record.staging.stage);
     let second = lengths & place;
     if !second {
         return false;

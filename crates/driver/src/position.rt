@@ -1,4 +1,4 @@
-// The record in another phase, and further on.
+// What a record runs under, and the record in another phase and further on.
 ghost use mathlib.Core.Path.{_≡_};
 ghost use Rattle.driver.specs.Calls as calls;
 use crate::Iteration;
@@ -6,14 +6,27 @@ use crate::Phase;
 use crate::Record;
 use crate::Staging;
 use coefficients::Recurrence;
+use family::Setting;
 use workspace::Arguments;
 
-pub fn in_phase(record: Record, phase: Phase) -> Record
-    ensures { λ r. ⌜ r ≡ calls.in-phase phase «record» ⌝ }
+pub fn setting_of(record: Record) -> Setting
+    ensures { λ r. ⌜ r ≡ calls.setting-of «record» ⌝ }
 {
-    let arguments = record.arguments;
-    let iteration = record.iteration;
-    let staging = record.staging;
+    Setting {
+        family: record.family,
+    }
+}
+
+// With another phase and position: family and n stand.
+fn moved_to(
+    record: Record,
+    phase: Phase,
+    arguments: Arguments,
+    iteration: Iteration,
+    staging: Staging,
+) -> Record
+    ensures { λ r. ⌜ r ≡ calls.moved-to phase arguments iteration staging «record» ⌝ }
+{
     Record {
         family: record.family,
         n: record.n,
@@ -22,6 +35,18 @@ pub fn in_phase(record: Record, phase: Phase) -> Record
         iteration,
         staging,
     }
+}
+
+pub fn in_phase(record: Record, phase: Phase) -> Record
+    ensures { λ r. ⌜ r ≡ calls.in-phase phase «record» ⌝ }
+{
+    moved_to(
+        record,
+        phase,
+        record.arguments,
+        record.iteration,
+        record.staging,
+    )
 }
 
 // Waiting for the derivative of a state that is kept at this time.
@@ -52,20 +77,13 @@ pub fn at_pass(
 ) -> Record
     ensures { λ r. ⌜ r ≡ calls.at-pass arguments pass perturbation «previous_radius» «record» ⌝ }
 {
-    let staging = record.staging;
-    Record {
-        family: record.family,
-        n: record.n,
-        phase: Phase::Pass,
-        arguments,
-        iteration: Iteration {
-            pass,
-            perturbation,
-            previous_radius,
-            scaled_radius: 0.0,
-        },
-        staging,
-    }
+    let iteration = Iteration {
+        pass,
+        perturbation,
+        previous_radius,
+        scaled_radius: 0.0,
+    };
+    moved_to(record, Phase::Pass, arguments, iteration, record.staging)
 }
 
 // The iteration has found the scaled radius.
@@ -81,18 +99,16 @@ pub fn with_radius(record: Record, scaled_radius: f64) -> Record
 pub fn at_stage(record: Record, stages: u64, stage: u64, recurrence: Recurrence) -> Record
     ensures { λ r. ⌜ r ≡ calls.at-stage stages stage recurrence «record» ⌝ }
 {
-    let arguments = record.arguments;
-    let iteration = record.iteration;
-    Record {
-        family: record.family,
-        n: record.n,
-        phase: Phase::Stage,
-        arguments,
-        iteration,
-        staging: Staging {
-            stages,
-            stage,
-            recurrence,
-        },
-    }
+    let staging = Staging {
+        stages,
+        stage,
+        recurrence,
+    };
+    moved_to(
+        record,
+        Phase::Stage,
+        record.arguments,
+        record.iteration,
+        staging,
+    )
 }

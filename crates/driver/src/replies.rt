@@ -4,7 +4,6 @@ ghost use mathlib.Core.Bool.{true, false, _||_};
 ghost use Prim.Native.Nat.{_+_, _*_, _≤_, _<_, _^_};
 ghost use lib.Dec.{eqb};
 ghost use lib.ListN.{length};
-ghost use Rattle.family.specs.Family.{family-of};
 ghost use Rattle.workspace.specs.Vectors.{Vectors, unpack, eigenvector, vector-norm};
 ghost use Rattle.workspace.specs.Kernel.{ended};
 ghost use Rattle.driver.specs.declared.Need as need;
@@ -18,6 +17,7 @@ use crate::Record;
 use crate::Staged;
 use crate::Staging;
 use crate::position;
+use family::Setting;
 
 // The derivative of the kept state.
 pub fn take_first(record: Record, area: &mut [f64], derivative: &[f64]) -> Next
@@ -83,10 +83,10 @@ fn ask_stage(record: Record) -> Next
 }
 
 // How many stages this scaled radius takes.
-fn stage_need(family: u64, scaled_radius: f64) -> Need
-    ensures { λ r. ⌜ r ≡ calls.stage-need (family-of family) «scaled_radius» ⌝ }
+fn stage_need(setting: Setting, scaled_radius: f64) -> Need
+    ensures { λ r. ⌜ r ≡ calls.stage-need setting «scaled_radius» ⌝ }
 {
-    Need::Met(family::stages(family, scaled_radius))
+    Need::Met(family::stages(setting.family, scaled_radius))
 }
 
 fn first_stage(record: Record, area: &mut [f64], scaled_radius: f64, stages: u64) -> Next
@@ -94,7 +94,7 @@ fn first_stage(record: Record, area: &mut [f64], scaled_radius: f64, stages: u64
     ensures { λ r. ⌜ Steps (calls.by-need (need.Need.Met stages) «record» (unpack («record» .n) (now (area .entry))) «scaled_radius») r (unpack («record» .n) (now (area .exit))) ⌝ }
 {
     let n = record.n;
-    let c = coefficients::first_recurrence(record.family, stages);
+    let c = coefficients::first_recurrence(position::setting_of(record), stages);
     workspace::first_stage(area, n, record.arguments.step, c.theta_previous);
     let known = position::with_radius(record, scaled_radius);
     let begun = position::at_stage(known, stages, 2, c);
@@ -106,7 +106,7 @@ fn begin_stages(record: Record, area: &mut [f64], scaled_radius: f64) -> Next
     requires { ⌜ 11 * «record» .n ≤ length (now area) ⌝ }
     ensures { λ r. ⌜ Steps (calls.begin-stages «record» (unpack («record» .n) (now (area .entry))) «scaled_radius») r (unpack («record» .n) (now (area .exit))) ⌝ }
 {
-    let need = stage_need(record.family, scaled_radius);
+    let need = stage_need(position::setting_of(record), scaled_radius);
     match need {
         Need::Met(stages) => first_stage(record, area, scaled_radius, stages),
         Need::Unmet(number) => {
@@ -159,15 +159,15 @@ pub fn take_stage(record: Record, area: &mut [f64], derivative: &[f64]) -> Stage
     ensures { λ r. ⌜ Steps (calls.take-stage «record» (unpack («record» .n) (now (area .entry))) (now (derivative .entry))) (outcome-of r «record») (unpack («record» .n) (now (area .exit))) ⌝ }
 {
     let n = record.n;
-    let family = record.family;
+    let setting = position::setting_of(record);
     let step = record.arguments.step;
     let s = record.staging.stages;
     let j = record.staging.stage;
     let c = record.staging.recurrence;
-    let advance = coefficients::row_and_recurrence(family, s, j, c);
+    let advance = coefficients::row_and_recurrence(setting, s, j, c);
     let row = advance.row;
     if j < s {
-        workspace::row_and_exchange(area, n, family, row, step, derivative);
+        workspace::row_and_exchange(area, n, setting, row, step, derivative);
         let recurrence = advance.after;
         let time = record.arguments.time + step * recurrence.theta_previous;
         let staging = Staging {
@@ -177,8 +177,8 @@ pub fn take_stage(record: Record, area: &mut [f64], derivative: &[f64]) -> Stage
         };
         return Staged::On { time, staging };
     }
-    workspace::row(area, n, family, row, step, derivative);
-    workspace::keep_candidate(area, n);
+    workspace::row(area, n, setting, row, step, derivative);
+    workspace::keep_candidate(area, n, setting, step, s, c, row);
     if workspace::finite_vector(area, n, workspace::CANDIDATE) {
         let time = record.arguments.time + step;
         return Staged::Ended { time };
@@ -192,9 +192,10 @@ pub fn take_candidate(record: Record, area: &mut [f64], derivative: &[f64]) -> N
     ensures { λ r. ⌜ Steps (calls.take-candidate «record» (unpack («record» .n) (now (area .entry))) (now (derivative .entry))) r (unpack («record» .n) (now (area .exit))) ⌝ }
 {
     let n = record.n;
+    let setting = position::setting_of(record);
     let arguments = record.arguments;
-    workspace::last(area, n, record.family, arguments, derivative);
-    let norm = workspace::error_norm(area, n, record.family, record.staging.stages, arguments);
+    workspace::last(area, n, setting, arguments, derivative);
+    let norm = workspace::error_norm(area, n, setting, record.staging.stages, arguments);
     let finished = position::in_phase(record, Phase::Finished);
     Next {
         answer: Answer::Finished { norm },

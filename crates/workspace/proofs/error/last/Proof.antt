@@ -19,6 +19,10 @@ taken : (m : Setting) (n : ℕ) (a : Arguments) (v : Vectors) (d : List Float) {
 unfolding with-last
 taken m n a v d e = let w = v with last-derivative ≔ d in sym (ap (λ (t : Bool). cond t (w with derivative ≔ each n w (error m (a .step))) w) e)
 
+of-form : {n : ℕ} {l m : List Float} (h : Float) {f g : ErrorForm} → f ≡ g → Becomes n l m (λ w. w with derivative ≔ each n w (error-in f h))
+    → Becomes n l m (λ w. w with derivative ≔ each n w (error-in g h))
+of-form {n} {l} {m} h e b = subst (λ (form : ErrorForm). Becomes n l m (λ w. w with derivative ≔ each n w (error-in form h))) e b
+
 put-vector-requires : tie.Need-put-vector-requires
 put-vector-requires c κs = search needs
 
@@ -37,7 +41,7 @@ returns c =
     let e = c .before .before .before .before .error-form .ensures in
     let g : Vectors → Vectors = λ w. w with derivative ≔ each (x .n) w (error (x .setting) (x .arguments .step)) in
     becomes-as (becomes-then {g = g} (c .before .before .before .before .before .before .before .before .put-vector .ensures) 
-    (subst (λ (form : ErrorForm). Becomes (x .n) _ _ (λ w. w with derivative ≔ each (x .n) w (error-in form (x .arguments .step)))) e (c .before .before .put-error .ensures)))
+    (of-form (x .arguments .step) e (c .before .before .put-error .ensures)))
     (taken (x .setting) (x .n) (x .arguments) (unpack (x .n) (x .area .now)) (x .derivative .now) (c .before .before .before .before .before .if1 .taken))
 
 same-length-2 : tie.Need-same-length-2
