@@ -119,7 +119,7 @@ impl<F: FnMut(&mut [f64], &[f64], f64)> Stepper<F> {
         self.record = outcome.record;
         match outcome.answer.code {
             code::REFUSED => {
-                Err(Refusal::of_number(outcome.answer.number).expect("numbers are 1 to 10"))
+                Err(Refusal::of_number(outcome.answer.number).expect("a number of the list"))
             }
             _ => Ok(outcome.answer.value),
         }

@@ -55,8 +55,11 @@ pub fn with_call(
 
 // The places of a call's answers: 0 to 31 for the numbers that it is turned away with, and 32 and its code for any other answer.
 pub const EVALUATE: u64 = 33;
+
 pub const FINISHED: u64 = 34;
+
 pub const READY: u64 = 35;
+
 pub const EMPTY: u64 = 37;
 
 // A number above 31 has no place of its own.
