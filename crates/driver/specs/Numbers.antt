@@ -1,5 +1,5 @@
--- The numbers that a call is turned away with, sorted by what it then leaves. Document 01, "When a call is turned away". A new number of a call comes in here
--- and in the list of its call (`numbers-of` in session/specs/Refusals); no statement goes by a range of numbers.
+-- The numbers that the six calls are turned away with, sorted by what a call then leaves. Document 01, "When a call is turned away". A new number comes in here
+-- and in the list of its call (`numbers-of` in session/specs/Refusals): statements and proofs go by the lists and never by a range.
 use Prim.Native.Nat.{ℕ}
 use mathlib.Core.Bool.{Bool, false, _||_}
 use mathlib.Core.List.{List, [], _∷_, _++_}

@@ -34,7 +34,7 @@ use Rattle.driver.specs.Calls.{start, attempt, reply, accept, accept-with-callb
 use Rattle.driver.specs.Calls.{Call, Start, Attempt, Reply, Accept, Accept-with-callback, Abandon}
 use Rattle.session.specs.Refusals.{verdict-of, _∈_, here, later, Left}
 use Rattle.ieee.proofs.Logic.{and-left, and-right}
-use Rattle.session.proofs.Numbers.{is-in, not-both, standing-not-nine, not-nine}
+use Rattle.session.proofs.Numbers.{is-in, not-both, not-nine}
 use Rattle.session.proofs.Needs.{Needed, need-holds}
 use Rattle.session.proofs.Lengths.{long-area, replied-long}
 use Rattle.session.proofs.Guards.{low, low-fails}
@@ -69,7 +69,8 @@ candidate-high r v w same = go (all-finite (w candidate))
 need-high : (need : Need) (r : Record) (v w : Vectors) (radius : Float) → w last-derivative ≡ v last-derivative → Needed (family-of (r .family)) need → Refuses-high r v (by-need need r w radius)
 unfolding by-need ask-stage
 need-high (Met s) r v w radius same ok = on r v _ refl
-need-high (Unmet j) r v w radius same ok = λ i e. record { beyond = subst (λ (i : ℕ). i ∈ after-nine) (same-number j i e) (later ok); record-is = refl; last-stands = same }
+need-high (Unmet j) r v w radius same ok = λ i e.
+    record { beyond = subst (λ (i : ℕ). i ∈ after-nine) (same-number j i e) (later ok); record-is = refl; last-stands = same }
 
 pass-high : (t : Bool) (r r′ : Record) (v w : Vectors) (radius : Float) → w last-derivative ≡ v last-derivative → Refuses-high r v (cond t (begin-stages r w radius) (ask-pass r′ w))
 unfolding begin-stages ask-pass

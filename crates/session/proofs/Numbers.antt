@@ -62,9 +62,6 @@ not-standing m = not-true _ (each (λ k. not (one-of standing-numbers k)) ending
 pub not-both : {k : ℕ} → k ∈ standing-numbers → k ∈ ending-numbers → ⊥
 not-both s m = apart standing-numbers ending-numbers refl s m
 
-pub standing-not-nine : {k : ℕ} → k ∈ standing-numbers → k ≡ 9 → ⊥
-standing-not-nine s e = not-both s (subst (λ (k : ℕ). k ∈ ending-numbers) (sym e) here)
-
 pub not-nine : {k : ℕ} → k ∈ after-nine → k ≡ 9 → ⊥
 not-nine m e = apart after-nine (9 ∷ []) refl m (subst (λ (k : ℕ). k ∈ (9 ∷ [])) (sym e) here)
 

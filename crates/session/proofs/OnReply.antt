@@ -43,7 +43,8 @@ unfolding reply reply-tests taken settled going-on spoiled
 reply-tells h d = taken-exactly h (reply-tests (h .kept) (h .counters) (h .area) d) _ refl (go (all-finite d))
   where
     go : (t : Bool) → taken (cond t (settled (h .counters) (replied (h .kept .phase) (h .kept) (unpack (h .kept .n) (h .area)) d)) (spoiled h) .answer) ≡ true
-    go true = high-taken (replied (h .kept .phase) (h .kept) (unpack (h .kept .n) (h .area)) d .answer) (λ i e. later (replied-high (h .kept .phase) (h .kept) (unpack (h .kept .n) (h .area)) d i e .beyond))
+    go true = let v = unpack (h .kept .n) (h .area) in
+        high-taken (replied (h .kept .phase) (h .kept) v d .answer) (λ i e. later (replied-high (h .kept .phase) (h .kept) v d i e .beyond))
     go false = refl
 
 pub reply-agrees : (h : Held) (σ : Session) → h .counters ≡ σ .counts → Does (σ .family) (σ .n) (σ .doing) h → (d : List Float)

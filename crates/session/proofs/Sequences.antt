@@ -62,7 +62,8 @@ left h c e = go (made h c .answer) refl e
     go (Evaluate t b) s e = absurd (differ (sym e))
     go (Finished x) s e = absurd (differ (sym e))
     go Ready s e = absurd (differ (sym e))
-    go (Refused i) s e = leaves h c i (record { same-case = ap case-number s; same-values = ap case-values s }) .all-stands (is-in standing-numbers i (not-false (one-of standing-numbers i) e))
+    go (Refused i) s e = let standing = is-in standing-numbers i (not-false (one-of standing-numbers i) e) in
+        leaves h c i (record { same-case = ap case-number s; same-values = ap case-values s }) .all-stands standing
     go Empty s e = absurd (differ (sym e))
 
 -- ---- a list of calls
