@@ -99,6 +99,10 @@ fn all(size: &Size, seed: u64) -> Result<(), String> {
             .map_err(|difference| format!("call {seed}: {difference}"))?;
     }
     report_calls(&answers);
+    let missing = answers.missing();
+    if !missing.is_empty() {
+        return Err(format!("not reached: {}", missing.join(", ")));
+    }
     println!("0 differences");
     Ok(())
 }

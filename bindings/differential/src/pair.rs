@@ -5,7 +5,7 @@
 //! the right-hand side stops it before a derivative is written.
 use crate::model::Replies;
 use crate::random::{Random, all_same, same};
-use crate::refusals::{Arguments, Call, Given, Held, Outcome, Start, check, number};
+use crate::refusals::{Arguments, Call, Given, Held, Outcome, Start, check, number, stands};
 use crate::trace::Trace;
 use oracle::{Oracle, SolveError};
 use stabilized::calls::{self, Answer, Counters, Record, VECTORS, code, phase, vector};
@@ -381,7 +381,7 @@ impl Pair {
         Ok(())
     }
 
-    /// Now and then a call that is turned away with 1 to 8, which changes nothing.
+    /// Now and then a call that is turned away and changes nothing.
     pub fn something_turned_away(&mut self) -> Result<(), String> {
         if !self.random.chance(3) {
             return Ok(());
@@ -435,7 +435,7 @@ impl Pair {
             counters: self.counters,
             area: &self.area,
         };
-        if number(&held, &call).is_some_and(|number| number < 9) {
+        if number(&held, &call).is_some_and(stands) {
             self.turned_away += 1;
             self.engine(&call)?;
         }

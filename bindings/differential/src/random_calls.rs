@@ -1,7 +1,7 @@
 //! Calls with any record, lengths, counters and doubles, each held against document 01's table.
 use crate::pair::make;
 use crate::random::Random;
-use crate::refusals::{Arguments, Call, Given, Held, Start, check};
+use crate::refusals::{Arguments, Call, Given, Held, Start, check, numbers};
 use stabilized::calls::{Counters, Record, VECTORS, code};
 use std::collections::BTreeMap;
 
@@ -19,6 +19,19 @@ const NAMES: [&str; 6] = [
 pub struct Answers {
     pub calls: u64,
     pub given: BTreeMap<(&'static str, u64), u64>,
+    /// The numbers that each call can answer.
+    pub lists: BTreeMap<&'static str, &'static [u64]>,
+}
+
+impl Answers {
+    /// The numbers of the lists that no call gave.
+    pub fn missing(&self) -> Vec<String> {
+        let all = self.lists.iter();
+        all.flat_map(|(name, numbers)| numbers.iter().map(move |number| (*name, *number)))
+            .filter(|answer| !self.given.contains_key(answer))
+            .map(|(name, number)| format!("{name}, turned away with {number}"))
+            .collect()
+    }
 }
 
 /// `usual`, and now and then anything.
@@ -164,6 +177,7 @@ pub fn call(seed: u64, answers: &mut Answers) -> Result<(), String> {
         0
     };
     *answers.given.entry((NAMES[kind], answer)).or_default() += 1;
+    answers.lists.insert(NAMES[kind], numbers(&call));
     let held = Held {
         record,
         counters,

@@ -43,6 +43,23 @@ pub struct Held<'a> {
     pub area: &'a [f64],
 }
 
+/// The numbers that a call can answer. "Every call has 1 to 4 (start: no phase); start and accept with a callback 5 and time
+/// in 6; attempt 6 and 7; every reply 8 and 9; the reply that ends stage s also 10."
+pub fn numbers(call: &Call) -> &'static [u64] {
+    match call {
+        Call::Start(_) => &[1, 2, 3, 5, 6],
+        Call::Attempt(_) => &[1, 2, 3, 4, 6, 7],
+        Call::Reply { .. } => &[1, 2, 3, 4, 8, 9, 10],
+        Call::Accept | Call::Abandon => &[1, 2, 3, 4],
+        Call::AcceptWithCallback { .. } => &[1, 2, 3, 4, 5, 6],
+    }
+}
+
+/// Everything is left as it was; after any other number the reply is counted and the phase is empty.
+pub fn stands(number: u64) -> bool {
+    [1, 2, 3, 4, 5, 6, 7, 8].contains(&number)
+}
+
 const VECTORS: u64 = 11;
 const LIMIT: u64 = u64::MAX;
 
@@ -460,7 +477,7 @@ fn settle_stage(s: &mut Settled, record: Record, given: &Given, n: usize) {
 fn turned_away(held: &Held, number: u64) -> Settled {
     let mut s = Settled::standing(held);
     s.answer = Some(refused(number));
-    if number == 9 {
+    if !stands(number) {
         s.record = Some(with_phase(held.record, phase::EMPTY));
         s.counters.evaluations += 1;
     }
@@ -475,6 +492,9 @@ pub fn check(held: &Held, call: &Call, given: &Given) -> Result<(), String> {
     };
     let outcome = &given.outcome;
     let answer = s.answer.expect("every call has an answer");
+    if answer.code == code::REFUSED && !numbers(call).contains(&answer.number) {
+        return Err(format!("{} is no number of the call", answer.number));
+    }
     if !same_answer(&answer, &outcome.answer) {
         return Err(format!("answer {:?}, expected {answer:?}", outcome.answer));
     }

@@ -118,7 +118,7 @@ impl<F: FnMut(&mut [f64], &[f64], f64)> Stepper<F> {
             );
         }
         match answer.code {
-            code::REFUSED => Err(Refusal::of_number(answer.number).expect("numbers are 1 to 10")),
+            code::REFUSED => Err(Refusal::of_number(answer.number).expect("a number of the list")),
             _ => Ok(answer.value),
         }
     }

@@ -10,7 +10,9 @@ use lib.Dec.{eqb}
 use lib.ListN.{length, length-append}
 use lib.Ieee.{Float, lt}
 use Rattle.driver.specs.Calls.{Called, may-accept}
-use Rattle.session.specs.Refusals.{largest-number}
+use Rattle.driver.specs.Numbers.{refusal-numbers, ending-numbers}
+use Rattle.session.specs.Refusals.{_∈_, here}
+use Rattle.session.proofs.Numbers.{ending-refuses, not-zero}
 use Rattle.heat_sink.specs.declared.Inverter.{Inverter}
 use Rattle.sheet.specs.Text as Text
 use Rattle.sheet.specs.Text.{minutes-a-day}
@@ -60,19 +62,19 @@ with-finished m k c t z n o a =
       a-number-each = omega (arith, length-append (t .refusals) (x ∷ []), a .a-number-each);
       a-junction-each = omega (arith, length-append (t .junctions) (temperature ∷ []), a .a-junction-each);
       all-listed = omega (arith, grown, a .all-listed);
-      numbered = numbered-grown 0 (t .refusals) x (omega (arith, z)) (a .numbered);
+      numbered = numbered-grown 0 (t .refusals) x (λ some. absurd (some z)) (a .numbered);
       acceptable = o;
     }
 
 -- a minute more, refused, by the engine or before it
-with-refused : (m : Inverter) (k : ℕ) (c : Called) (t : So-far) → finished (c .answer) ≡ false → 1 ≤ refusal (c .answer) → refusal (c .answer) ≤ largest-number
+with-refused : (m : Inverter) (k : ℕ) (c : Called) (t : So-far) → finished (c .answer) ≡ false → refusal (c .answer) ∈ refusal-numbers
     → c .held .counters .«finished_attempts» ≡ t .count .counters .«finished_attempts» → Acceptable (c .held)
     → After k t → After (k + 1) (with-minute m c t)
 unfolding with-minute counted is-above
-with-refused m k c t f l most n o a =
+with-refused m k c t f l n o a =
     let x = refusal (c .answer) in
     let temperature = junction m (c .held .kept .phase) (c .held .area) in
-    let some = one-if-some x l in
+    let some = one-if-some x (not-zero l) in
     let above = above-none (finished (c .answer)) (lt (m .rated) temperature) f in
     let grown = listed-grown 0 (t .refusals) x in
     record {
@@ -81,7 +83,7 @@ with-refused m k c t f l most n o a =
       a-number-each = omega (arith, length-append (t .refusals) (x ∷ []), a .a-number-each);
       a-junction-each = omega (arith, length-append (t .junctions) (temperature ∷ []), a .a-junction-each);
       all-listed = omega (arith, grown, a .all-listed);
-      numbered = numbered-grown 0 (t .refusals) x most (a .numbered);
+      numbered = numbered-grown 0 (t .refusals) x (λ _. l) (a .numbered);
       acceptable = o;
     }
 
@@ -90,12 +92,12 @@ with-minute-after : (m : Inverter) (k : ℕ) (reading : Float) (c : Called) (t :
     → After k t → After (k + 1) (with-minute m c t)
 unfolding finished refusal
 with-minute-after m k reading c t (Completed r f z p n) o a = with-finished m k c t z n o a
-with-minute-after m k reading c t (Given-up r f l most p n) o a = with-refused m k c t f l most n o a
+with-minute-after m k reading c t (Given-up r f l p n) o a = with-refused m k c t f l n o a
 with-minute-after m k reading c t (Kept-out r e) o a =
-    let nine : refusal (c .answer) ≡ 9 = ap (λ (x : Called). refusal (x .answer)) e in
+    let nine : refusal (c .answer) ∈ ending-numbers = subst (λ (x : Called). refusal (x .answer) ∈ ending-numbers) (sym e) here in
     let none = ap (λ (x : Called). finished (x .answer)) e in
     let same = ap (λ (x : Called). x .held .counters .«finished_attempts») e in
-    with-refused m k c t none (omega (arith, nine)) (omega (arith, nine)) same o a
+    with-refused m k c t none (ending-refuses nine) same o a
 
 run-after : (m : Inverter) (minute k : ℕ) (readings : List Float) (t : So-far) → After k t → After (k + length readings) (run m minute readings t)
 unfolding run

@@ -7,7 +7,8 @@ use native.Mathlib.Omega.{arith}
 use borrow.Author.Tests.{eqb-false}
 use lib.Dec.{eqb}
 use lib.ListN.{length, length-append}
-use Rattle.session.specs.Refusals.{largest-number}
+use Rattle.driver.specs.Numbers.{refusal-numbers}
+use Rattle.session.specs.Refusals.{_∈_}
 use Rattle.inverter.specs.Day.{one-if}
 use Rattle.accounts.specs.Accounts.{Entry, entry, listed, Rising, Numbered}
 
@@ -37,19 +38,19 @@ listed-grown i l x = ap length (listed-more i l x) ∙ go (eqb x 0)
     go false = length-append (listed i l) (entry (i + length l) x ∷ [])
 
 -- its number is 0 or one of the table
-pub numbered-grown : (i : ℕ) (l : List ℕ) (x : ℕ) → x ≤ largest-number → Numbered (listed i l) → Numbered (listed i (l ++ (x ∷ [])))
+pub numbered-grown : (i : ℕ) (l : List ℕ) (x : ℕ) → ((x ≡ 0 → ⊥) → x ∈ refusal-numbers) → Numbered (listed i l) → Numbered (listed i (l ++ (x ∷ [])))
 unfolding listed Numbered
 numbered-grown i [] x h n = go (eqb x 0) refl
   where
     go : (b : Bool) → eqb x 0 ≡ b → Numbered (cond b [] (entry i x ∷ []))
     go true e = tt
-    go false e = (omega (arith, eqb-false x 0 e), h, tt)
+    go false e = (h (eqb-false x 0 e), tt)
 numbered-grown i (y ∷ l) x h n = go (eqb y 0) (λ m. numbered-grown (i + 1) l x h m) n
   where
     go : (b : Bool) → (Numbered (listed (i + 1) l) → Numbered (listed (i + 1) (l ++ (x ∷ [])))) → Numbered (cond b (listed (i + 1) l) (entry i y ∷ listed (i + 1) l))
         → Numbered (cond b (listed (i + 1) (l ++ (x ∷ []))) (entry i y ∷ listed (i + 1) (l ++ (x ∷ []))))
     go true f n = f n
-    go false f n = (n .0, n .1, f (n .2))
+    go false f n = (n .0, f (n .1))
 
 -- what rises from a later minute rises from an earlier one
 earlier : (i j to : ℕ) (es : List Entry) → i ≤ j → Rising j to es → Rising i to es

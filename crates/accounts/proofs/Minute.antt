@@ -3,10 +3,10 @@
 use mathlib.Core.Path.{_≡_, refl, sym, ap, subst, _∙_}
 use mathlib.Core.Bool.{Bool, true, false, cond, _&&_, _||_, false≢true}
 use mathlib.Core.List.{List}
-use Prim.Native.Nat.{ℕ, zero, suc, _+_, _≤_}
+use Prim.Native.Nat.{ℕ, zero, suc, _+_}
 use native.Mathlib.Omega.{arith}
-use borrow.Author.Tests.{eqb-true, leb-true}
-use lib.Dec.{leb, ltb, eqb}
+use borrow.Author.Tests.{eqb-true}
+use lib.Dec.{ltb, eqb}
 use lib.ListN.{length}
 use lib.Ieee.{Float}
 use lib.Ieee.Scale.{finite}
@@ -28,9 +28,11 @@ use Rattle.driver.specs.declared.Need.the-variants.{Met, Unmet}
 use Rattle.driver.specs.Calls as calls
 use Rattle.driver.specs.Calls.{Held, Called, Step, Test, admitted, first-failing, guarded}
 use Rattle.driver.specs.Promises.{holding}
-use Rattle.ieee.proofs.Logic.{both, and-left, and-right}
+use Rattle.ieee.proofs.Logic.{both}
 use Rattle.driver.proofs.Ladder.{each-passes, admits, by-tests, goes-ahead}
-use Rattle.session.specs.Refusals.{largest-number}
+use Rattle.driver.specs.Numbers.{standing-numbers, refusal-numbers}
+use Rattle.session.specs.Refusals.{_∈_, here, later}
+use Rattle.session.proofs.Numbers.{is-in, standing-refuses, ending-refuses}
 use Rattle.session.proofs.Needs.{Needed, need-holds}
 use Rattle.session.proofs.Guards.{low, low-fails}
 use Rattle.session.proofs.Lengths.{whole-pack, long-area, replied-long}
@@ -47,7 +49,7 @@ module _ (r : Record) where
   Answer-of (Evaluate time vector) k = calls.may-accept (k .phase) ≡ false
   Answer-of (Finished norm) k = (calls.may-accept (k .phase) ≡ true) × (k .family ≡ r .family) × (k .n ≡ r .n)
   Answer-of Ready k = calls.may-accept (k .phase) ≡ false
-  Answer-of (Refused i) k = (1 ≤ i) × (i ≤ largest-number) × (calls.may-accept (k .phase) ≡ false)
+  Answer-of (Refused i) k = (i ∈ refusal-numbers) × (calls.may-accept (k .phase) ≡ false)
   Answer-of Empty k = ⊥
 
   abbrev Answers : Step → Type 0
@@ -56,7 +58,7 @@ module _ (r : Record) where
   needed : (f : Family) (n : Need) (v : Vectors) (radius : Float) → Needed f n → Answers (calls.by-need n r v radius)
   unfolding Answer-of calls.by-need calls.ask-stage calls.at-stage calls.in-phase calls.may-accept
   needed f (Met s) v radius h = refl
-  needed f (Unmet i) v radius h = (omega (arith, h .0), h .1, refl)
+  needed f (Unmet i) v radius h = (ending-refuses (later (later h)), refl)
 
   at-candidate : (v : Vectors) → Answers (calls.ask-candidate r v)
   unfolding Answer-of calls.ask-candidate calls.in-phase calls.may-accept
@@ -64,7 +66,7 @@ module _ (r : Record) where
     where
       go : (t : Bool) → Answers (cond t (calls.step-to (Evaluate (r .arguments .time ⊕ r .arguments .step) (number candidate)) (calls.in-phase P.Candidate r) v) (calls.step-to (Refused 10) (calls.in-phase P.Empty r) v))
       go true = refl
-      go false = (omega arith, omega arith, refl)
+      go false = (ending-refuses (later here), refl)
 
   after-pass : (t : Bool) (k : Record) (v : Vectors) (radius : Float) → calls.may-accept (k .phase) ≡ false
       → Answers (cond t (calls.begin-stages r v radius) (calls.ask-pass k v))
@@ -112,7 +114,7 @@ unfoldable Stand : ℕ → Answer → Held → Type 0
 Stand n (Evaluate time vector) h = (h .counters .«finished_attempts» ≡ n) × (calls.may-accept (h .kept .phase) ≡ false)
 Stand n (Finished norm) h = (h .counters .«finished_attempts» ≡ n + 1) × (calls.may-accept (h .kept .phase) ≡ true) × (calls.accept h .answer ≡ Ready)
 Stand n Ready h = (h .counters .«finished_attempts» ≡ n) × (calls.may-accept (h .kept .phase) ≡ false)
-Stand n (Refused i) h = (1 ≤ i) × (i ≤ largest-number) × (h .counters .«finished_attempts» ≡ n) × (calls.may-accept (h .kept .phase) ≡ false)
+Stand n (Refused i) h = (i ∈ refusal-numbers) × (h .counters .«finished_attempts» ≡ n) × (calls.may-accept (h .kept .phase) ≡ false)
 Stand n Empty h = ⊥
 
 abbrev Stands : ℕ → Called → Type 0
@@ -133,7 +135,7 @@ module _ (n : ℕ) (h : Held) (e : h .counters .«finished_attempts» ≡ n) whe
       let whole = subst (λ (x : ℕ). calls.whole-area x (k .n) area ≡ true) (sym (o .1)) sized in
       (ap (λ (j : ℕ). j + 1) e, o .0, accept-goes _ family size whole (o .0))
   counts Ready k v o f s l = (e, o)
-  counts (Refused i) k v o f s l = (o .0, o .1, e, o .2)
+  counts (Refused i) k v o f s l = (o .0, e, o .1)
   counts Empty k v o f s l = o
 
   -- an accept that is not turned away
@@ -147,8 +149,7 @@ module _ (n : ℕ) (h : Held) (e : h .counters .«finished_attempts» ≡ n) whe
     guarded-stands : (ts : List Test) (go : Called) → low ts ≡ true → (first-failing ts ≡ admitted → Stands n go) → Stands n (guarded h ts go)
     unfolding Stand
     guarded-stands ts go l s = by-tests (Stands n) h ts go s
-        (λ k q. let t = low-fails ts k l q in
-        (leb-true 1 k (and-left (leb 1 k) (leb k 8) t), omega (arith, leb-true k 8 (and-right (leb 1 k) (leb k 8) t)), e, p))
+        (λ k q. (standing-refuses (is-in standing-numbers k (low-fails ts k l q)), e, p))
 
     start-stands : (f k : ℕ) (y : List Float) (t : Float) → Stands n (calls.start h f k y t)
     unfolding calls.start calls.start-tests calls.first-at calls.may-accept Stand
@@ -169,7 +170,7 @@ module _ (n : ℕ) (h : Held) (e : h .counters .«finished_attempts» ≡ n) whe
         let long = replied-long (r .phase) r v d (long-area (r .family) (r .n) (h .area) (lengths .0)) (eqb-true (length d) (r .n) (lengths .1)) in
         let x = calls.replied (r .phase) r v d in
         counts (x .answer) (x .kept) (x .vectors) (replied-answers r (r .phase) v d) f s long
-    replied-stands d f s w false = (omega arith, omega arith, e, refl)
+    replied-stands d f s w false = (ending-refuses here, e, refl)
 
     reply-stands : (d : List Float) → Stands n (calls.reply h d)
     unfolding calls.reply calls.reply-tests
@@ -210,8 +211,8 @@ module _ (m : Inverter) (minute : ℕ) where
     last h c (Finished norm) r e g s = (Completed r (ap finished e) (ap refusal e) (s .1) (s .0), λ q. s .2)
     last h c Ready r e g s = absurd (false≢true g)
     last h c (Refused i) r e g s =
-        let up : Ended reading h c = Given-up r (ap finished e) (omega (arith, ap refusal e, s .0)) (omega (arith, ap refusal e, s .1)) (s .3) (s .2) in
-        (up, λ q. absurd (false≢true (sym (s .3) ∙ q)))
+        let up : Ended reading h c = Given-up r (ap finished e) (subst (λ (k : ℕ). k ∈ refusal-numbers) (sym (ap refusal e)) (s .0)) (s .2) (s .1) in
+        (up, λ q. absurd (false≢true (sym (s .2) ∙ q)))
     last h c Empty r e g s = absurd s
 
     -- from what can be accepted if it is finished, and so again

@@ -12,7 +12,8 @@ use Rattle.ieee.specs.Double.{_⊕_, _⊗_, _⊘_, double, half}
 use Rattle.workspace.specs.Vectors.{unpack, state}
 use Rattle.driver.specs.declared.Answer.the-variants.{Ready, Refused}
 use Rattle.driver.specs.Calls.{Held, Called, may-accept, accept}
-use Rattle.session.specs.Refusals.{largest-number}
+use Rattle.driver.specs.Numbers.{refusal-numbers}
+use Rattle.session.specs.Refusals.{_∈_}
 use Rattle.heat_sink.specs.declared.Inverter.{Inverter}
 use Rattle.sheet.specs.Text.{minutes-a-day}
 use Rattle.inverter.specs.declared.Total.{Total}
@@ -30,7 +31,7 @@ Acceptable h = may-accept (h .kept .phase) ≡ true → accept h .answer ≡ Rea
 pub data Ended (reading : Float) (h : Held) (end : Called) : Type 0 where
   Completed : finite reading ≡ true → finished (end .answer) ≡ true → refusal (end .answer) ≡ 0 → may-accept (end .held .kept .phase) ≡ true
       → end .held .counters .«finished_attempts» ≡ h .counters .«finished_attempts» + 1 → Ended reading h end
-  Given-up : finite reading ≡ true → finished (end .answer) ≡ false → 1 ≤ refusal (end .answer) → refusal (end .answer) ≤ largest-number
+  Given-up : finite reading ≡ true → finished (end .answer) ≡ false → refusal (end .answer) ∈ refusal-numbers
       → may-accept (end .held .kept .phase) ≡ false
       → end .held .counters .«finished_attempts» ≡ h .counters .«finished_attempts» → Ended reading h end
   Kept-out : finite reading ≡ false → end ≡ called (Refused 9) h → Ended reading h end
@@ -58,7 +59,7 @@ Rising from to (e ∷ es) = (from ≤ e .minute) × Rising (e .minute + 1) to es
 -- each has a number of the table of refusals
 unfoldable pub Numbered : List Entry → Type 0
 Numbered [] = Unit
-Numbered (e ∷ es) = (1 ≤ e .number) × (e .number ≤ largest-number) × Numbered es
+Numbered (e ∷ es) = (e .number ∈ refusal-numbers) × Numbered es
 
 -- ---- the day
 

@@ -1,6 +1,6 @@
 // The stage counts of all families, held against the Rust's over stored radii: each threshold and its neighbors within 8 units in the last place, random,
-// subnormal, huge and infinite radii, NaNs and negatives. data/counts was written by the Rust (bindings/oracle/src/bin/counts.rs): for each radius its bits, and
-// a word with a byte a family, the lowest RKC's.
+// subnormal, huge and infinite radii, NaNs and negatives. data/counts was written by the Rust (bindings/oracle/src/bin/counts.rs): for each radius a word with
+// its bits, and two words with the counts of families 1 to 4 and 5 to 8, two bytes a family, the lowest the first's (0 for a family that is not carried).
 use stored::Tally;
 
 pub struct Tallies {
@@ -26,22 +26,23 @@ fn with_count(tallies: Tallies, family: u64, radius: f64, theirs: u64) -> Tallie
     }
 }
 
-fn with_radius(tallies: Tallies, radius: f64, counts: u64) -> Tallies {
-    let a = with_count(tallies, 1, radius, counts % 256);
-    let b = with_count(a, 2, radius, counts / 0x100 % 256);
-    let c = with_count(b, 3, radius, counts / 0x1_0000 % 256);
-    let d = with_count(c, 4, radius, counts / 0x100_0000 % 256);
-    with_count(d, 5, radius, counts / 0x1_0000_0000 % 256)
+fn with_radius(tallies: Tallies, radius: f64, first: u64, second: u64) -> Tallies {
+    let a = with_count(tallies, 1, radius, first % 0x1_0000);
+    let b = with_count(a, 2, radius, first / 0x1_0000 % 0x1_0000);
+    let c = with_count(b, 3, radius, first / 0x1_0000_0000 % 0x1_0000);
+    let d = with_count(c, 4, radius, first / 0x1_0000_0000_0000);
+    with_count(d, 5, radius, second % 0x1_0000)
 }
 
 // All whole records of s.
 fn with_records(tallies: Tallies, s: &[u8]) -> Tallies {
     let mut all = tallies;
     let mut i: usize = 0;
-    while i < s.len() / 16 {
-        let radius = ieee::float_of(stored::word(s, 2 * i));
-        let counts = stored::word(s, 2 * i + 1);
-        all = with_radius(all, radius, counts);
+    while i < s.len() / 24 {
+        let radius = ieee::float_of(stored::word(s, 3 * i));
+        let first = stored::word(s, 3 * i + 1);
+        let second = stored::word(s, 3 * i + 2);
+        all = with_radius(all, radius, first, second);
         i += 1;
     }
     all
@@ -52,13 +53,18 @@ pub struct Part {
     pub tallies: Tallies,
 }
 
+// Room for 2,048 records.
+fn room() -> [u8; 49152] {
+    [0; 49152]
+}
+
 // A buffer full of records, or what is left of them.
 fn with_part(tallies: Tallies, fd: i32) -> Part {
-    let mut buf = io::large_buffer();
+    let mut buf = room();
     let n = io::read_full(fd, &mut buf);
     let all = with_records(tallies, &buf[..n]);
     Part {
-        last: n < 65536,
+        last: n < 49152,
         tallies: all,
     }
 }

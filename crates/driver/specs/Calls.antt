@@ -24,6 +24,7 @@ use Rattle.driver.specs.declared.Need.{Need}
 use Rattle.driver.specs.declared.Need.the-variants.{Met, Unmet}
 use Rattle.driver.specs.declared.Answer.{Answer}
 use Rattle.driver.specs.declared.Answer.the-variants.{Evaluate, Finished, Ready, Refused, Empty}
+use Rattle.driver.specs.Numbers.{one-of, standing-numbers}
 
 -- what the caller holds between two calls
 pub record Held : Type 0 where
@@ -281,7 +282,7 @@ guarded h tests go = decide (first-failing tests) h go
 
 -- These six lists are the table of "When a call is turned away", call by call. "Tests run in this order. Every call has 1 to 4 (start: on what it brings, and
 -- no phase); start and accept with a callback 5 and time in 6; attempt 6 and 7, with or without `adaptive`; every reply 8 and 9; the reply that ends stage s
--- also 10." Numbers 9 and 10 are no tests here: a reply that comes to them is counted and ends its phase (`spoiled`, `ask-candidate`).
+-- also 10." The `ending-numbers` are no tests here: a reply that comes to one is counted and ends its phase (`spoiled`, `by-need`, `ask-candidate`).
 -- session/specs/Refusals spells that sentence by itself.
 
 unfoldable pub start-tests : ℕ → ℕ → List Float → List Float → Float → List Test
@@ -426,10 +427,11 @@ made h Accept = accept h
 made h (Accept-with-callback y t) = accept-with-callback h y t
 made h Abandon = abandon h
 
--- whether a call is taken: not turned away with 1 to 8. (A reply that is turned away with 9 or 10 is taken: it is counted, and the phase is then empty.)
+-- whether a call is taken: not turned away with a number on which everything stands. (A reply that is turned away with another is taken: it is counted, and
+-- the phase is then empty.)
 unfoldable pub taken : Answer → Bool
 taken (Evaluate t b) = true
 taken (Finished e) = true
 taken Ready = true
-taken (Refused i) = not (leb 1 i && leb i 8)
+taken (Refused i) = not (one-of standing-numbers i)
 taken Empty = true

@@ -36,7 +36,7 @@ pub record Meets (promised : Called) (given : Answer) (r : Record) (c : Counters
   pub counters : c ≡ promised .held .counters
   pub area : left ≡ promised .held .area
 
--- a call that is turned away with 1 to 8 hands back what it was handed
+-- a call that is not taken hands back what it was handed
 abbrev pub turned-away : ℕ → Record → Counters → Replied
 turned-away k r c = record { answer = Refused k; «record» = r; counters = c }
 

@@ -1,5 +1,5 @@
 // The tests of each call, in order: the number of the first that fails, 0 where none does. A call asks for its number before it writes anything, so that
-// all its refusals are one line. (Numbers 9 and 10 are not here: a reply that comes to them is counted and ends its phase.)
+// all its refusals are one line. (The `ending-numbers` of specs/Numbers are not here: a reply that comes to one is counted and ends its phase.)
 ghost use mathlib.Core.Path.{_≡_};
 ghost use Rattle.driver.specs.Calls.{cause-of, first-failing, start-tests, attempt-tests, reply-tests, accept-tests, callback-tests, abandon-tests};
 use crate::Counters;

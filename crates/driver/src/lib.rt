@@ -149,7 +149,7 @@ fn no_recurrence() -> Recurrence
     }
 }
 
-// Turned away with 1 to 8: the record stands.
+// Turned away by a test: the record stands.
 fn refused(record: Record, number: u64) -> Next
     ensures { λ r. ⌜ r ≡ refusal number «record» ⌝ }
 {
@@ -233,7 +233,7 @@ fn counted(answer: Answer, counters: Counters) -> Counters
     }
 }
 
-// Turned away with 1 to 8: record and counters stand.
+// Turned away by a test: record and counters stand.
 fn turned_away(record: Record, counters: Counters, number: u64) -> Replied
     ensures { λ r. ⌜ r ≡ turned-away number «record» counters ⌝ }
 {

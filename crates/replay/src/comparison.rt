@@ -53,11 +53,28 @@ pub fn with_call(
     }
 }
 
-// How often each call, 1 to 6, was answered so: 16 places a call.
-pub fn count(seen: &mut [u64; 112], call: u64, answer: u64) {
+// The places of a call's answers: 0 to 31 for the numbers that it is turned away with, and 32 and its code for any other answer.
+pub const EVALUATE: u64 = 33;
+
+pub const FINISHED: u64 = 34;
+
+pub const READY: u64 = 35;
+
+pub const EMPTY: u64 = 37;
+
+// A number above 31 has no place of its own.
+pub fn refused(number: u64) -> u64 {
+    if number < 32 {
+        return number;
+    }
+    36
+}
+
+// How often each call, 1 to 6, was answered so: 40 places a call.
+pub fn count(seen: &mut [u64; 280], call: u64, answer: u64) {
     if call < 7 {
-        if answer < 16 {
-            let at = call as usize * 16 + answer as usize;
+        if answer < 40 {
+            let at = call as usize * 40 + answer as usize;
             seen[at] = std::num::wrapping_add_u64(seen[at], 1);
         }
     }
@@ -84,10 +101,11 @@ fn call_name(call: usize) {
 
 fn answer_name(answer: usize) {
     match answer {
-        11 => say(b", evaluate: "),
-        12 => say(b", finished: "),
-        13 => say(b", ready: "),
-        15 => say(b", empty: "),
+        33 => say(b", evaluate: "),
+        34 => say(b", finished: "),
+        35 => say(b", ready: "),
+        36 => say(b", turned away with a number above 31: "),
+        37 => say(b", empty: "),
         refused => {
             say(b", turned away with ");
             number(refused as u64);
@@ -96,12 +114,12 @@ fn answer_name(answer: usize) {
     }
 }
 
-fn print_seen(seen: &[u64; 112]) {
+fn print_seen(seen: &[u64; 280]) {
     let mut at: usize = 0;
-    while at < 112 {
+    while at < 280 {
         if seen[at] > 0 {
-            call_name(at / 16);
-            answer_name(at % 16);
+            call_name(at / 40);
+            answer_name(at % 40);
             number(seen[at]);
             say(b"\n");
         }
@@ -109,7 +127,7 @@ fn print_seen(seen: &[u64; 112]) {
     }
 }
 
-pub fn print(comparison: Comparison, seen: &[u64; 112]) {
+pub fn print(comparison: Comparison, seen: &[u64; 280]) {
     print_seen(seen);
     number(comparison.sessions);
     say(b" sessions, ");

@@ -51,14 +51,13 @@ fn right_answer(s: &[u8], at: usize, answer: Answer) -> bool {
     }
 }
 
-// 1 to 10 for an answer that turns away, else 10 and its code.
 fn kind(answer: Answer) -> u64 {
     match answer {
-        Answer::Evaluate { time: _, vector: _ } => 11,
-        Answer::Finished { norm: _ } => 12,
-        Answer::Ready => 13,
-        Answer::Refused(cause) => cause,
-        Answer::Empty => 15,
+        Answer::Evaluate { time: _, vector: _ } => comparison::EVALUATE,
+        Answer::Finished { norm: _ } => comparison::FINISHED,
+        Answer::Ready => comparison::READY,
+        Answer::Refused(cause) => comparison::refused(cause),
+        Answer::Empty => comparison::EMPTY,
     }
 }
 
@@ -135,7 +134,7 @@ fn called(
     area: &mut [f64],
     expected: &mut [f64],
     brought: &mut [f64],
-    seen: &mut [u64; 112],
+    seen: &mut [u64; 280],
 ) -> Session {
     let before = session.record;
     let held = session.counters;
@@ -173,7 +172,7 @@ fn next_record(
     area: &mut [f64],
     expected: &mut [f64],
     brought: &mut [f64],
-    seen: &mut [u64; 112],
+    seen: &mut [u64; 280],
 ) -> Session {
     let call = stored::word(s, session.at);
     let at = trace::on(session.at, 1);
@@ -203,7 +202,7 @@ fn sessions(
     area: &mut [f64],
     expected: &mut [f64],
     brought: &mut [f64],
-    seen: &mut [u64; 112],
+    seen: &mut [u64; 280],
 ) -> Comparison {
     let mut session = Session {
         at: 0,
@@ -226,7 +225,7 @@ fn sessions(
     session.comparison
 }
 
-fn all_sessions(s: &[u8], seen: &mut [u64; 112]) -> Comparison {
+fn all_sessions(s: &[u8], seen: &mut [u64; 280]) -> Comparison {
     let mut area = [0.0; 5632];
     let mut expected = [0.0; 5632];
     let mut brought = [0.0; 513];
@@ -246,7 +245,7 @@ fn main() {
     let mut bytes = room();
     let n = io::read_full(fd, &mut bytes);
     libc::close(fd);
-    let mut seen = [0; 112];
+    let mut seen = [0; 280];
     let all = all_sessions(&bytes[..n], &mut seen);
     comparison::print(all, &seen);
 }

@@ -1,4 +1,4 @@
--- Demand 2 with calls that are turned away with 1 to 8 before the attempt and between its replies: where the calls that are taken are an attempt and m replies,
+-- Demand 2 with calls that are not taken before the attempt and between its replies: where the calls that are taken are an attempt and m replies,
 -- they show and leave what the attempt and m replies alone do (`among`), so `run` holds of them; and where the attempt finishes they show its evaluations in
 -- order and then finished. From `skipped`, `run` and `took`.
 use mathlib.Core.Path.{_≡_, refl, sym, ap, ap₂, _∙_, subst}

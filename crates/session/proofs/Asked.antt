@@ -25,11 +25,12 @@ use Rattle.driver.specs.declared.Answer.the-variants.{Evaluate}
 use Rattle.driver.specs.Calls.{Held, Called, step-to, in-phase, replied, sized, as-long, awaiting, finishes, has-room, going-on, counted, spoiled, settled}
 use Rattle.driver.specs.Calls.{reply, first-failing, decide, guarded, reply-tests}
 use Rattle.session.specs.Attempt.{Purpose, closes, Asking, done, stopped, ask, Finished-attempt, evaluated}
+use Rattle.session.specs.Refusals.{here}
 use Rattle.session.specs.Claim.{called-for}
 use Rattle.session.proofs.Lengths.{whole-pack}
 use Rattle.session.proofs.Follows.{Follows}
 
--- a reply that is not turned away with 1 to 8
+-- a reply that is taken
 module _ (r : Record) (c : Counters) (v : Vectors) (hk : known (r .family) ≡ true) (hs : sized (r .n) ≡ true) (hv : Long (r .n) v) where
   abbrev pub held-at : Held
   held-at = record { kept = r; counters = c; area = pack v }
@@ -137,8 +138,7 @@ module _ (h : Held) (a : Arguments) where
         go d hd false fin = subst (λ (m : Asking Finished-attempt). Follows h a (suc e) (pending-at v c) m (spoiled (pending-at v c))) (sym hK)
             (record {
               answer-is = refl;
-              from-nine = omega arith;
-              to-largest = omega arith;
+              number-ends = here;
               area-is = refl;
               area-stands = λ nine. refl;
               record-is = refl;

@@ -21,6 +21,7 @@ use Rattle.driver.specs.Calls.{stage-need}
 use Rattle.session.specs.Attempt.{for-candidate, Asking, done, stopped, _>>=_, evaluate, stages-for, Radius, Finished-attempt, iterate, spectral-radius, stage-loop, run-recurrence, finished-attempt, close, attempt-step, evaluated, end, fixed-at}
 use Rattle.session.specs.Alike.{Alike, Same, Same-end, Same-start}
 use Rattle.session.proofs.Truth.{differ}
+use Rattle.session.proofs.Numbers.{not-ten}
 use Rattle.session.proofs.Needs.{Needed, need-holds, two-from}
 use Rattle.session.proofs.Alikes.{bind-alike, evaluate-alike, same-evaluated, same-ending}
 use Rattle.session.proofs.Agree.{Agree, _or_, three, five, seven, nine, ten, direction-agrees, perturbed-agrees, turned-agrees, first-agrees, row-agrees, exchanged-agrees, candidate-agrees, ten-same, last-same, five-three, nine-seven}
@@ -124,7 +125,7 @@ module _ (f : Family) (n : ℕ) (a : Arguments) where
   need-alike : (need : Need) (k : ℕ) (r : Float) (v w : Vectors) → Needed f need → Agree five v w → Alike Same (from-need need k r v) (from-need need k r w)
   unfolding from-need stages-for _>>=_ fixed-at
   need-alike (Met s) k r v w ok p = bind-alike (Agree nine) Same (close f n a s k r) (close f n a s k r) (run-recurrence f n a s v) (run-recurrence f n a s w) (recurrence-alike s v w (two-from f s ok) p) (λ v w. close-alike s k r v w)
-  need-alike (Unmet i) k r v w ok p = record { number-same = refl; vectors-same = rw (ne-eqb i 10 (let low = ok .0 in omega arith)) refl }
+  need-alike (Unmet i) k r v w ok p = record { number-same = refl; vectors-same = rw (ne-eqb i 10 (not-ten ok)) refl }
 
   from-radius : Radius → Asking Finished-attempt
   from-radius x = let r = scaled (a .step) (x .radius) in from-need (stage-need f r) (x .passes) r (x .vectors)

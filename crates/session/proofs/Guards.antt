@@ -4,17 +4,17 @@ use mathlib.Core.Path.{_≡_, refl, sym, ap, subst, _∙_}
 use mathlib.Core.Bool.{Bool, true, false, cond, not, _&&_}
 use mathlib.Core.List.{List, [], _∷_, _++_}
 use Prim.Native.Nat.{ℕ}
-use lib.Dec.{leb}
 use Rattle.driver.specs.declared.Answer.the-variants.{Refused}
+use Rattle.driver.specs.Numbers.{one-of, standing-numbers}
 use Rattle.driver.specs.Calls.{Held, Called, Test, Verdict, admitted, refused-with, first-failing, cause-of, decide, guarded, taken}
 use Rattle.driver.proofs.Ladder.{is-refused, by-tests}
 use Rattle.session.specs.Refusals.{verdict-of}
 use Rattle.ieee.proofs.Logic.{and-left, and-right}
 use Rattle.session.proofs.Truth.{differ}
 
--- every number is one of 1 to 8
+-- on every number everything stands
 abbrev pub is-low : ℕ → Bool
-is-low k = leb 1 k && leb k 8
+is-low k = one-of standing-numbers k
 
 abbrev pub low : List Test → Bool
 low [] = true

@@ -1,11 +1,11 @@
--- What a call that is turned away leaves: with 1 to 8 everything as it was; with a higher number, which only a reply gives, what `Left` names.
+-- What a call that is turned away leaves, by the kind of its number: everything as it was, or, with a number that only a reply gives, what `Left` names.
 use mathlib.Core.Path.{_≡_, refl, sym, ap, _∙_, subst}
 use mathlib.Core.Bool.{Bool, true, false, cond, _&&_, _||_}
 use mathlib.Core.List.{List}
-use Prim.Native.Nat.{ℕ, _+_, _≤_}
-use native.Mathlib.Omega.{arith}
-use lib.Dec.{leb, ltb, eqb}
-use borrow.Author.Tests.{eqb-true, leb-true}
+use Prim.Native.Nat.{ℕ, _+_}
+use mathlib.Core.Logic.{inl, inr}
+use lib.Dec.{ltb, eqb}
+use borrow.Author.Tests.{eqb-true}
 use lib.ListN.{length}
 use lib.Ieee.{Float}
 use Rattle.ieee.specs.Double.{_⊕_}
@@ -24,6 +24,7 @@ use Rattle.driver.specs.declared.Need.the-variants.{Met, Unmet}
 use Rattle.driver.specs.declared.Answer.{Answer}
 use Rattle.driver.specs.declared.Answer.the-variants.{Evaluate, Refused}
 use Rattle.driver.specs.Answers.{Says}
+use Rattle.driver.specs.Numbers.{standing-numbers, after-nine, ending-numbers}
 use Rattle.driver.proofs.Ladder.{is-refused, each-passes, by-tests}
 use Rattle.driver.specs.Calls.{Held, Called, Step, step-to, in-phase, whole-area, as-long, Test, admitted, first-failing, guarded, counted}
 use Rattle.driver.specs.Calls.{start-tests, attempt-tests, reply-tests, accept-tests, callback-tests, abandon-tests}
@@ -31,8 +32,9 @@ use Rattle.driver.specs.Calls.{at-pass, at-stage, take-first, take-callback, as
 use Rattle.driver.specs.Calls.{take-stage, take-candidate, replied, going-on, spoiled, settled, attempted, accepted, called-back}
 use Rattle.driver.specs.Calls.{start, attempt, reply, accept, accept-with-callback, abandon, made}
 use Rattle.driver.specs.Calls.{Call, Start, Attempt, Reply, Accept, Accept-with-callback, Abandon}
-use Rattle.session.specs.Refusals.{verdict-of, Left}
+use Rattle.session.specs.Refusals.{verdict-of, _∈_, here, later, Left}
 use Rattle.ieee.proofs.Logic.{and-left, and-right}
+use Rattle.session.proofs.Numbers.{is-in, not-both, not-nine}
 use Rattle.session.proofs.Needs.{Needed, need-holds}
 use Rattle.session.proofs.Lengths.{long-area, replied-long}
 use Rattle.session.proofs.Guards.{low, low-fails}
@@ -44,9 +46,9 @@ unrefused y i g e = subst is-refused (ap verdict-of (sym e) ∙ g) tt
 
 -- ---- a reply that passed its tests
 
--- refused, it is with a number beyond 9, and of the record only the phase is changed
+-- refused, its derivative is finite and so the number is not 9, and of the record only the phase is changed
 pub record High (r : Record) (v : Vectors) (i : ℕ) (x : Step) : Type 0 where
-  pub beyond : 10 ≤ i
+  pub beyond : i ∈ after-nine
   pub record-is : x .kept ≡ in-phase P.Empty r
   pub last-stands : x .vectors last-derivative ≡ v last-derivative
 
@@ -62,12 +64,13 @@ candidate-high r v w same = go (all-finite (w candidate))
   where
     go : (t : Bool) → Refuses-high r v (cond t (step-to (Evaluate (r .arguments .time ⊕ r .arguments .step) (number candidate)) (in-phase P.Candidate r) w) (step-to (Refused 10) (in-phase P.Empty r) w))
     go true = on r v _ refl
-    go false = λ i e. record { beyond = omega (arith, same-number 10 i e); record-is = refl; last-stands = same }
+    go false = λ i e. record { beyond = subst (λ (i : ℕ). i ∈ after-nine) (same-number 10 i e) here; record-is = refl; last-stands = same }
 
 need-high : (need : Need) (r : Record) (v w : Vectors) (radius : Float) → w last-derivative ≡ v last-derivative → Needed (family-of (r .family)) need → Refuses-high r v (by-need need r w radius)
 unfolding by-need ask-stage
 need-high (Met s) r v w radius same ok = on r v _ refl
-need-high (Unmet j) r v w radius same ok = λ i e. record { beyond = (let low = ok .0 in omega (arith, same-number j i e)); record-is = refl; last-stands = same }
+need-high (Unmet j) r v w radius same ok = λ i e.
+    record { beyond = subst (λ (i : ℕ). i ∈ after-nine) (same-number j i e) (later ok); record-is = refl; last-stands = same }
 
 pass-high : (t : Bool) (r r′ : Record) (v w : Vectors) (radius : Float) → w last-derivative ≡ v last-derivative → Refuses-high r v (cond t (begin-stages r w radius) (ask-pass r′ w))
 unfolding begin-stages ask-pass
@@ -98,20 +101,21 @@ replied-high P.Callback r v d = on r v _ refl
 abbrev Leaves : Held → Called → Type 0
 Leaves h x = (i : ℕ) → x .answer ≡ Refused i → Left h i (x .held)
 
-same : (h : Held) (i : ℕ) → i ≤ 8 → Left h i h
+same : (h : Held) (i : ℕ) → i ∈ standing-numbers → Left h i h
 same h i low = record {
+  kind = inl low;
   all-stands = λ l. refl;
-  record-is = λ l. absurd (omega arith);
-  evaluations-are = λ l. absurd (omega arith);
+  record-is = λ l. absurd (not-both low l);
+  evaluations-are = λ l. absurd (not-both low l);
   attempts-are = λ l. refl;
   last-stands = λ l. refl;
   area-stands = λ e. refl;
 }
 
--- behind a list of tests of 1 to 8
+-- behind a list of tests on whose numbers everything stands
 guards-leave : (h : Held) (ts : List Test) (go : Called) → low ts ≡ true → (first-failing ts ≡ admitted → Leaves h go) → Leaves h (guarded h ts go)
 guards-leave h ts go l on = by-tests (Leaves h) h ts go on
-    (λ k e i q. same h i (omega (arith, same-number k i q, leb-true k 8 (and-right (leb 1 k) (leb k 8) (low-fails ts k l e)))))
+    (λ k e i q. same h i (subst (λ (i : ℕ). i ∈ standing-numbers) (same-number k i q) (is-in standing-numbers k (low-fails ts k l e))))
 
 passed : (h : Held) (x : Called) → verdict-of (x .answer) ≡ admitted → Leaves h x
 passed h x g i e = absurd (unrefused (x .answer) i g e)
@@ -141,15 +145,17 @@ reply-leaves h d = let ts = reply-tests (h .kept) (h .counters) (h .area) d in g
         let whole = and-left (whole-area (h .kept .family) (h .kept .n) (h .area)) (as-long (h .kept .n) d) lengths in
         let long = eqb-true (length d) (h .kept .n) (and-right (whole-area (h .kept .family) (h .kept .n) (h .area)) (as-long (h .kept .n) d) lengths) in
         record {
-          all-stands = λ l. absurd (let b = high .beyond in omega arith);
+          kind = inr (later (high .beyond));
+          all-stands = λ l. absurd (not-both l (later (high .beyond)));
           record-is = λ l. high .record-is;
           evaluations-are = λ l. ap (λ (c : Counters). c .evaluations) (count i (x .answer) e);
           attempts-are = λ l. ap (λ (c : Counters). c .«finished_attempts») (count i (x .answer) e);
           last-stands = λ l. ap (λ (w : Vectors). w last-derivative) (unpack-pack (h .kept .n) (x .vectors) (replied-long (h .kept .phase) (h .kept) v d (long-area (h .kept .family) (h .kept .n) (h .area) whole) long)) ∙ high .last-stands;
-          area-stands = λ q. absurd (let b = high .beyond in omega arith);
+          area-stands = λ q. absurd (not-nine (high .beyond) q);
         }
-    go lengths false i e = let q = same-number 9 i e in record {
-      all-stands = λ l. absurd (omega arith);
+    go lengths false i e = let nine = subst (λ (i : ℕ). i ∈ ending-numbers) (same-number 9 i e) here in record {
+      kind = inr nine;
+      all-stands = λ l. absurd (not-both l nine);
       record-is = λ l. refl;
       evaluations-are = λ l. refl;
       attempts-are = λ l. refl;

@@ -1,4 +1,5 @@
 pub mod Truth
+pub mod Numbers
 pub mod Needs
 pub mod Signs
 pub mod Lengths

@@ -1,5 +1,5 @@
--- What the theorems use of the need of stages: where it is met the count is permitted, and so at least 2; where it is refused the number is beyond 10 (an empty
--- case today: no family's need is refused yet, and the table ends at 10).
+-- What the theorems use of the need of stages: where it is met the count is permitted, and so at least 2; where it is refused the number is one of a need (an
+-- empty case today: no family's need is refused yet).
 -- From `stage-need` alone, so that a change of it moves this file and no other.
 use mathlib.Core.Path.{_≡_, refl}
 use mathlib.Core.Bool.{true}
@@ -12,12 +12,13 @@ use Rattle.family.proofs.Range.{permitted-range}
 use Rattle.family.proofs.Counts.{stage-count-permitted}
 use Rattle.driver.specs.declared.Need.{Need}
 use Rattle.driver.specs.declared.Need.the-variants.{Met, Unmet}
+use Rattle.driver.specs.Numbers.{need-numbers}
 use Rattle.driver.specs.Calls.{stage-need}
-use Rattle.session.specs.Refusals.{largest-number}
+use Rattle.session.specs.Refusals.{_∈_}
 
 abbrev pub Needed : Family → Need → Type 0
 Needed f (Met s) = permitted f s ≡ true
-Needed f (Unmet i) = (11 ≤ i) × (i ≤ largest-number)
+Needed f (Unmet i) = i ∈ need-numbers
 
 pub need-holds : (f : Family) (r : Float) → Needed f (stage-need f r)
 unfolding stage-need

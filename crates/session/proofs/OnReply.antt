@@ -12,32 +12,30 @@ use Rattle.workspace.specs.Vectors.{Vectors, unpack, all-finite}
 use Rattle.driver.specs.declared.Phase.the-variants as P
 use Rattle.driver.specs.declared.Answer.{Answer}
 use Rattle.driver.specs.declared.Answer.the-variants.{Evaluate, Finished, Ready, Refused, Empty}
+use Rattle.driver.specs.Numbers.{ending-numbers}
 use Rattle.driver.specs.Calls.{Held, replied, as-long, pending, awaiting, has-room, going-on, spoiled, settled, reply, Reply, taken, first-failing, decide}
 use Rattle.driver.specs.Calls.{guarded, reply-tests}
 use Rattle.driver.proofs.Ladder.{each-passes}
 use Rattle.session.specs.Attempt.{done, stopped, ask}
+use Rattle.session.specs.Refusals.{_∈_, later}
 use Rattle.session.specs.Claim.{room-in}
 use Rattle.session.specs.Session.{ready-with, tried, Doing, none, within, Session, waiting, counts-on, doing-now, replied-with, session-after, waits, waits-with-room}
 use Rattle.ieee.proofs.Logic.{and-left, and-right}
 use Rattle.session.proofs.Truth.{differ, and-none}
+use Rattle.session.proofs.Numbers.{not-standing}
 use Rattle.session.proofs.Lengths.{long-area, pack-length, replied-long}
 use Rattle.session.proofs.Leaves.{replied-high}
 use Rattle.session.proofs.Shows.{Shows, Does, Good}
 use Rattle.session.proofs.Guards.{taken-exactly, taken-passes}
 use Rattle.session.proofs.Standing.{all-pass, none-pass, idle, K, N, W, standing, Place, inside, outside, place, room-alike}
 
--- refused from 9 on is taken
-high-taken : (y : Answer) → ((i : ℕ) → y ≡ Refused i → 10 ≤ i) → taken y ≡ true
+-- refused with a number that ends its phase, it is taken
+high-taken : (y : Answer) → ((i : ℕ) → y ≡ Refused i → i ∈ ending-numbers) → taken y ≡ true
 unfolding taken
 high-taken (Evaluate t b) high = refl
 high-taken (Finished e) high = refl
 high-taken Ready high = refl
-high-taken (Refused i) high = go (leb 1 i) (leb i 8) refl
-  where
-    go : (a b : Bool) → leb i 8 ≡ b → not (a && b) ≡ true
-    go true true e = absurd (let low = leb-true i 8 e in let nine = high i refl in omega arith)
-    go true false e = refl
-    go false b e = refl
+high-taken (Refused i) high = ap not (not-standing (high i refl))
 high-taken Empty high = refl
 
 reply-tells : (h : Held) (d : List Float) → taken (reply h d .answer) ≡ K h && (N h && (W h && as-long (h .kept .n) d && (awaiting (h .kept) && has-room (h .kept .phase) (h .counters))))
@@ -45,7 +43,8 @@ unfolding reply reply-tests taken settled going-on spoiled
 reply-tells h d = taken-exactly h (reply-tests (h .kept) (h .counters) (h .area) d) _ refl (go (all-finite d))
   where
     go : (t : Bool) → taken (cond t (settled (h .counters) (replied (h .kept .phase) (h .kept) (unpack (h .kept .n) (h .area)) d)) (spoiled h) .answer) ≡ true
-    go true = high-taken (replied (h .kept .phase) (h .kept) (unpack (h .kept .n) (h .area)) d .answer) (λ i e. replied-high (h .kept .phase) (h .kept) (unpack (h .kept .n) (h .area)) d i e .beyond)
+    go true = let v = unpack (h .kept .n) (h .area) in
+        high-taken (replied (h .kept .phase) (h .kept) v d .answer) (λ i e. later (replied-high (h .kept .phase) (h .kept) v d i e .beyond))
     go false = refl
 
 pub reply-agrees : (h : Held) (σ : Session) → h .counters ≡ σ .counts → Does (σ .family) (σ .n) (σ .doing) h → (d : List Float)

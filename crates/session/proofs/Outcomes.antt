@@ -96,7 +96,7 @@ module _ (h : Held) where
         → Outcome (Accept-with-callback y t) (leaving (Evaluate t (number state)) (first-at P.Callback (r .family) (r .n) t r) c area)
     abandons : Outcome Abandon (leaving Empty (in-phase P.Empty r) c (h .area))
 
-  -- past its tests, or away with one of 1 to 8
+  -- past its tests, or away with a number on which everything stands
   tested : {q : Call} (ts : List Test) (go : Called) → low ts ≡ true → (Passing ts → Outcome q go) → Outcome q (guarded h ts go)
   tested {q} ts go l on = by-tests (λ (x : Called). Outcome q x) h ts go (λ e. on (each-passes ts e)) (λ k e. away k (not-taken k (low-fails ts k l e)))
 

@@ -23,9 +23,11 @@ use Rattle.driver.specs.Calls.{Held, Called, in-phase, at-pass, with-radius, at
 use Rattle.driver.specs.Calls.{replied, sized, pending, in-range, awaiting, finishes, attempted, going-on, attempt, counted, settled, first-failing}
 use Rattle.driver.specs.Calls.{decide, guarded, attempt-tests}
 use Rattle.session.specs.Attempt.{closes, Asking, done, _>>=_, evaluate, stages-for, Radius, Finished-attempt, iterate, spectral-radius, stage-loop, run-recurrence, close, attempt-step}
+use Rattle.session.specs.Refusals.{later}
 use Rattle.session.specs.Claim.{Allowed, in-one-piece}
 use Rattle.session.proofs.Truth.{differ, both}
 use Rattle.session.proofs.Signs.{Plus, not-below, perturbation-plus, radius-plus, scaled-plus}
+use Rattle.session.proofs.Numbers.{not-nine}
 use Rattle.session.proofs.Needs.{Needed, need-holds, two-from}
 use Rattle.session.proofs.Lengths.{long-area}
 use Rattle.session.proofs.Follows.{Follows}
@@ -63,10 +65,9 @@ module _ (h : Held) (a : Arguments) (hk : known (h .kept .family) ≡ true) (hs 
       (intact-first h (a .step) (c′ .«theta_previous») w hw) (rw k≡ (counted-on h hc)))
   need-follows (Unmet i) k π ρ r g v w c e hr hn ok k≤ k≡ hw hc = record {
     answer-is = refl;
-    from-nine = (let low = ok .0 in omega arith);
-    to-largest = ok .1;
+    number-ends = later (later ok);
     area-is = refl;
-    area-stands = λ nine. absurd (let low = ok .0 in omega arith);
+    area-stands = λ nine. absurd (not-nine (later ok) nine);
     record-is = refl;
     family-is = refl;
     n-is = refl;

@@ -6,10 +6,10 @@ use mathlib.Core.Bool.{Bool, true, false, cond, not, _&&_, _||_}
 use mathlib.Core.List.{List, [], _∷_, _++_}
 use Prim.Native.Nat.{ℕ, _+_, _≤_, _-_, _^_}
 use native.Mathlib.Omega.{arith}
-use lib.Dec.{leb, ltb, eqb}
-use borrow.Author.Tests.{leb-true, le-ltb, ltb-false}
+use lib.Dec.{ltb, eqb}
+use borrow.Author.Tests.{le-ltb, ltb-false}
 use lib.Ieee.{Float}
-use Rattle.family.specs.Family.{family-of}
+use Rattle.family.specs.Family.{Family, family-of}
 use Rattle.coefficients.specs.Rows.{coefficients, next}
 use Rattle.workspace.specs.declared.Arguments.{Arguments}
 use Rattle.workspace.specs.Vectors.{Vectors, unpack, all-finite, candidate, next-stage}
@@ -23,6 +23,7 @@ use Rattle.driver.specs.declared.Need.the-variants.{Met, Unmet}
 use Rattle.driver.specs.declared.Answer.{Answer}
 use Rattle.driver.specs.declared.Answer.the-variants.{Evaluate, Finished, Ready, Refused, Empty}
 use Rattle.driver.specs.Answers.{case-number, case-values, Values, Says}
+use Rattle.driver.specs.Numbers.{one-of, need-numbers, after-nine, refusal-numbers}
 use Rattle.driver.specs.Calls.{Held, Called, Verdict, admitted, refused-with, Test, _∶_, first-failing, cause-of, finishes, room, has-room}
 use Rattle.driver.specs.Calls.{start-tests, attempt-tests, reply-tests, accept-tests, callback-tests, abandon-tests}
 use Rattle.driver.specs.Calls.{at-pass, at-stage, take-first, take-callback, ask-pass, ask-stage, stage-need, by-need, begin-stages, take-pass, ask-candidate}
@@ -30,9 +31,9 @@ use Rattle.driver.specs.Calls.{take-stage, take-candidate, replied, going-on, s
 use Rattle.driver.specs.Calls.{start, attempt, reply, accept, accept-with-callback, abandon, made}
 use Rattle.driver.specs.Calls.{Call, Start, Attempt, Reply, Accept, Accept-with-callback, Abandon}
 use Rattle.driver.proofs.Ladder.{is-refused}
-use Rattle.session.specs.Refusals.{verdict-of, need-tests, pass-tests, stage-tests, replied-tests, tests-of, numbers-of, _∈_, here, later, largest-number}
-use Rattle.ieee.proofs.Logic.{and-left, and-right}
-use Rattle.session.proofs.Needs.{need-is}
+use Rattle.session.specs.Refusals.{verdict-of, need-tests, pass-tests, stage-tests, replied-tests, tests-of, numbers-of, _∈_, here, later}
+use Rattle.session.proofs.Numbers.{every-one, each, is-in}
+use Rattle.session.proofs.Needs.{Needed, need-holds}
 use Rattle.session.proofs.Guards.{verdict-alone, verdict-then}
 
 -- the call's answer is decided by its tests
@@ -177,27 +178,31 @@ more t ts ks w = record { among = go (t .passes) (first-failing ts) (w .among) }
     go true (refused-with i) w = later w
     go false x w = here
 
-stage-within : (t u : Bool) → Within (cond t [] (10 ∶ u ∷ [])) (10 ∷ [])
-stage-within true u = last (10 ∷ [])
-stage-within false u = more (10 ∶ u) [] [] (last [])
+stage-within : (t u : Bool) → Within (cond t [] (10 ∶ u ∷ [])) after-nine
+stage-within true u = last after-nine
+stage-within false u = more (10 ∶ u) [] need-numbers (last need-numbers)
 
-pass-within : (t : Bool) (r : Record) (radius : Float) → Within (cond t (need-tests (stage-need (family-of (r .family)) radius)) []) (10 ∷ [])
-unfolding need-tests
-pass-within true r radius = rw (need-is (family-of (r .family)) radius) (last (10 ∷ []))
-pass-within false r radius = last (10 ∷ [])
+need-within : (f : Family) (need : Need) → Needed f need → Within (need-tests need) after-nine
+unfolding need-tests first-failing
+need-within f (Met s) ok = last after-nine
+need-within f (Unmet i) ok = record { among = later ok }
 
-replied-within : (φ : Phase) (r : Record) (v : Vectors) (d : List Float) → Within (replied-tests φ r v d) (10 ∷ [])
+pass-within : (t : Bool) (r : Record) (radius : Float) → Within (cond t (need-tests (stage-need (family-of (r .family)) radius)) []) after-nine
+pass-within true r radius = let f = family-of (r .family) in need-within f (stage-need f radius) (need-holds f radius)
+pass-within false r radius = last after-nine
+
+replied-within : (φ : Phase) (r : Record) (v : Vectors) (d : List Float) → Within (replied-tests φ r v d) after-nine
 unfolding replied-tests pass-tests stage-tests
-replied-within P.Empty r v d = last (10 ∷ [])
-replied-within P.First r v d = last (10 ∷ [])
-replied-within P.Ready r v d = last (10 ∷ [])
+replied-within P.Empty r v d = last after-nine
+replied-within P.First r v d = last after-nine
+replied-within P.Ready r v d = last after-nine
 replied-within P.Pass r v d = let i = r .iteration in let radius = radius-of (i .perturbation) (turned (r .n) v d) in
     pass-within (ended (i .pass) (i .«previous_radius») radius || eqb (i .pass) 12) r (scaled (r .arguments .step) radius)
 replied-within P.Stage r v d = let f = family-of (r .family) in let s = r .staging .stages in let j = r .staging .stage in
     stage-within (ltb j s) (all-finite (with-row f (r .n) (r .arguments .step) (coefficients f s j (r .staging .recurrence)) v d next-stage))
-replied-within P.Candidate r v d = last (10 ∷ [])
-replied-within P.Finished r v d = last (10 ∷ [])
-replied-within P.Callback r v d = last (10 ∷ [])
+replied-within P.Candidate r v d = last after-nine
+replied-within P.Finished r v d = last after-nine
+replied-within P.Callback r v d = last after-nine
 
 within : (h : Held) (c : Call) → Within (tests-of h c) (numbers-of c)
 unfolding tests-of numbers-of
@@ -211,27 +216,18 @@ within h Abandon = more _ _ _ (more _ _ _ (more _ _ _ (more _ _ _ (last []))))
 pub listed : (h : Held) (c : Call) (k : ℕ) → Says (made h c .answer) (Refused k) → k ∈ numbers-of c
 listed h c k s = subst (λ (x : Verdict). Among x (numbers-of c)) (refused h c k .0 s) (within h c .among)
 
--- every number of the lists is from 1 to 10
-abbrev in-range : List ℕ → Bool
-in-range [] = true
-in-range (k ∷ ks) = leb 1 k && leb k largest-number && in-range ks
-
-in-list : (k : ℕ) (ks : List ℕ) → in-range ks ≡ true → k ∈ ks → (1 ≤ k) × (k ≤ largest-number)
-in-list k (i ∷ ks) r here = let p = and-left (leb 1 k && leb k largest-number) (in-range ks) r in
-    (leb-true 1 k (and-left (leb 1 k) (leb k largest-number) p), leb-true k largest-number (and-right (leb 1 k) (leb k largest-number) p))
-in-list k (i ∷ ks) r (later m) = in-list k ks (and-right (leb 1 i && leb i largest-number) (in-range ks) r) m
-
-lists-in-range : (c : Call) → in-range (numbers-of c) ≡ true
+-- every number of the lists is one of the table
+lists-refuse : (c : Call) → every-one (one-of refusal-numbers) (numbers-of c) ≡ true
 unfolding numbers-of
-lists-in-range (Start f n y t) = refl
-lists-in-range (Attempt a) = refl
-lists-in-range (Reply d) = refl
-lists-in-range Accept = refl
-lists-in-range (Accept-with-callback y t) = refl
-lists-in-range Abandon = refl
+lists-refuse (Start f n y t) = refl
+lists-refuse (Attempt a) = refl
+lists-refuse (Reply d) = refl
+lists-refuse Accept = refl
+lists-refuse (Accept-with-callback y t) = refl
+lists-refuse Abandon = refl
 
-pub one-to-ten : (h : Held) (c : Call) (k : ℕ) → Says (made h c .answer) (Refused k) → (1 ≤ k) × (k ≤ largest-number)
-one-to-ten h c k s = in-list k (numbers-of c) (lists-in-range c) (listed h c k s)
+pub one-of-the-table : (h : Held) (c : Call) (k : ℕ) → Says (made h c .answer) (Refused k) → k ∈ refusal-numbers
+one-of-the-table h c k s = is-in refusal-numbers k (each (one-of refusal-numbers) (numbers-of c) (lists-refuse c) (listed h c k s))
 
 -- ---- number 8's two causes
 

@@ -3,16 +3,16 @@ use mathlib.Core.Path.{_≡_, refl, sym, ap, ap₂, _∙_, subst}
 use mathlib.Core.Bool.{Bool, true, false, cond, _&&_}
 use mathlib.Core.List.{List, [], _∷_}
 use Prim.Native.Nat.{ℕ}
-use lib.Dec.{leb}
-use borrow.Author.Tests.{leb-true, not-false}
+use borrow.Author.Tests.{not-false}
 use lib.ListN.{length}
 use lib.Ieee.{Float}
 use Rattle.driver.specs.declared.Answer.{Answer}
 use Rattle.driver.specs.declared.Answer.the-variants.{Evaluate, Finished, Ready, Refused, Empty}
 use Rattle.driver.specs.Answers.{case-number, case-values}
+use Rattle.driver.specs.Numbers.{one-of, standing-numbers}
 use Rattle.driver.specs.Calls.{Held, whole-area, start, Call, Start, Attempt, Reply, Accept, Accept-with-callback, Abandon, made, taken}
 use Rattle.session.specs.Session.{Seen, call-seen, seen-of, Session, session-after, session-seen, takes, session, fresh}
-use Rattle.ieee.proofs.Logic.{and-right}
+use Rattle.session.proofs.Numbers.{is-in}
 use Rattle.session.proofs.Truth.{differ}
 use Rattle.session.proofs.Leaves.{leaves}
 use Rattle.session.proofs.Shows.{Does, Good, seen-alike}
@@ -53,7 +53,7 @@ area-stays h Accept q = accept-area h q
 area-stays h (Accept-with-callback y t) q = callback-area h y t q
 area-stays h Abandon q = abandon-area h q
 
--- a call that is not taken, turned away with 1 to 8, leaves everything
+-- a call that is not taken leaves everything
 pub left : (h : Held) (c : Call) → taken (made h c .answer) ≡ false → made h c .held ≡ h
 unfolding taken
 left h c e = go (made h c .answer) refl e
@@ -62,7 +62,8 @@ left h c e = go (made h c .answer) refl e
     go (Evaluate t b) s e = absurd (differ (sym e))
     go (Finished x) s e = absurd (differ (sym e))
     go Ready s e = absurd (differ (sym e))
-    go (Refused i) s e = leaves h c i (record { same-case = ap case-number s; same-values = ap case-values s }) .all-stands (leb-true i 8 (and-right (leb 1 i) (leb i 8) (not-false (leb 1 i && leb i 8) e)))
+    go (Refused i) s e = let standing = is-in standing-numbers i (not-false (one-of standing-numbers i) e) in
+        leaves h c i (record { same-case = ap case-number s; same-values = ap case-values s }) .all-stands standing
     go Empty s e = absurd (differ (sym e))
 
 -- ---- a list of calls

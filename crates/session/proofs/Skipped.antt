@@ -1,4 +1,4 @@
--- Calls that are turned away with 1 to 8 may be left out of any list of calls: the others show the same and leave the same. So what is proved of an attempt and
+-- Calls that are not taken may be left out of any list of calls: the others show the same and leave the same. So what is proved of an attempt and
 -- its replies holds with such calls among them.
 use mathlib.Core.Path.{_≡_, refl, sym, ap, _∙_}
 use mathlib.Core.Bool.{Bool, true, false, cond}

@@ -23,6 +23,7 @@ use Rattle.driver.specs.declared.Counters.{Counters}
 use Rattle.driver.specs.declared.Answer.the-variants.{Evaluate, Refused}
 use Rattle.driver.specs.Calls.{Held, step-to, in-phase, at-stage, ask-stage, stage-need, ask-candidate, take-stage, take-candidate, replied, sized, pending, in-range, awaiting, finishes, going-on, counted, settled}
 use Rattle.session.specs.Attempt.{for-candidate, closes, Asking, done, stopped, _>>=_, evaluate, stage-loop, finished-attempt, close, evaluated}
+use Rattle.session.specs.Refusals.{here, later}
 use Rattle.session.proofs.Truth.{differ, both}
 use Rattle.session.proofs.Follows.{Follows}
 use Rattle.session.proofs.Asked.{Counted, one-more, counted-on, Intact, intact-row, intact-exchanged, intact-candidate, at, pending-at, asked}
@@ -100,8 +101,7 @@ module _ (h : Held) (a : Arguments) (hk : known (h .kept .family) ≡ true) (hs 
             })
         go false finite = record {
           answer-is = refl;
-          from-nine = omega arith;
-          to-largest = omega arith;
+          number-ends = later here;
           area-is = refl;
           area-stands = λ nine. absurd (omega arith);
           record-is = refl;

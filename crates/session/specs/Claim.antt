@@ -14,9 +14,10 @@ use Rattle.driver.specs.declared.Need.the-variants.{Met}
 use Rattle.driver.specs.declared.Answer.{Answer}
 use Rattle.driver.specs.declared.Answer.the-variants.{Evaluate, Finished, Ready, Refused, Empty}
 use Rattle.driver.specs.Answers.{case-number, Says}
+use Rattle.driver.specs.Numbers.{ending-numbers}
 use Rattle.driver.specs.Calls.{Held, Called, in-phase, stage-need, sized, whole-area, awaiting, has-room, may-attempt, good-times, good-tolerances, attempt, reply, Call, Reply}
 use Rattle.session.specs.Attempt.{Asking, Finished-attempt, Evaluated, evaluated, reaches-candidate, End, reached, refused, end, attempt-step}
-use Rattle.session.specs.Refusals.{largest-number}
+use Rattle.session.specs.Refusals.{_∈_}
 
 -- ---- a call, and then replies d i, d (i + 1), ..
 
@@ -103,8 +104,7 @@ pub record Finishes (h : Held) (a : Arguments) (o : Finished-attempt) (replies :
 -- stopped by number i with the vectors v, by a reply that found b: of the record only the phase is changed, and on 9 nothing of the area
 pub record Stops (h : Held) (b : Held) (i : ℕ) (v : Vectors) (replies : ℕ) (x : Called) : Type 0 where
   pub answer-is : x .answer ≡ Refused i
-  pub from-nine : 9 ≤ i
-  pub to-largest : i ≤ largest-number
+  pub number-ends : i ∈ ending-numbers
   pub area-is : x .held .area ≡ pack v
   pub area-stands : i ≡ 9 → x .held .area ≡ b .area
   pub record-is : x .held .kept ≡ in-phase P.Empty (b .kept)

@@ -1,6 +1,7 @@
 -- Which number a call is turned away with: that of the first of its tests that fails. Document 01, "When a call is turned away".
-use Prim.Native.Nat.{ℕ, _+_, _≤_}
+use Prim.Native.Nat.{ℕ, _+_}
 use mathlib.Core.Path.{_≡_}
+use mathlib.Core.Logic.{_⊎_}
 use mathlib.Core.Bool.{Bool, false, cond, _&&_, _||_}
 use mathlib.Core.List.{List, [], _∷_}
 use lib.Dec.{ltb, eqb}
@@ -17,13 +18,10 @@ use Rattle.driver.specs.declared.Need.{Need}
 use Rattle.driver.specs.declared.Need.the-variants.{Met, Unmet}
 use Rattle.driver.specs.declared.Answer.{Answer}
 use Rattle.driver.specs.declared.Answer.the-variants.{Evaluate, Finished, Ready, Refused, Empty}
+use Rattle.driver.specs.Numbers.{standing-numbers, ending-numbers}
 use Rattle.driver.specs.Calls.{Held, in-phase, stage-need, Test, _∶_, Verdict, admitted, refused-with}
 use Rattle.driver.specs.Calls.{sized, whole-area, as-long, awaiting, may-attempt, may-accept, good-times, good-tolerances, has-room}
 use Rattle.driver.specs.Calls.{Call, Start, Attempt, Reply, Accept, Accept-with-callback, Abandon}
-
--- the numbers are 1 to this
-abbrev pub largest-number : ℕ
-largest-number = 10
 
 abbrev pub verdict-of : Answer → Verdict
 verdict-of (Evaluate t b) = admitted
@@ -106,12 +104,14 @@ pub data _∈_ (k : ℕ) : List ℕ → Type 0 where
   here : {ks : List ℕ} → k ∈ (k ∷ ks)
   later : {i : ℕ} {ks : List ℕ} → k ∈ ks → k ∈ (i ∷ ks)
 
--- ---- what a call that is turned away with i leaves: 1 to 8 everything; from 9 on the reply is counted, the phase is empty, the rest of the record and the last derivative stand, and on 9 the whole area
+-- ---- what a call that is turned away with i leaves, by the kind of i: everything; or the reply is counted, the phase is empty, the rest of the record and the
+-- last derivative stand, and on 9 the whole area
 
 pub record Left (h : Held) (i : ℕ) (x : Held) : Type 0 where
-  pub all-stands : i ≤ 8 → x ≡ h
-  pub record-is : 9 ≤ i → x .kept ≡ in-phase P.Empty (h .kept)
-  pub evaluations-are : 9 ≤ i → x .counters .evaluations ≡ h .counters .evaluations + 1
-  pub attempts-are : 9 ≤ i → x .counters .«finished_attempts» ≡ h .counters .«finished_attempts»
-  pub last-stands : 9 ≤ i → unpack (h .kept .n) (x .area) last-derivative ≡ unpack (h .kept .n) (h .area) last-derivative
+  pub kind : (i ∈ standing-numbers) ⊎ (i ∈ ending-numbers)
+  pub all-stands : i ∈ standing-numbers → x ≡ h
+  pub record-is : i ∈ ending-numbers → x .kept ≡ in-phase P.Empty (h .kept)
+  pub evaluations-are : i ∈ ending-numbers → x .counters .evaluations ≡ h .counters .evaluations + 1
+  pub attempts-are : i ∈ ending-numbers → x .counters .«finished_attempts» ≡ h .counters .«finished_attempts»
+  pub last-stands : i ∈ ending-numbers → unpack (h .kept .n) (x .area) last-derivative ≡ unpack (h .kept .n) (h .area) last-derivative
   pub area-stands : i ≡ 9 → x .area ≡ h .area

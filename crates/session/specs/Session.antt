@@ -49,7 +49,7 @@ answer-shown Empty h = nothing
 unfoldable pub call-seen : Called → Seen
 call-seen x = record { shown = answer-shown (x .answer) (x .held); counts = x .held .counters }
 
--- what is seen of those that are taken, that is, not turned away with 1 to 8
+-- what is seen of those that are taken, that is, not turned away with a number on which everything stands
 unfoldable pub seen-of : Held → List Call → List Seen
 seen-of h [] = []
 seen-of h (c ∷ cs) = let rest = seen-of (made h c .held) cs in cond (taken (made h c .answer)) (call-seen (made h c) ∷ rest) rest

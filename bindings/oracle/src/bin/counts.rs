@@ -1,6 +1,6 @@
-//! Writes the Rust's stage counts to standard output, which is crates/counts/data/counts: for each scaled radius two words of
-//! eight bytes, the lowest first. One is the radius' bits. The other holds a byte a family, the lowest RKC's: the count,
-//! or 0 where the Rust's sum overflows.
+//! Writes the Rust's stage counts to standard output, which is crates/counts/data/counts: for each scaled radius its bits in
+//! eight bytes, and then the counts of families 1 to 8 in two bytes each, always the lowest first. A count is 0 where the
+//! Rust's sum overflows, and for a family that is not carried.
 use std::io::Write;
 
 /// How far from a threshold the radii go, in units in the last place.
@@ -10,19 +10,22 @@ fn main() {
     let mut out = std::io::stdout().lock();
     for radius in radii() {
         out.write_all(&radius.to_bits().to_le_bytes()).unwrap();
-        out.write_all(&counts(radius).to_le_bytes()).unwrap();
+        for count in counts(radius) {
+            out.write_all(&count.to_le_bytes()).unwrap();
+        }
     }
 }
 
-fn counts(radius: f64) -> u64 {
-    oracle::FAMILIES.into_iter().rev().fold(0, |word, family| {
-        let count = if family == 1 && overflows(radius) {
-            0
-        } else {
-            oracle::stages(family, radius) as u64
-        };
-        word * 256 + count
-    })
+/// By family, 1 to 8.
+fn counts(radius: f64) -> [u16; 8] {
+    let mut all = [0; 8];
+    for family in oracle::FAMILIES {
+        if family != 1 || !overflows(radius) {
+            let count = oracle::stages(family, radius);
+            all[family as usize - 1] = u16::try_from(count).expect("a count of two bytes");
+        }
+    }
+    all
 }
 
 /// Where RKC's cast gives the largest whole number, so that the Rust's `+ 1` overflows.

@@ -1,4 +1,4 @@
--- Each record's two words lie within s, and the records end.
+-- Each record's three words lie within s, and the records end.
 use Prim.Native.Nat.{_-_, _/_}
 use lib.ListN.{length}
 use borrow.Author.Needs.{needs}
@@ -9,7 +9,7 @@ abbrev Inv-loop : tie.InvT-loop
 Inv-loop s all₀ i₀ all i = Unit {0}
 
 abbrev μ-loop : tie.MeasureT-loop
-μ-loop s all₀ i₀ all i = length s / 16 - i
+μ-loop s all₀ i₀ all i = length s / 24 - i
 
 loop-holds : tie.Need-loop-holds Inv-loop μ-loop
 loop-holds c = search needs
@@ -31,6 +31,15 @@ add-word c = search needs
 
 word-requires-2 : tie.Need-word-requires-2 Inv-loop μ-loop
 word-requires-2 c κs = search needs
+
+mul-word-3 : tie.Need-mul-word-3 Inv-loop μ-loop
+mul-word-3 c = search needs
+
+add-word-2 : tie.Need-add-word-2 Inv-loop μ-loop
+add-word-2 c = search needs
+
+word-requires-3 : tie.Need-word-requires-3 Inv-loop μ-loop
+word-requires-3 c κs = search needs
 
 with-radius-requires : tie.Need-with-radius-requires Inv-loop μ-loop
 with-radius-requires c κs = search needs
@@ -60,6 +69,9 @@ with-records-spec =
     mul-word-2
     add-word
     word-requires-2
+    mul-word-3
+    add-word-2
+    word-requires-3
     with-radius-requires
     add-i
     loop-less

@@ -8,7 +8,7 @@ abbrev Inv-loop : tie.InvT-loop
 Inv-loop seen at₀ t3 at = Unit {0}
 
 abbrev μ-loop : tie.MeasureT-loop
-μ-loop seen at₀ t3 at = 112 - at
+μ-loop seen at₀ t3 at = 280 - at
 
 loop-holds : tie.Need-loop-holds Inv-loop μ-loop
 loop-holds c = search needs
