@@ -54,6 +54,15 @@ odd-only RKG2 = false
 unfoldable pub permitted : Family → ℕ → Bool
 permitted f s = leb (smallest-count f) s && leb s (largest-count f) && (not (odd-only f) || eqb (s % 2) 1)
 
+-- ---- whether it keeps, beside the accepted state, the state accepted before it: `previous_accepted_state`, which none of these five has
+
+unfoldable pub keeps-older : Family → Bool
+keeps-older RKC = false
+keeps-older RKL1 = false
+keeps-older RKL2 = false
+keeps-older RKG1 = false
+keeps-older RKG2 = false
+
 -- ---- the stage rule
 
 -- the whole number before limits

@@ -2,7 +2,7 @@
 ghost use mathlib.Core.Path.{_≡_};
 ghost use Prim.Native.Nat.{_+_, _-_, _^_, min, max};
 ghost use Rattle.family.specs.Family as spec;
-ghost use Rattle.family.specs.Family.{family-of, smallest-count, largest-count, odd-only, before-limits, odd-step, stage-count};
+ghost use Rattle.family.specs.Family.{family-of, smallest-count, largest-count, odd-only, keeps-older, before-limits, odd-step, stage-count};
 
 pub fn smallest_count(family: u64) -> u64
     ensures { λ r. ⌜ r ≡ smallest-count (family-of family) ⌝ }
@@ -36,6 +36,19 @@ pub fn odd_only(family: u64) -> bool
         1 => false,
         2 => true,
         3 => true,
+        4 => false,
+        _ => false,
+    }
+}
+
+// Whether the family keeps the state accepted before the present one.
+pub fn keeps_older(family: u64) -> bool
+    ensures { λ r. ⌜ r ≡ keeps-older (family-of family) ⌝ }
+{
+    match family {
+        1 => false,
+        2 => false,
+        3 => false,
         4 => false,
         _ => false,
     }

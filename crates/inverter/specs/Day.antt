@@ -152,7 +152,7 @@ outset area = so-far no-count area [] []
 
 -- at the outset the kept state is the starting temperature throughout, and all else is 0
 unfoldable pub first-area : Inverter → List Float
-first-area m = let zeros : Vectors = λ v. replicate (m .n) nought in
+first-area m = let zeros : Vectors = unpack (m .n) (replicate (11 * m .n) nought) in
     pack (zeros with state ≔ replicate (m .n) (m .initial))
 
 -- ---- the day

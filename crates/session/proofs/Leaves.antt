@@ -34,7 +34,7 @@ use Rattle.driver.specs.Calls.{Call, Start, Attempt, Reply, Accept, Accept-with
 use Rattle.session.specs.Refusals.{verdict-of, Left}
 use Rattle.ieee.proofs.Logic.{and-left, and-right}
 use Rattle.session.proofs.Needs.{Needed, need-holds}
-use Rattle.session.proofs.Lengths.{long-area, replied-long}
+use Rattle.session.proofs.Lengths.{its-family, long-area, replied-long}
 use Rattle.session.proofs.Guards.{low, low-fails}
 use Rattle.session.proofs.Refused.{same-number, says-refused}
 
@@ -145,7 +145,7 @@ reply-leaves h d = let ts = reply-tests (h .kept) (h .counters) (h .area) d in g
           record-is = λ l. high .record-is;
           evaluations-are = λ l. ap (λ (c : Counters). c .evaluations) (count i (x .answer) e);
           attempts-are = λ l. ap (λ (c : Counters). c .«finished_attempts») (count i (x .answer) e);
-          last-stands = λ l. ap (λ (w : Vectors). w last-derivative) (unpack-pack (h .kept .n) (x .vectors) (replied-long (h .kept .phase) (h .kept) v d (long-area (h .kept .family) (h .kept .n) (h .area) whole) long)) ∙ high .last-stands;
+          last-stands = λ l. ap (λ (w : Vectors). w last-derivative) (unpack-pack (its-family (h .kept)) (h .kept .n) (x .vectors) (replied-long (h .kept .phase) (h .kept) v d (long-area (h .kept .family) (h .kept .n) (h .area) whole) long)) ∙ high .last-stands;
           area-stands = λ q. absurd (let b = high .beyond in omega arith);
         }
     go lengths false i e = let q = same-number 9 i e in record {

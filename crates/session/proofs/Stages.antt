@@ -77,7 +77,7 @@ module _ (h : Held) (a : Arguments) (hk : known (h .kept .family) ≡ true) (hs 
             (λ d hd fin. record {
               answer-is = refl;
               area-is = refl;
-              vectors-long = long-last (h .kept .n) F a (with-candidate w) d (intact-candidate h w hw .long) hd;
+              vectors-long = long-last F (h .kept .n) F a (with-candidate w) d (intact-candidate h w hw .long) hd;
               state-stands = last-stands d state refl refl ∙ intact-candidate h w hw .state-is;
               first-stands = last-stands d first-derivative refl refl ∙ intact-candidate h w hw .first-is;
               candidate-finite = ap all-finite (last-stands d candidate refl refl) ∙ finite;
