@@ -104,7 +104,7 @@ module _ (history : Bool) (f : Family) (n : ℕ) (a : Arguments) where
       (row-alike s (s - 2) 2 c v′ w′ (first-agrees history n h (c .«theta_previous») v w p) (rows-alike s (s - 2) 3))
 
   close-alike : (s k : ℕ) (r : Float) (v w : Vectors) → Agree (nine history) v w → Alike (Same-attempt history) (close f n a s k r v) (close f n a s k r w)
-  unfolding close fixed-at
+  unfolding close fixed-at finished-attempt
   close-alike s k r v w p = subst (λ (t : Bool). Alike (Same-attempt history) (closed t (with-candidate v)) (close f n a s k r w))
       (ap all-finite (sym (q candidate refl))) (go (all-finite (with-candidate w candidate)))
     where
@@ -115,7 +115,6 @@ module _ (history : Bool) (f : Family) (n : ℕ) (a : Arguments) where
       closed t u = cond t (evaluate for-candidate u (a .time ⊕ a .step) (u candidate) >>= λ d. done (finished-attempt f n a s k r (with-last f n a u d))) (stopped 10 u)
 
       finished : (x y : Vectors) → Same-vectors history x y → Same-attempt history (finished-attempt f n a s k r x) (finished-attempt f n a s k r y)
-      unfolding finished-attempt
       finished x y e = record {
         norm-same = norm-same history n f s a x y e;
         stages-same = refl;
