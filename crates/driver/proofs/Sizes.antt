@@ -1,25 +1,16 @@
 -- Lengths, from the tests of them.
-use mathlib.Core.Path.{_≡_, refl}
+use mathlib.Core.Path.{_≡_}
 use mathlib.Core.Bool.{Bool, true, _&&_}
 use mathlib.Core.List.{List}
 use Prim.Native.Nat.{ℕ, _*_, _≤_}
-use native.Mathlib.Omega.{arith}
 use borrow.Author.Tests.{leb-true, eqb-true}
 use lib.Dec.{leb}
 use lib.ListN.{length}
 use lib.Ieee.{Float}
 pub use Rattle.ieee.proofs.Logic.{both}
-use Rattle.family.specs.Family.{Family, family-of, RKC, RKL1, RKL2, RKG1, RKG2}
+use Rattle.family.specs.Family.{family-of}
 use Rattle.workspace.specs.Vectors.{vector-count}
 use Rattle.driver.specs.Calls.{sized, whole-area, as-long}
-
-pub eleven : (f : Family) → vector-count f ≡ 11
-unfolding vector-count
-eleven RKC = refl
-eleven RKL1 = refl
-eleven RKL2 = refl
-eleven RKG1 = refl
-eleven RKG2 = refl
 
 -- tests put all at once
 pub three : (a b c : Bool) → ((a && b) && c) ≡ true → (a ≡ true) × (b ≡ true) × (c ≡ true)
@@ -40,7 +31,3 @@ area-long f n area e = eqb-true (length area) (vector-count (family-of f) * n) e
 pub both-long : (f n : ℕ) (area v : List Float) → (whole-area f n area && as-long n v) ≡ true → (length area ≡ vector-count (family-of f) * n) × (length v ≡ n)
 unfolding as-long
 both-long f n area v e = let t = both (whole-area f n area) (as-long n v) e in (area-long f n area (t .0), eqb-true (length v) n (t .1))
-
--- the area of the largest n
-pub at-most : (k n : ℕ) → k ≡ 11 → n ≤ 512 → k * n ≤ 5632
-at-most k n e h = rw e (omega arith)

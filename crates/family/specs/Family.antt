@@ -91,6 +91,11 @@ odd-only f = facts-of f .«odd_only»
 unfoldable pub permitted : Family → ℕ → Bool
 permitted f s = leb (smallest-count f) s && leb s (largest-count f) && (not (odd-only f) || eqb (s % 2) 1)
 
+-- ---- whether it keeps, beside the accepted state, the state accepted before it: `previous_accepted_state`, which none of these five has
+
+unfoldable pub keeps-older : Family → Bool
+keeps-older f = facts-of f .«keeps_older»
+
 -- ---- the stage rule
 
 -- the whole number before limits, of the scaled radius r

@@ -4,7 +4,7 @@ ghost use mathlib.Core.Path.{_≡_};
 ghost use Prim.Native.Nat.{_+_, _-_, _^_, min, max};
 ghost use Rattle.family.specs.declared.StageRule.the-variants.{RoundedUp};
 ghost use Rattle.family.specs.Family as spec;
-ghost use Rattle.family.specs.Family.{family-of, kind, before-limits, odd-step, stage-count};
+ghost use Rattle.family.specs.Family.{family-of, keeps-older, before-limits, odd-step, stage-count};
 
 // What an attempt runs under.
 pub struct Setting {
@@ -110,6 +110,14 @@ pub fn known(family: u64) -> bool
         return false;
     }
     family <= 5
+}
+
+// Whether the family keeps the state accepted before the present one.
+pub fn keeps_older(family: u64) -> bool
+    ensures { λ r. ⌜ r ≡ keeps-older (family-of family) ⌝ }
+{
+    let own = facts_of(family);
+    own.keeps_older
 }
 
 // Whether the family may run s stages.

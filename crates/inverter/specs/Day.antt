@@ -10,7 +10,8 @@ use lib.Ieee.{Float, nan, lt}
 use lib.Ieee.Scale.{finite}
 use Rattle.ieee.specs.Double.{_⊘_, double, nought, one}
 use Rattle.workspace.specs.declared.Arguments.{Arguments}
-use Rattle.workspace.specs.Vectors.{Vectors, _with_≔_, number, named, pack, state, candidate, unpack}
+use Rattle.family.specs.Family.{family-of}
+use Rattle.workspace.specs.Vectors.{Vectors, _with_≔_, number, named, vector-count, pack, state, candidate, unpack}
 use Rattle.driver.specs.declared.Phase.{Phase}
 use Rattle.driver.specs.declared.Answer.{Answer}
 use Rattle.driver.specs.declared.Answer.the-variants.{Evaluate, Finished, Ready, Refused, Empty}
@@ -48,9 +49,9 @@ begun m minute h =
 unfoldable pub reading-at : Float → Float → ℕ → Float
 reading-at reading upcoming vector = cond (eqb vector (number candidate)) upcoming reading
 
--- the most calls that follow the first: the state's evaluation, the attempt, 12 passes, 199 stages and the candidate's evaluation
+-- the most calls that follow the first: the state's evaluation, the attempt, and as many replies as an attempt takes, at most 12 passes and 200 stages
 abbrev pub most-calls : ℕ
-most-calls = 214
+most-calls = 2 + 12 + 200
 
 module _ (m : Inverter) (minute : ℕ) (reading upcoming : Float) where
   -- the call that an answer asks for; none after finished, refused and empty
@@ -150,9 +151,16 @@ no-count = let none : Counters = record { evaluations = 0; «finished_attempts»
 abbrev pub outset : List Float → So-far
 outset area = so-far no-count area [] []
 
+-- how many doubles the area has, and room for it whatever the family and n: at most 12 vectors of at most 512
+abbrev pub area-size : Inverter → ℕ
+area-size m = vector-count (family-of (m .family)) * m .n
+
+abbrev pub largest-area : ℕ
+largest-area = 12 * 512
+
 -- at the outset the kept state is the starting temperature throughout, and all else is 0
 unfoldable pub first-area : Inverter → List Float
-first-area m = let zeros : Vectors = λ v. replicate (m .n) nought in
+first-area m = let zeros : Vectors = unpack (m .n) (replicate (area-size m) nought) in
     pack (zeros with state ≔ replicate (m .n) (m .initial))
 
 -- ---- the day

@@ -35,10 +35,13 @@ pub enum DayResult {
     Malformed { line: usize },
 }
 
-fn zeros() -> [f64; 5632]
-    ensures { λ r. ⌜ r ≡ replicate 5632 nought ⌝ }
+// Room for the area of every family and n: at most 12 vectors of at most 512.
+const LARGEST_AREA: usize = 12 * 512;
+
+fn zeros() -> [f64; LARGEST_AREA]
+    ensures { λ r. ⌜ r ≡ replicate spec.largest-area nought ⌝ }
 {
-    [0.0f64; 5632]
+    [0.0f64; LARGEST_AREA]
 }
 
 fn blank() -> [f64; 512] {
@@ -60,7 +63,7 @@ fn total_of(m: Inverter, readings: &[f64], refusals: &mut [u64], junctions: &mut
     let mut area = zeros();
     let mut scratch = blank();
     let n = m.n;
-    let whole = 11 * n;
+    let whole = workspace::vector_count(m.family) * n;
     minutes::from_rest(
         m,
         readings,

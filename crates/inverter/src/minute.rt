@@ -156,6 +156,9 @@ fn settled(answer: Answer) -> bool
     }
 }
 
+// How many calls follow the first, at most: the state's evaluation, the attempt, 12 passes and 200 replies of the stages.
+const MOST_CALLS: u64 = 2 + 12 + 200;
+
 // From the minute's start to its last answer.
 fn pass(
     m: Inverter,
@@ -173,7 +176,7 @@ fn pass(
     ensures { λ r. ⌜ spec.given r (now (area .exit)) ≡ spec.passed m minute reading upcoming (holding «record» counters (now (area .entry))) ⌝ }
 {
     let mut reply = begin(m, record, counters, area, scratch, minute);
-    let mut left: u64 = 214;
+    let mut left: u64 = MOST_CALLS;
     while 0 < left {
         let answer = reply.answer;
         if settled(answer) {

@@ -179,7 +179,7 @@ pub fn from_rest(
     junctions: &mut [f64],
 ) -> Total
     requires { ⌜ 1 ≤ m .n ⌝ }
-    requires { ⌜ now area ≡ replicate (11 * m .n) nought ⌝ }
+    requires { ⌜ now area ≡ replicate (spec.area-size m) nought ⌝ }
     requires { ⌜ length (now scratch) ≡ m .n ⌝ }
     requires { ⌜ length (now readings) ≤ 1440 ⌝ }
     requires { ⌜ length (now refusals) ≡ length (now readings) ⌝ }

@@ -180,7 +180,7 @@ fn next_record(
         return begun(s, at, session.comparison, area, expected);
     }
     let end = least(
-        11 * least(session.n, 512),
+        vectors::COUNT * least(session.n, 512),
         least(area.len(), expected.len()),
     );
     let mut on = session;
@@ -226,8 +226,8 @@ fn sessions(
 }
 
 fn all_sessions(s: &[u8], seen: &mut [u64; 280]) -> Comparison {
-    let mut area = [0.0; 5632];
-    let mut expected = [0.0; 5632];
+    let mut area = [0.0; vectors::LARGEST_AREA];
+    let mut expected = [0.0; vectors::LARGEST_AREA];
     let mut brought = [0.0; 513];
     sessions(s, &mut area, &mut expected, &mut brought, seen)
 }

@@ -1,6 +1,11 @@
 // The area as the Rust left it, beside the engine's.
 use crate::trace;
 
+// How many vectors a trace has of an area, and how many doubles that are at most.
+pub const COUNT: usize = 11;
+
+pub const LARGEST_AREA: usize = COUNT * 512;
+
 fn fill(area: &mut [f64], value: f64) {
     let mut i: usize = 0;
     while i < area.len() {
@@ -29,7 +34,7 @@ pub fn follow(s: &[u8], at: usize, n: usize, area: &mut [f64]) -> usize {
     let mut changed = stored::word(s, at);
     let mut from = trace::on(at, 1);
     let mut begin: usize = 0;
-    let mut left: usize = 11;
+    let mut left: usize = COUNT;
     while left > 0 {
         let end = trace::on(begin, n);
         from = read(s, from, changed % 2 == 1, begin, end, area);

@@ -42,14 +42,14 @@ same-evaluated R (ask why t p k) (stopped j w) d i h = absurd h
 same-evaluated {A} R (ask why t p k) (ask why′ u q l) d i h =
     ap₂ (λ (e : Evaluated) (es : List Evaluated). e ∷ es) (ap₂ {C = Evaluated} (λ (x : Float) (y : List Float). record { time = x; point = y }) (h .1) (h .2)) (same-evaluated R (k (d i)) (l (d i)) d (suc i) (h .3 (d i)))
 
-pub same-ending : {A : Type 0} (m m′ : Asking A) (d : ℕ → List Float) (i : ℕ) → Alike (λ (x y : A). x ≡ y) m m′ → Same-end (end m d i) (end m′ d i)
+pub same-ending : {A : Type 0} (R : A → A → Type 0) (m m′ : Asking A) (d : ℕ → List Float) (i : ℕ) → Alike R m m′ → Same-end R (end m d i) (end m′ d i)
 unfolding end
-same-ending (done x) (done y) d i h = h
-same-ending (done x) (stopped j w) d i h = absurd h
-same-ending (done x) (ask why′ u q l) d i h = absurd h
-same-ending (stopped n v) (done y) d i h = absurd h
-same-ending (stopped n v) (stopped j w) d i h = h
-same-ending (stopped n v) (ask why′ u q l) d i h = absurd h
-same-ending (ask why t p k) (done y) d i h = absurd h
-same-ending (ask why t p k) (stopped j w) d i h = absurd h
-same-ending (ask why t p k) (ask why′ u q l) d i h = same-ending (k (d i)) (l (d i)) d (suc i) (h .3 (d i))
+same-ending R (done x) (done y) d i h = h
+same-ending R (done x) (stopped j w) d i h = absurd h
+same-ending R (done x) (ask why′ u q l) d i h = absurd h
+same-ending R (stopped n v) (done y) d i h = absurd h
+same-ending R (stopped n v) (stopped j w) d i h = h
+same-ending R (stopped n v) (ask why′ u q l) d i h = absurd h
+same-ending R (ask why t p k) (done y) d i h = absurd h
+same-ending R (ask why t p k) (stopped j w) d i h = absurd h
+same-ending R (ask why t p k) (ask why′ u q l) d i h = same-ending R (k (d i)) (l (d i)) d (suc i) (h .3 (d i))

@@ -13,7 +13,7 @@ use Rattle.ieee.specs.Double.{one, min-positive}
 use Rattle.family.specs.Family.{Family, known}
 use Rattle.coefficients.specs.declared.Coefficients.{Coefficients}
 use Rattle.workspace.specs.declared.Arguments.{Arguments}
-use Rattle.workspace.specs.Vectors.{Vector, Vectors, _with_≔_, number, named, unpack, pack, vector-norm, all-finite, first-derivative, eigenvector, state}
+use Rattle.workspace.specs.Vectors.{Vector, Vectors, _with_≔_, number, named, unpack, pack, vector-norm, all-finite, first-derivative, eigenvector, state, older-state}
 use Rattle.workspace.specs.Kernel.{with-direction, perturbed-by, perturbed, turned, first-stage, with-row, exchanged, with-candidate}
 use Rattle.workspace.proofs.Areas.{Long, named-number, unpack-pack, long-direction, long-perturbed, long-turned, long-first, long-row, long-exchanged, long-candidate}
 use Rattle.driver.specs.declared.Phase.{Phase}
@@ -27,18 +27,18 @@ use Rattle.driver.specs.Calls.{reply, first-failing, decide, guarded, reply-tes
 use Rattle.session.specs.Attempt.{Purpose, closes, Asking, done, stopped, ask, Finished-attempt, evaluated}
 use Rattle.session.specs.Refusals.{here}
 use Rattle.session.specs.Claim.{called-for}
-use Rattle.session.proofs.Lengths.{whole-pack}
+use Rattle.session.proofs.Lengths.{its-family, whole-pack}
 use Rattle.session.proofs.Follows.{Follows}
 
 -- a reply that is taken
-module _ (r : Record) (c : Counters) (v : Vectors) (hk : known (r .family) ≡ true) (hs : sized (r .n) ≡ true) (hv : Long (r .n) v) where
+module _ (r : Record) (c : Counters) (v : Vectors) (hk : known (r .family) ≡ true) (hs : sized (r .n) ≡ true) (hv : Long (its-family r) (r .n) v) where
   abbrev pub held-at : Held
   held-at = record { kept = r; counters = c; area = pack v }
 
   pub reply-is : awaiting r ≡ true → has-room (r .phase) c ≡ true → (d : List Float) → length d ≡ r .n
       → reply held-at d ≡ cond (all-finite d) (settled c (replied (r .phase) r v d)) (spoiled held-at)
   unfolding reply reply-tests guarded decide first-failing as-long
-  reply-is ha hr d hd = rw (hk, hs, whole-pack (r .family) (r .n) v hv, eq-eqb (length d) (r .n) hd, ha, hr, unpack-pack (r .n) v hv)
+  reply-is ha hr d hd = rw (hk, hs, whole-pack (r .family) (r .n) v hv, eq-eqb (length d) (r .n) hd, ha, hr, unpack-pack (its-family r) (r .n) v hv)
 
 module _ (h : Held) where
   -- the counters after so many replies
@@ -54,14 +54,15 @@ module _ (h : Held) where
 
   -- vectors of the area that the attempt began from
   pub record Intact (v : Vectors) : Type 0 where
-    pub long : Long (h .kept .n) v
+    pub long : Long (its-family (h .kept)) (h .kept .n) v
     pub state-is : v state ≡ unpack (h .kept .n) (h .area) state
     pub first-is : v first-derivative ≡ unpack (h .kept .n) (h .area) first-derivative
+    pub older-is : v older-state ≡ unpack (h .kept .n) (h .area) older-state
 
   pub intact-direction : (v : Vectors) → Intact v → Intact (with-direction (h .kept .n) v)
   unfolding with-direction
   intact-direction v i = let small = le (vector-norm (v eigenvector)) min-positive in let flat = le (vector-norm (v first-derivative)) min-positive in
-      record { long = long-direction (h .kept .n) v (i .long); state-is = go state small flat refl ∙ i .state-is; first-is = go first-derivative small flat refl ∙ i .first-is }
+      record { long = long-direction (its-family (h .kept)) (h .kept .n) v (i .long); state-is = go state small flat refl ∙ i .state-is; first-is = go first-derivative small flat refl ∙ i .first-is; older-is = go older-state small flat refl ∙ i .older-is }
     where
       go : (b : Vector) (t u : Bool) → eqb 6 (number b) ≡ false
           → cond t (cond u (v with eigenvector ≔ replicate (h .kept .n) one) (v with eigenvector ≔ v first-derivative)) v b ≡ v b
@@ -71,27 +72,27 @@ module _ (h : Held) where
 
   pub intact-perturbed : (π : Float) (v : Vectors) → Intact v → Intact (perturbed (h .kept .n) π v)
   unfolding perturbed-by perturbed
-  intact-perturbed π v i = record { long = long-perturbed (h .kept .n) π v (i .long); state-is = i .state-is; first-is = i .first-is }
+  intact-perturbed π v i = record { long = long-perturbed (its-family (h .kept)) (h .kept .n) π v (i .long); state-is = i .state-is; first-is = i .first-is; older-is = i .older-is }
 
   pub intact-turned : (v : Vectors) (d : List Float) → Intact v → length d ≡ h .kept .n → Intact (turned (h .kept .n) v d)
   unfolding turned
-  intact-turned v d i hd = record { long = long-turned (h .kept .n) v d (i .long) hd; state-is = i .state-is; first-is = i .first-is }
+  intact-turned v d i hd = record { long = long-turned (its-family (h .kept)) (h .kept .n) v d (i .long) hd; state-is = i .state-is; first-is = i .first-is; older-is = i .older-is }
 
   pub intact-first : (step mu~ : Float) (v : Vectors) → Intact v → Intact (first-stage (h .kept .n) step mu~ v)
   unfolding first-stage
-  intact-first step mu~ v i = record { long = long-first (h .kept .n) step mu~ v (i .long); state-is = i .state-is; first-is = i .first-is }
+  intact-first step mu~ v i = record { long = long-first (its-family (h .kept)) (h .kept .n) step mu~ v (i .long); state-is = i .state-is; first-is = i .first-is; older-is = i .older-is }
 
   pub intact-row : (f : Family) (step : Float) (c : Coefficients) (v : Vectors) (d : List Float) → Intact v → length d ≡ h .kept .n → Intact (with-row f (h .kept .n) step c v d)
   unfolding with-row
-  intact-row f step c v d i hd = record { long = long-row (h .kept .n) f step c v d (i .long) hd; state-is = i .state-is; first-is = i .first-is }
+  intact-row f step c v d i hd = record { long = long-row (its-family (h .kept)) (h .kept .n) f step c v d (i .long) hd; state-is = i .state-is; first-is = i .first-is; older-is = i .older-is }
 
   pub intact-exchanged : (v : Vectors) → Intact v → Intact (exchanged v)
   unfolding exchanged
-  intact-exchanged v i = record { long = long-exchanged (h .kept .n) v (i .long); state-is = i .state-is; first-is = i .first-is }
+  intact-exchanged v i = record { long = long-exchanged (its-family (h .kept)) (h .kept .n) v (i .long); state-is = i .state-is; first-is = i .first-is; older-is = i .older-is }
 
   pub intact-candidate : (v : Vectors) → Intact v → Intact (with-candidate v)
   unfolding with-candidate
-  intact-candidate v i = record { long = long-candidate (h .kept .n) v (i .long); state-is = i .state-is; first-is = i .first-is }
+  intact-candidate v i = record { long = long-candidate (its-family (h .kept)) (h .kept .n) v (i .long); state-is = i .state-is; first-is = i .first-is; older-is = i .older-is }
 
 module _ (h : Held) (a : Arguments) where
   -- the record within the attempt
@@ -118,7 +119,7 @@ module _ (h : Held) (a : Arguments) where
         evaluations-are = hc .evaluations-are;
         attempts-are = hc .attempts-are;
       },
-      ap (λ (w : Vectors). record { time = t; point = w (named (number b)) } ∷ []) (unpack-pack (h .kept .n) v (iv .long))
+      ap (λ (w : Vectors). record { time = t; point = w (named (number b)) } ∷ []) (unpack-pack (its-family (h .kept)) (h .kept .n) v (iv .long))
           ∙ ap (λ (b : Vector). record { time = t; point = v b } ∷ []) (named-number b),
       λ d hd hr. subst (λ (x : Called). Follows h a (suc e) (pending-at v c) (K (cond (all-finite d) (done d) (stopped 9 v))) x)
           (sym (reply-is (at φ i g) c v hk hs (iv .long) ha hr d hd)) (go d hd (all-finite d) refl),

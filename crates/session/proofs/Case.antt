@@ -9,7 +9,7 @@ use lib.Ieee.{Float, binary64, toBits, add, sub, mul, div, neg, le, lt, eq, ofIn
 use Rattle.ieee.specs.Double.{double, nearest, square, min-positive, root-epsilon, nought, one}
 use Rattle.ieee.specs.Sqrt.{root-below, root, halves, root-units, sqrt}
 use Rattle.ieee.specs.Whole.{abs, max, floor, ceil}
-use Rattle.family.specs.Family.{known, family-of, smallest-count, largest-count, odd-only, permitted, before-limits, odd-step, limited, stage-count}
+use Rattle.family.specs.Family.{known, family-of, keeps-older, smallest-count, largest-count, odd-only, permitted, before-limits, odd-step, limited, stage-count}
 use Rattle.coefficients.specs.Rows.{omega-zero, omega-one-of, b-first, first-mu-tilde, first-polynomials, recurrence, with-theta, legendre-one, coefficients, next-polynomials, next}
 use Rattle.workspace.specs.declared.Arguments.{Arguments}
 use Rattle.workspace.specs.Vectors.{join, vector-count, each, sum-of-squares, root-of-squares, vector-norm, all-finite}
@@ -30,7 +30,7 @@ unfolding smallest-count largest-count odd-only before-limits odd-step limited s
 attempts = tt
 
 unfoldable sessions : Unit {0}
-unfolding known family-of permitted vector-count sized as-long good-times good-tolerance good-tolerances room vectors-of initialize tries accept-step at-rest after-attempt waiting finished-by counts-on doing-now replied-with session-after doing-shown session-seen rests has-tried waits waits-with-room takes session fresh
+unfolding known family-of permitted keeps-older vector-count sized as-long good-times good-tolerance good-tolerances room vectors-of initialize tries accept-step at-rest after-attempt waiting finished-by counts-on doing-now replied-with session-after doing-shown session-seen rests has-tried waits waits-with-room takes session fresh
 sessions = tt
 
 pub arguments : Arguments

@@ -1,5 +1,5 @@
--- What an attempt asks for and how it ends depends only on the kept state, its derivative and the eigenvector: how it ends is the finished attempt with all
--- its vectors, or the number, and with number 10 all vectors but the last derivative.
+-- What an attempt asks for and how it ends depends only on the kept state, its derivative, the eigenvector and, with a history, the state before: how it ends
+-- is the finished attempt with all its vectors (without a history, but for the state before), or the number, and with number 10 ten of the vectors.
 use mathlib.Core.Path.{_≡_, refl, sym, ap, subst}
 use mathlib.Core.Bool.{Bool, true, false, cond}
 use mathlib.Core.List.{List}
@@ -13,134 +13,144 @@ use Rattle.family.specs.Family.{Family}
 use Rattle.coefficients.specs.declared.Recurrence.{Recurrence}
 use Rattle.coefficients.specs.Rows.{recurrence, coefficients, next}
 use Rattle.workspace.specs.declared.Arguments.{Arguments}
-use Rattle.workspace.specs.Vectors.{Vector, Vectors, all-finite, first-derivative, last-derivative, derivative, previous-two, previous-one, next-stage, eigenvector, perturbed-state, perturbed-derivative, state, candidate}
+use Rattle.workspace.specs.Vectors.{Vector, Vectors, all-finite, first-derivative, last-derivative, derivative, previous-two, previous-one, next-stage, eigenvector, perturbed-state, perturbed-derivative, state, candidate, older-state}
 use Rattle.workspace.specs.Kernel.{with-direction, perturbation-of, perturbed, turned, radius-of, ended, scaled, first-stage, with-row, exchanged, with-candidate, with-last}
 use Rattle.driver.specs.declared.Need.{Need}
 use Rattle.driver.specs.declared.Need.the-variants.{Met, Unmet}
 use Rattle.driver.specs.Calls.{stage-need}
 use Rattle.session.specs.Attempt.{for-candidate, Asking, done, stopped, _>>=_, evaluate, stages-for, Radius, Finished-attempt, iterate, spectral-radius, stage-loop, run-recurrence, finished-attempt, close, attempt-step, evaluated, end, fixed-at}
-use Rattle.session.specs.Alike.{Alike, Same, Same-end, Same-start}
+use Rattle.session.specs.Alike.{Alike, Same-end, Same-vectors, Same-start, Same-attempt}
 use Rattle.session.proofs.Truth.{differ}
 use Rattle.session.proofs.Numbers.{not-ten}
 use Rattle.session.proofs.Needs.{Needed, need-holds, two-from}
 use Rattle.session.proofs.Alikes.{bind-alike, evaluate-alike, same-evaluated, same-ending}
-use Rattle.session.proofs.Agree.{Agree, _or_, three, five, seven, nine, ten, direction-agrees, perturbed-agrees, turned-agrees, first-agrees, row-agrees, exchanged-agrees, candidate-agrees, ten-same, last-same, five-three, nine-seven}
+use Rattle.session.proofs.Agree.{Agree, _or_, three, five, seven, nine, ten, direction-agrees, perturbed-agrees, turned-agrees, first-agrees, row-agrees, exchanged-agrees, candidate-agrees, ten-same, last-same, norm-same, five-three, nine-seven}
 
-start-agrees : (v w : Vectors) → Same-start v w → Agree three v w
-start-agrees v w p state e = p .state-same
-start-agrees v w p first-derivative e = p .first-same
-start-agrees v w p eigenvector e = p .eigenvector-same
-start-agrees v w p last-derivative e = absurd (differ e)
-start-agrees v w p derivative e = absurd (differ e)
-start-agrees v w p previous-two e = absurd (differ e)
-start-agrees v w p previous-one e = absurd (differ e)
-start-agrees v w p next-stage e = absurd (differ e)
-start-agrees v w p perturbed-state e = absurd (differ e)
-start-agrees v w p perturbed-derivative e = absurd (differ e)
-start-agrees v w p candidate e = absurd (differ e)
+start-agrees : (history : Bool) (v w : Vectors) → Same-start history v w → Agree (three history) v w
+start-agrees history v w p state e = p .state-same
+start-agrees history v w p first-derivative e = p .first-same
+start-agrees history v w p eigenvector e = p .eigenvector-same
+start-agrees history v w p last-derivative e = absurd (differ e)
+start-agrees history v w p derivative e = absurd (differ e)
+start-agrees history v w p previous-two e = absurd (differ e)
+start-agrees history v w p previous-one e = absurd (differ e)
+start-agrees history v w p next-stage e = absurd (differ e)
+start-agrees history v w p perturbed-state e = absurd (differ e)
+start-agrees history v w p perturbed-derivative e = absurd (differ e)
+start-agrees history v w p candidate e = absurd (differ e)
+start-agrees history v w p older-state e = p .older-same e
 
-module _ (f : Family) (n : ℕ) (a : Arguments) where
+module _ (history : Bool) (f : Family) (n : ℕ) (a : Arguments) where
   abbrev Radii : Radius → Radius → Type 0
-  Radii x y = (x .radius ≡ y .radius) × (x .passes ≡ y .passes) × Agree five (x .vectors) (y .vectors)
+  Radii x y = (x .radius ≡ y .radius) × (x .passes ≡ y .passes) × Agree (five history) (x .vectors) (y .vectors)
 
   abbrev from-turn : Float → ℕ → ℕ → Float → Float → Vectors → Asking Radius
   from-turn π m k ρ ρ′ u = cond (ended (k + 1) ρ ρ′) (done (record { radius = ρ′; passes = k + 1; vectors = u })) (iterate f n a π m (k + 1) ρ′ u)
 
-  pass-alike : (π : Float) (m k : ℕ) (ρ : Float) (v w : Vectors) → Agree three v w
-      → ((ρ′ : Float) (v w : Vectors) → Agree five v w → Alike Radii (iterate f n a π m (k + 1) ρ′ v) (iterate f n a π m (k + 1) ρ′ w))
+  pass-alike : (π : Float) (m k : ℕ) (ρ : Float) (v w : Vectors) → Agree (three history) v w
+      → ((ρ′ : Float) (v w : Vectors) → Agree (five history) v w → Alike Radii (iterate f n a π m (k + 1) ρ′ v) (iterate f n a π m (k + 1) ρ′ w))
       → Alike Radii (iterate f n a π (suc m) k ρ v) (iterate f n a π (suc m) k ρ w)
   unfolding iterate radius-of
   pass-alike π m k ρ v w p on = evaluate-alike Radii _ _ _ (perturbed n π v) (perturbed n π w) (a .time) (perturbed n π v perturbed-state) (perturbed n π w perturbed-state) (q perturbed-state refl)
-      (λ d. turn (turned n (perturbed n π v) d) (turned n (perturbed n π w) d) (turned-agrees n d (perturbed n π v) (perturbed n π w) q))
+      (λ d. turn (turned n (perturbed n π v) d) (turned n (perturbed n π w) d) (turned-agrees history n d (perturbed n π v) (perturbed n π w) q))
     where
-      q : Agree (three or perturbed-state) (perturbed n π v) (perturbed n π w)
-      q = perturbed-agrees n π v w p
+      q : Agree (three history or perturbed-state) (perturbed n π v) (perturbed n π w)
+      q = perturbed-agrees history n π v w p
 
-      go : (v w : Vectors) → Agree five v w → (ρ′ : Float) (t : Bool) → Alike Radii
+      go : (v w : Vectors) → Agree (five history) v w → (ρ′ : Float) (t : Bool) → Alike Radii
           (cond t (done (record { radius = ρ′; passes = k + 1; vectors = v })) (iterate f n a π m (k + 1) ρ′ v))
           (cond t (done (record { radius = ρ′; passes = k + 1; vectors = w })) (iterate f n a π m (k + 1) ρ′ w))
       go v w p ρ′ true = (refl, refl, p)
       go v w p ρ′ false = on ρ′ v w p
 
-      turn : (v w : Vectors) → Agree five v w → Alike Radii (from-turn π m k ρ (radius-of π v) v) (from-turn π m k ρ (radius-of π w) w)
+      turn : (v w : Vectors) → Agree (five history) v w → Alike Radii (from-turn π m k ρ (radius-of π v) v) (from-turn π m k ρ (radius-of π w) w)
       turn v w p = subst (λ (ρ′ : Float). Alike Radii (from-turn π m k ρ ρ′ v) (from-turn π m k ρ (radius-of π w) w))
           (ap (λ (x : List Float). radius-of π (λ (b : Vector). x)) (sym (p eigenvector refl))) (go v w p (radius-of π w) (ended (k + 1) ρ (radius-of π w)))
 
-  passes-alike : (π : Float) (m k : ℕ) (ρ : Float) (v w : Vectors) → Agree five v w → Alike Radii (iterate f n a π m k ρ v) (iterate f n a π m k ρ w)
+  passes-alike : (π : Float) (m k : ℕ) (ρ : Float) (v w : Vectors) → Agree (five history) v w → Alike Radii (iterate f n a π m k ρ v) (iterate f n a π m k ρ w)
   unfolding iterate
   passes-alike π zero k ρ v w p = (refl, refl, p)
-  passes-alike π (suc m) k ρ v w p = pass-alike π m k ρ v w (five-three v w p) (passes-alike π m (k + 1))
+  passes-alike π (suc m) k ρ v w p = pass-alike π m k ρ v w (five-three history v w p) (passes-alike π m (k + 1))
 
-  radius-alike : (v w : Vectors) → Agree three v w → Alike Radii (spectral-radius f n a v) (spectral-radius f n a w)
+  radius-alike : (v w : Vectors) → Agree (three history) v w → Alike Radii (spectral-radius f n a v) (spectral-radius f n a w)
   unfolding spectral-radius perturbation-of
   radius-alike v w p =
       subst (λ (π : Float). Alike Radii (iterate f n a π 12 0 nought (with-direction n v)) (iterate f n a (perturbation-of w) 12 0 nought (with-direction n w)))
       (ap (λ (x : List Float). perturbation-of (λ (b : Vector). x)) (sym (p state refl)))
-      (pass-alike (perturbation-of w) 11 0 nought (with-direction n v) (with-direction n w) (direction-agrees n v w p) (passes-alike (perturbation-of w) 11 1))
+      (pass-alike (perturbation-of w) 11 0 nought (with-direction n v) (with-direction n w) (direction-agrees history n v w p) (passes-alike (perturbation-of w) 11 1))
 
-  row-alike : (s m j : ℕ) (c : Recurrence) (v w : Vectors) → Agree seven v w
-      → ((c : Recurrence) (v w : Vectors) → Agree nine v w → Alike (Agree nine) (stage-loop f n a s m (j + 1) c v) (stage-loop f n a s m (j + 1) c w))
-      → Alike (Agree nine) (stage-loop f n a s (suc m) j c v) (stage-loop f n a s (suc m) j c w)
+  row-alike : (s m j : ℕ) (c : Recurrence) (v w : Vectors) → Agree (seven history) v w
+      → ((c : Recurrence) (v w : Vectors) → Agree (nine history) v w → Alike (Agree (nine history)) (stage-loop f n a s m (j + 1) c v) (stage-loop f n a s m (j + 1) c w))
+      → Alike (Agree (nine history)) (stage-loop f n a s (suc m) j c v) (stage-loop f n a s (suc m) j c w)
   unfolding stage-loop
-  row-alike s m j c v w p on = evaluate-alike (Agree nine) _ _ _ v w (a .time ⊕ a .step ⊗ c .«theta_previous») (v previous-one) (w previous-one) (p previous-one refl)
-      (λ d. go (with-row f n (a .step) (coefficients f s j c) v d) (with-row f n (a .step) (coefficients f s j c) w d) (row-agrees n f (a .step) (coefficients f s j c) d v w p) (ltb j s))
+  row-alike s m j c v w p on = evaluate-alike (Agree (nine history)) _ _ _ v w (a .time ⊕ a .step ⊗ c .«theta_previous») (v previous-one) (w previous-one) (p previous-one refl)
+      (λ d. go (with-row f n (a .step) (coefficients f s j c) v d) (with-row f n (a .step) (coefficients f s j c) w d) (row-agrees history n f (a .step) (coefficients f s j c) d v w p) (ltb j s))
     where
-      go : (v w : Vectors) → Agree nine v w → (t : Bool) → Alike (Agree nine)
+      go : (v w : Vectors) → Agree (nine history) v w → (t : Bool) → Alike (Agree (nine history))
           (cond t (stage-loop f n a s m (j + 1) (next f s c (coefficients f s j c)) (exchanged v)) (done v))
           (cond t (stage-loop f n a s m (j + 1) (next f s c (coefficients f s j c)) (exchanged w)) (done w))
-      go v w p true = on (next f s c (coefficients f s j c)) (exchanged v) (exchanged w) (exchanged-agrees n v w p)
+      go v w p true = on (next f s c (coefficients f s j c)) (exchanged v) (exchanged w) (exchanged-agrees history n v w p)
       go v w p false = p
 
-  rows-alike : (s m j : ℕ) (c : Recurrence) (v w : Vectors) → Agree nine v w → Alike (Agree nine) (stage-loop f n a s m j c v) (stage-loop f n a s m j c w)
+  rows-alike : (s m j : ℕ) (c : Recurrence) (v w : Vectors) → Agree (nine history) v w → Alike (Agree (nine history)) (stage-loop f n a s m j c v) (stage-loop f n a s m j c w)
   unfolding stage-loop
   rows-alike s zero j c v w p = p
-  rows-alike s (suc m) j c v w p = row-alike s m j c v w (nine-seven v w p) (rows-alike s m (j + 1))
+  rows-alike s (suc m) j c v w p = row-alike s m j c v w (nine-seven history v w p) (rows-alike s m (j + 1))
 
-  recurrence-alike : (s : ℕ) (v w : Vectors) → 2 ≤ s → Agree five v w → Alike (Agree nine) (run-recurrence f n a s v) (run-recurrence f n a s w)
+  recurrence-alike : (s : ℕ) (v w : Vectors) → 2 ≤ s → Agree (five history) v w → Alike (Agree (nine history)) (run-recurrence f n a s v) (run-recurrence f n a s w)
   unfolding run-recurrence
   recurrence-alike s v w 2≤ p = let c = recurrence f s in let h = a .step in
       let v′ = first-stage n h (c .«theta_previous») v in let w′ = first-stage n h (c .«theta_previous») w in
-      subst (λ (i : ℕ). Alike (Agree nine) (stage-loop f n a s i 2 c v′) (stage-loop f n a s i 2 c w′)) (omega arith)
-      (row-alike s (s - 2) 2 c v′ w′ (first-agrees n h (c .«theta_previous») v w p) (rows-alike s (s - 2) 3))
+      subst (λ (i : ℕ). Alike (Agree (nine history)) (stage-loop f n a s i 2 c v′) (stage-loop f n a s i 2 c w′)) (omega arith)
+      (row-alike s (s - 2) 2 c v′ w′ (first-agrees history n h (c .«theta_previous») v w p) (rows-alike s (s - 2) 3))
 
-  close-alike : (s k : ℕ) (r : Float) (v w : Vectors) → Agree nine v w → Alike Same (close f n a s k r v) (close f n a s k r w)
-  unfolding close fixed-at
-  close-alike s k r v w p = subst (λ (t : Bool). Alike Same (closed t (with-candidate v)) (close f n a s k r w))
+  close-alike : (s k : ℕ) (r : Float) (v w : Vectors) → Agree (nine history) v w → Alike (Same-attempt history) (close f n a s k r v) (close f n a s k r w)
+  unfolding close fixed-at finished-attempt
+  close-alike s k r v w p = subst (λ (t : Bool). Alike (Same-attempt history) (closed t (with-candidate v)) (close f n a s k r w))
       (ap all-finite (sym (q candidate refl))) (go (all-finite (with-candidate w candidate)))
     where
-      q : Agree ten (with-candidate v) (with-candidate w)
-      q = candidate-agrees n v w p
+      q : Agree (ten history) (with-candidate v) (with-candidate w)
+      q = candidate-agrees history n v w p
 
       closed : Bool → Vectors → Asking Finished-attempt
       closed t u = cond t (evaluate for-candidate u (a .time ⊕ a .step) (u candidate) >>= λ d. done (finished-attempt f n a s k r (with-last f n a u d))) (stopped 10 u)
 
-      go : (t : Bool) → Alike Same (closed t (with-candidate v)) (closed t (with-candidate w))
-      go true = evaluate-alike Same _ _ _ (with-candidate v) (with-candidate w) (a .time ⊕ a .step) (with-candidate v candidate) (with-candidate w candidate) (q candidate refl)
-          (λ d. ap (finished-attempt f n a s k r) (last-same n f a d (with-candidate v) (with-candidate w) q))
-      go false = record { number-same = refl; vectors-same = ten-same n (with-candidate v) (with-candidate w) q }
+      finished : (x y : Vectors) → Same-vectors history x y → Same-attempt history (finished-attempt f n a s k r x) (finished-attempt f n a s k r y)
+      finished x y e = record {
+        norm-same = norm-same history n f s a x y e;
+        stages-same = refl;
+        passes-same = refl;
+        radius-same = refl;
+        vectors-same = e;
+      }
+
+      go : (t : Bool) → Alike (Same-attempt history) (closed t (with-candidate v)) (closed t (with-candidate w))
+      go true = evaluate-alike (Same-attempt history) _ _ _ (with-candidate v) (with-candidate w) (a .time ⊕ a .step) (with-candidate v candidate) (with-candidate w candidate) (q candidate refl)
+          (λ d. finished (with-last f n a (with-candidate v) d) (with-last f n a (with-candidate w) d) (last-same history n f a d (with-candidate v) (with-candidate w) q))
+      go false = record { number-same = refl; vectors-same = ten-same history n (with-candidate v) (with-candidate w) q }
 
   from-need : Need → ℕ → Float → Vectors → Asking Finished-attempt
   from-need need k r w = stages-for need w >>= λ s. run-recurrence f n a s w >>= close f n a s k r
 
-  need-alike : (need : Need) (k : ℕ) (r : Float) (v w : Vectors) → Needed f need → Agree five v w → Alike Same (from-need need k r v) (from-need need k r w)
+  need-alike : (need : Need) (k : ℕ) (r : Float) (v w : Vectors) → Needed f need → Agree (five history) v w → Alike (Same-attempt history) (from-need need k r v) (from-need need k r w)
   unfolding from-need stages-for _>>=_ fixed-at
-  need-alike (Met s) k r v w ok p = bind-alike (Agree nine) Same (close f n a s k r) (close f n a s k r) (run-recurrence f n a s v) (run-recurrence f n a s w) (recurrence-alike s v w (two-from f s ok) p) (λ v w. close-alike s k r v w)
+  need-alike (Met s) k r v w ok p = bind-alike (Agree (nine history)) (Same-attempt history) (close f n a s k r) (close f n a s k r) (run-recurrence f n a s v) (run-recurrence f n a s w) (recurrence-alike s v w (two-from f s ok) p) (λ v w. close-alike s k r v w)
   need-alike (Unmet i) k r v w ok p = record { number-same = refl; vectors-same = rw (ne-eqb i 10 (not-ten ok)) refl }
 
   from-radius : Radius → Asking Finished-attempt
   from-radius x = let r = scaled (a .step) (x .radius) in from-need (stage-need f r) (x .passes) r (x .vectors)
 
-  from-alike : (x y : Radius) → Radii x y → Alike Same (from-radius x) (from-radius y)
+  from-alike : (x y : Radius) → Radii x y → Alike (Same-attempt history) (from-radius x) (from-radius y)
   unfolding from-radius
   from-alike x y h = let r = scaled (a .step) (y .radius) in
-      let go : Alike Same (from-need (stage-need f r) (y .passes) r (x .vectors)) (from-radius y) = need-alike (stage-need f r) (y .passes) r (x .vectors) (y .vectors) (need-holds f r) (h .2) in
+      let go : Alike (Same-attempt history) (from-need (stage-need f r) (y .passes) r (x .vectors)) (from-radius y) = need-alike (stage-need f r) (y .passes) r (x .vectors) (y .vectors) (need-holds f r) (h .2) in
       rw (h .0, h .1) go
 
-  -- Alike: where they are done, with one and the same finished attempt, all eleven vectors of it; where they stop with 10, with the same vectors but for the
-  -- last derivative.
-  pub attempt-alike : (v w : Vectors) → Same-start v w → Alike Same (attempt-step f n a v) (attempt-step f n a w)
+  -- Alike: where they are done, with the same finished attempt, every vector of it that is compared; where they stop with 10, with the same vectors but for
+  -- the last derivative and the state before.
+  pub attempt-alike : (v w : Vectors) → Same-start history v w → Alike (Same-attempt history) (attempt-step f n a v) (attempt-step f n a w)
   unfolding attempt-step from-radius from-need
-  attempt-alike v w p = bind-alike Radii Same from-radius from-radius (spectral-radius f n a v) (spectral-radius f n a w) (radius-alike v w (start-agrees v w p)) from-alike
+  attempt-alike v w p = bind-alike Radii (Same-attempt history) from-radius from-radius (spectral-radius f n a v) (spectral-radius f n a w) (radius-alike v w (start-agrees history v w p)) from-alike
 
-  pub depends : (v w : Vectors) → Same-start v w → (d : ℕ → List Float) → (evaluated (attempt-step f n a v) d 0 ≡ evaluated (attempt-step f n a w) d 0) × Same-end (end (attempt-step f n a v) d 0) (end (attempt-step f n a w) d 0)
-  depends v w p d = (same-evaluated Same _ _ d 0 (attempt-alike v w p), same-ending _ _ d 0 (attempt-alike v w p))
+  pub depends : (v w : Vectors) → Same-start history v w → (d : ℕ → List Float) → (evaluated (attempt-step f n a v) d 0 ≡ evaluated (attempt-step f n a w) d 0) × Same-end (Same-attempt history) (end (attempt-step f n a v) d 0) (end (attempt-step f n a w) d 0)
+  depends v w p d = (same-evaluated (Same-attempt history) _ _ d 0 (attempt-alike v w p), same-ending (Same-attempt history) _ _ d 0 (attempt-alike v w p))

@@ -12,7 +12,7 @@ use Rattle.ieee.specs.Double.{_⊕_}
 use Rattle.family.specs.Family.{family-of}
 use Rattle.coefficients.specs.Rows.{coefficients, next}
 use Rattle.workspace.specs.declared.Arguments.{Arguments}
-use Rattle.workspace.specs.Vectors.{Vectors, number, unpack, all-finite, last-derivative, candidate}
+use Rattle.workspace.specs.Vectors.{Vectors, number, unpack, all-finite, last-derivative, candidate, older-state}
 use Rattle.workspace.specs.Kernel.{turned, radius-of, ended, scaled, with-row, exchanged, with-candidate}
 use Rattle.workspace.proofs.Areas.{unpack-pack}
 use Rattle.driver.specs.declared.Phase.{Phase}
@@ -36,7 +36,7 @@ use Rattle.session.specs.Refusals.{verdict-of, _∈_, here, later, Left}
 use Rattle.ieee.proofs.Logic.{and-left, and-right}
 use Rattle.session.proofs.Numbers.{is-in, not-both, not-nine}
 use Rattle.session.proofs.Needs.{Needed, need-holds}
-use Rattle.session.proofs.Lengths.{long-area, replied-long}
+use Rattle.session.proofs.Lengths.{its-family, long-area, replied-long}
 use Rattle.session.proofs.Guards.{low, low-fails}
 use Rattle.session.proofs.Refused.{same-number, says-refused}
 
@@ -46,11 +46,15 @@ unrefused y i g e = subst is-refused (ap verdict-of (sym e) ∙ g) tt
 
 -- ---- a reply that passed its tests
 
+-- the vectors that no attempt writes before its last reply
+abbrev pub Stand : Vectors → Vectors → Type 0
+Stand v w = (w last-derivative ≡ v last-derivative) × (w older-state ≡ v older-state)
+
 -- refused, its derivative is finite and so the number is not 9, and of the record only the phase is changed
 pub record High (r : Record) (v : Vectors) (i : ℕ) (x : Step) : Type 0 where
   pub beyond : i ∈ after-nine
   pub record-is : x .kept ≡ in-phase P.Empty r
-  pub last-stands : x .vectors last-derivative ≡ v last-derivative
+  pub stand : Stand v (x .vectors)
 
 abbrev pub Refuses-high : Record → Vectors → Step → Type 0
 Refuses-high r v x = (i : ℕ) → x .answer ≡ Refused i → High r v i x
@@ -58,26 +62,26 @@ Refuses-high r v x = (i : ℕ) → x .answer ≡ Refused i → High r v i x
 on : (r : Record) (v : Vectors) (x : Step) → verdict-of (x .answer) ≡ admitted → Refuses-high r v x
 on r v x g i e = absurd (unrefused (x .answer) i g e)
 
-candidate-high : (r : Record) (v w : Vectors) → w last-derivative ≡ v last-derivative → Refuses-high r v (ask-candidate r w)
+candidate-high : (r : Record) (v w : Vectors) → Stand v w → Refuses-high r v (ask-candidate r w)
 unfolding ask-candidate
 candidate-high r v w same = go (all-finite (w candidate))
   where
     go : (t : Bool) → Refuses-high r v (cond t (step-to (Evaluate (r .arguments .time ⊕ r .arguments .step) (number candidate)) (in-phase P.Candidate r) w) (step-to (Refused 10) (in-phase P.Empty r) w))
     go true = on r v _ refl
-    go false = λ i e. record { beyond = subst (λ (i : ℕ). i ∈ after-nine) (same-number 10 i e) here; record-is = refl; last-stands = same }
+    go false = λ i e. record { beyond = subst (λ (i : ℕ). i ∈ after-nine) (same-number 10 i e) here; record-is = refl; stand = same }
 
-need-high : (need : Need) (r : Record) (v w : Vectors) (radius : Float) → w last-derivative ≡ v last-derivative → Needed (family-of (r .family)) need → Refuses-high r v (by-need need r w radius)
+need-high : (need : Need) (r : Record) (v w : Vectors) (radius : Float) → Stand v w → Needed (family-of (r .family)) need → Refuses-high r v (by-need need r w radius)
 unfolding by-need ask-stage
 need-high (Met s) r v w radius same ok = on r v _ refl
 need-high (Unmet j) r v w radius same ok = λ i e.
-    record { beyond = subst (λ (i : ℕ). i ∈ after-nine) (same-number j i e) (later ok); record-is = refl; last-stands = same }
+    record { beyond = subst (λ (i : ℕ). i ∈ after-nine) (same-number j i e) (later ok); record-is = refl; stand = same }
 
-pass-high : (t : Bool) (r r′ : Record) (v w : Vectors) (radius : Float) → w last-derivative ≡ v last-derivative → Refuses-high r v (cond t (begin-stages r w radius) (ask-pass r′ w))
+pass-high : (t : Bool) (r r′ : Record) (v w : Vectors) (radius : Float) → Stand v w → Refuses-high r v (cond t (begin-stages r w radius) (ask-pass r′ w))
 unfolding begin-stages ask-pass
 pass-high true r r′ v w radius same = need-high (stage-need (family-of (r .family)) radius) r v w radius same (need-holds (family-of (r .family)) radius)
 pass-high false r r′ v w radius same = on r v _ refl
 
-stage-high : (t : Bool) (r r′ : Record) (v u w : Vectors) → w last-derivative ≡ v last-derivative → Refuses-high r v (cond t (ask-stage r′ u) (ask-candidate r w))
+stage-high : (t : Bool) (r r′ : Record) (v u w : Vectors) → Stand v w → Refuses-high r v (cond t (ask-stage r′ u) (ask-candidate r w))
 unfolding ask-stage
 stage-high true r r′ v u w same = on r v _ refl
 stage-high false r r′ v u w same = candidate-high r v w same
@@ -88,10 +92,10 @@ replied-high P.Empty r v d = on r v _ refl
 replied-high P.First r v d = on r v _ refl
 replied-high P.Ready r v d = on r v _ refl
 replied-high P.Pass r v d = let w = turned (r .n) v d in let i = r .iteration in let radius = radius-of (i .perturbation) w in
-    pass-high (ended (i .pass) (i .«previous_radius») radius || eqb (i .pass) 12) r (at-pass (r .arguments) (i .pass + 1) (i .perturbation) radius r) v w (scaled (r .arguments .step) radius) refl
+    pass-high (ended (i .pass) (i .«previous_radius») radius || eqb (i .pass) 12) r (at-pass (r .arguments) (i .pass + 1) (i .perturbation) radius r) v w (scaled (r .arguments .step) radius) (refl, refl)
 replied-high P.Stage r v d = let f = family-of (r .family) in let s = r .staging .stages in let j = r .staging .stage in
     let row = coefficients f s j (r .staging .recurrence) in let w = with-row f (r .n) (r .arguments .step) row v d in
-    stage-high (ltb j s) r (at-stage s (j + 1) (next f s (r .staging .recurrence) row) r) v (exchanged w) (with-candidate w) refl
+    stage-high (ltb j s) r (at-stage s (j + 1) (next f s (r .staging .recurrence) row) r) v (exchanged w) (with-candidate w) (refl, refl)
 replied-high P.Candidate r v d = on r v _ refl
 replied-high P.Finished r v d = on r v _ refl
 replied-high P.Callback r v d = on r v _ refl
@@ -109,6 +113,7 @@ same h i low = record {
   evaluations-are = λ l. absurd (not-both low l);
   attempts-are = λ l. refl;
   last-stands = λ l. refl;
+  older-stands = λ l. refl;
   area-stands = λ e. refl;
 }
 
@@ -144,13 +149,16 @@ reply-leaves h d = let ts = reply-tests (h .kept) (h .counters) (h .area) d in g
         let high = replied-high (h .kept .phase) (h .kept) v d i e in
         let whole = and-left (whole-area (h .kept .family) (h .kept .n) (h .area)) (as-long (h .kept .n) d) lengths in
         let long = eqb-true (length d) (h .kept .n) (and-right (whole-area (h .kept .family) (h .kept .n) (h .area)) (as-long (h .kept .n) d) lengths) in
+        let long-v = long-area (h .kept .family) (h .kept .n) (h .area) whole in
+        let back = unpack-pack (its-family (h .kept)) (h .kept .n) (x .vectors) (replied-long (h .kept .phase) (h .kept) v d long-v long) in
         record {
           kind = inr (later (high .beyond));
           all-stands = λ l. absurd (not-both l (later (high .beyond)));
           record-is = λ l. high .record-is;
           evaluations-are = λ l. ap (λ (c : Counters). c .evaluations) (count i (x .answer) e);
           attempts-are = λ l. ap (λ (c : Counters). c .«finished_attempts») (count i (x .answer) e);
-          last-stands = λ l. ap (λ (w : Vectors). w last-derivative) (unpack-pack (h .kept .n) (x .vectors) (replied-long (h .kept .phase) (h .kept) v d (long-area (h .kept .family) (h .kept .n) (h .area) whole) long)) ∙ high .last-stands;
+          last-stands = λ l. ap (λ (w : Vectors). w last-derivative) back ∙ high .stand .0;
+          older-stands = λ l. ap (λ (w : Vectors). w older-state) back ∙ high .stand .1;
           area-stands = λ q. absurd (not-nine (high .beyond) q);
         }
     go lengths false i e = let nine = subst (λ (i : ℕ). i ∈ ending-numbers) (same-number 9 i e) here in record {
@@ -160,6 +168,7 @@ reply-leaves h d = let ts = reply-tests (h .kept) (h .counters) (h .area) d in g
       evaluations-are = λ l. refl;
       attempts-are = λ l. refl;
       last-stands = λ l. refl;
+      older-stands = λ l. refl;
       area-stands = λ q. refl;
     }
 

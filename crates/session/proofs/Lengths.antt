@@ -8,11 +8,11 @@ use borrow.Author.Tests.{eqb-true, eq-eqb}
 use lib.ListN.{length, length-replicate, replicate}
 use lib.Ieee.{Float}
 use Rattle.ieee.specs.Double.{_⊕_, nought}
-use Rattle.family.specs.Family.{family-of}
+use Rattle.family.specs.Family.{Family, family-of}
 use Rattle.coefficients.specs.Rows.{recurrence, coefficients, next}
 use Rattle.workspace.specs.Vectors.{Vectors, _with_≔_, number, vector-count, unpack, pack, all-finite, first-derivative, eigenvector, candidate}
 use Rattle.workspace.specs.Kernel.{turned, radius-of, ended, scaled, with-row, exchanged, with-candidate}
-use Rattle.workspace.proofs.Areas.{Long, whole, long-unpack, length-pack, long-with, long-perturbed, long-turned, long-first, long-row, long-exchanged, long-candidate, long-last}
+use Rattle.workspace.proofs.Areas.{Long, long-unpack, length-pack, long-with, long-perturbed, long-turned, long-first, long-row, long-exchanged, long-candidate, long-last}
 use Rattle.driver.specs.declared.Phase.{Phase}
 use Rattle.driver.specs.declared.Phase.the-variants as P
 use Rattle.driver.specs.declared.Record.{Record}
@@ -21,57 +21,61 @@ use Rattle.driver.specs.declared.Need.the-variants.{Met, Unmet}
 use Rattle.driver.specs.declared.Answer.the-variants.{Evaluate, Refused}
 use Rattle.driver.specs.Calls.{step-to, in-phase, at-pass, at-stage, with-radius, take-first, take-callback, ask-pass, ask-stage, stage-need, by-need, begin-stages, take-pass, ask-candidate, take-stage, take-candidate, replied, whole-area}
 
-pub whole-pack : (f n : ℕ) (v : Vectors) → Long n v → whole-area f n (pack v) ≡ true
+-- the family of a record
+abbrev pub its-family : Record → Family
+its-family r = family-of (r .family)
+
+pub whole-pack : (f n : ℕ) (v : Vectors) → Long (family-of f) n v → whole-area f n (pack v) ≡ true
 unfolding whole-area
 whole-pack f n v h = eq-eqb (length (pack v)) (vector-count (family-of f) * n) (length-pack (family-of f) n v h)
 
-pub long-area : (f n : ℕ) (area : List Float) → whole-area f n area ≡ true → Long n (unpack n area)
+pub long-area : (f n : ℕ) (area : List Float) → whole-area f n area ≡ true → Long (family-of f) n (unpack n area)
 unfolding whole-area
-long-area f n area h = long-unpack n area (whole (family-of f) n area (eqb-true (length area) (vector-count (family-of f) * n) h))
+long-area f n area h = long-unpack (family-of f) n area (eqb-true (length area) (vector-count (family-of f) * n) h)
 
-pub pack-length : (f n : ℕ) (v : Vectors) (area : List Float) → Long n v → whole-area f n area ≡ true → length (pack v) ≡ length area
+pub pack-length : (f n : ℕ) (v : Vectors) (area : List Float) → Long (family-of f) n v → whole-area f n area ≡ true → length (pack v) ≡ length area
 unfolding whole-area
 pack-length f n v area lv hw = length-pack (family-of f) n v lv ∙ sym (eqb-true (length area) (vector-count (family-of f) * n) hw)
 
 -- ---- a reply, by phase
 
-need-long : (need : Need) (r : Record) (w : Vectors) (radius : Float) → Long (r .n) w → Long (r .n) (by-need need r w radius .vectors)
+need-long : (need : Need) (r : Record) (w : Vectors) (radius : Float) → Long (its-family r) (r .n) w → Long (its-family r) (r .n) (by-need need r w radius .vectors)
 unfolding by-need ask-stage at-stage with-radius
-need-long (Met s) r w radius lw = long-first (r .n) (r .arguments .step) (recurrence (family-of (r .family)) s .«theta_previous») w lw
+need-long (Met s) r w radius lw = long-first (its-family r) (r .n) (r .arguments .step) (recurrence (family-of (r .family)) s .«theta_previous») w lw
 need-long (Unmet i) r w radius lw = lw
 
-pass-long : (t : Bool) (r r′ : Record) (radius : Float) (w : Vectors) → r′ .n ≡ r .n → Long (r .n) w
-    → Long (r .n) (cond t (begin-stages r w radius) (ask-pass r′ w) .vectors)
+pass-long : (t : Bool) (r r′ : Record) (radius : Float) (w : Vectors) → r′ .n ≡ r .n → Long (its-family r) (r .n) w
+    → Long (its-family r) (r .n) (cond t (begin-stages r w radius) (ask-pass r′ w) .vectors)
 unfolding begin-stages ask-pass
 pass-long true r r′ radius w e lw = need-long (stage-need (family-of (r .family)) radius) r w radius lw
-pass-long false r r′ radius w e lw = rw e (long-perturbed (r .n) (r′ .iteration .perturbation) w lw)
+pass-long false r r′ radius w e lw = rw e (long-perturbed (its-family r) (r .n) (r′ .iteration .perturbation) w lw)
 
-candidate-long : (r : Record) (w : Vectors) → Long (r .n) w → Long (r .n) (ask-candidate r w .vectors)
+candidate-long : (r : Record) (w : Vectors) → Long (its-family r) (r .n) w → Long (its-family r) (r .n) (ask-candidate r w .vectors)
 unfolding ask-candidate
 candidate-long r w lw = go (all-finite (w candidate))
   where
-    go : (t : Bool) → Long (r .n) (cond t (step-to (Evaluate (r .arguments .time ⊕ r .arguments .step) (number candidate)) (in-phase P.Candidate r) w) (step-to (Refused 10) (in-phase P.Empty r) w) .vectors)
+    go : (t : Bool) → Long (its-family r) (r .n) (cond t (step-to (Evaluate (r .arguments .time ⊕ r .arguments .step) (number candidate)) (in-phase P.Candidate r) w) (step-to (Refused 10) (in-phase P.Empty r) w) .vectors)
     go true = lw
     go false = lw
 
-stage-long : (t : Bool) (r r′ : Record) (w : Vectors) → Long (r .n) w → Long (r .n) (cond t (ask-stage r′ (exchanged w)) (ask-candidate r (with-candidate w)) .vectors)
+stage-long : (t : Bool) (r r′ : Record) (w : Vectors) → Long (its-family r) (r .n) w → Long (its-family r) (r .n) (cond t (ask-stage r′ (exchanged w)) (ask-candidate r (with-candidate w)) .vectors)
 unfolding ask-stage
-stage-long true r r′ w lw = long-exchanged (r .n) w lw
-stage-long false r r′ w lw = candidate-long r (with-candidate w) (long-candidate (r .n) w lw)
+stage-long true r r′ w lw = long-exchanged (its-family r) (r .n) w lw
+stage-long false r r′ w lw = candidate-long r (with-candidate w) (long-candidate (its-family r) (r .n) w lw)
 
-pub replied-long : (φ : Phase) (r : Record) (v : Vectors) (d : List Float) → Long (r .n) v → length d ≡ r .n → Long (r .n) (replied φ r v d .vectors)
+pub replied-long : (φ : Phase) (r : Record) (v : Vectors) (d : List Float) → Long (its-family r) (r .n) v → length d ≡ r .n → Long (its-family r) (r .n) (replied φ r v d .vectors)
 unfolding replied take-first take-callback take-pass take-stage take-candidate at-pass
-replied-long P.Empty r v d lv hd = long-with (r .n) v first-derivative d lv hd
-replied-long P.First r v d lv hd = long-with (r .n) v first-derivative d lv hd
-replied-long P.Ready r v d lv hd = long-with (r .n) v first-derivative d lv hd
+replied-long P.Empty r v d lv hd = long-with (its-family r) (r .n) v first-derivative d lv hd
+replied-long P.First r v d lv hd = long-with (its-family r) (r .n) v first-derivative d lv hd
+replied-long P.Ready r v d lv hd = long-with (its-family r) (r .n) v first-derivative d lv hd
 replied-long P.Pass r v d lv hd = let w = turned (r .n) v d in let i = r .iteration in let radius = radius-of (i .perturbation) w in
     pass-long (ended (i .pass) (i .«previous_radius») radius || eqb (i .pass) 12) r (at-pass (r .arguments) (i .pass + 1) (i .perturbation) radius r)
-    (scaled (r .arguments .step) radius) w refl (long-turned (r .n) v d lv hd)
+    (scaled (r .arguments .step) radius) w refl (long-turned (its-family r) (r .n) v d lv hd)
 replied-long P.Stage r v d lv hd = let f = family-of (r .family) in let s = r .staging .stages in let j = r .staging .stage in
     let row = coefficients f s j (r .staging .recurrence) in
     stage-long (ltb j s) r (at-stage s (j + 1) (next f s (r .staging .recurrence) row) r) (with-row f (r .n) (r .arguments .step) row v d)
-    (long-row (r .n) f (r .arguments .step) row v d lv hd)
-replied-long P.Candidate r v d lv hd = long-last (r .n) (family-of (r .family)) (r .arguments) v d lv hd
-replied-long P.Finished r v d lv hd = long-with (r .n) v first-derivative d lv hd
+    (long-row (its-family r) (r .n) f (r .arguments .step) row v d lv hd)
+replied-long P.Candidate r v d lv hd = long-last (its-family r) (r .n) (family-of (r .family)) (r .arguments) v d lv hd
+replied-long P.Finished r v d lv hd = long-with (its-family r) (r .n) v first-derivative d lv hd
 replied-long P.Callback r v d lv hd =
-    long-with (r .n) (v with first-derivative ≔ d) eigenvector (replicate (r .n) nought) (long-with (r .n) v first-derivative d lv hd) (length-replicate (r .n) nought)
+    long-with (its-family r) (r .n) (v with first-derivative ≔ d) eigenvector (replicate (r .n) nought) (long-with (its-family r) (r .n) v first-derivative d lv hd) (length-replicate (r .n) nought)

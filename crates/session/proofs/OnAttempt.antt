@@ -5,7 +5,7 @@ use Prim.Native.Nat.{ℕ}
 use lib.ListN.{length}
 use Rattle.family.specs.Family.{family-of}
 use Rattle.workspace.specs.declared.Arguments.{Arguments}
-use Rattle.workspace.specs.Vectors.{Vectors, unpack, first-derivative, eigenvector, state}
+use Rattle.workspace.specs.Vectors.{unpack, first-derivative, eigenvector, state, older-state}
 use Rattle.workspace.specs.Kernel.{with-direction, perturbation-of}
 use Rattle.workspace.proofs.Areas.{long-direction, long-perturbed}
 use Rattle.driver.specs.declared.Phase.{Phase}
@@ -13,12 +13,12 @@ use Rattle.driver.specs.declared.Phase.the-variants as P
 use Rattle.driver.specs.Calls.{Held, Called, at-pass, ask-pass, may-attempt, good-times, good-tolerances, attempted, going-on, attempt-tests, attempt}
 use Rattle.driver.specs.Calls.{Attempt, taken}
 use Rattle.driver.proofs.Ladder.{each-passes}
-use Rattle.session.specs.Attempt.{done, stopped, ask, attempt-step}
+use Rattle.session.specs.Attempt.{done, stopped, ask, Finished-attempt, attempt-step}
 use Rattle.session.specs.Claim.{Allowed, in-one-piece}
 use Rattle.session.specs.Alike.{Same-start}
-use Rattle.session.specs.Session.{ready-with, tried, vectors-of, tries, Doing, none, within, Session, at-rest, doing-now, session-after, rests}
+use Rattle.session.specs.Session.{Resting, ready-with, tried, vectors-of, has-history, tries, Doing, none, within, Session, at-rest, doing-now, session-after, rests}
 use Rattle.session.proofs.Truth.{differ}
-use Rattle.session.proofs.Lengths.{long-area, pack-length}
+use Rattle.session.proofs.Lengths.{its-family, long-area, pack-length}
 use Rattle.session.proofs.Passes.{attempt-is, attempt-follows}
 use Rattle.session.proofs.Depends.{attempt-alike}
 use Rattle.session.proofs.Shows.{At, Shows, Does, Good, goes}
@@ -52,14 +52,23 @@ allowed h a q = let p = each-passes (attempt-tests (h .kept) (h .area) a) (taken
       tolerances-good = p .1 .1 .1 .1 .1 .0;
     }
 
+-- an attempt leaves the history that it began from
+kept-history : (ρ : Resting) (o : Finished-attempt) → has-history (tried o) ≡ has-history ρ
+unfolding has-history
+kept-history (ready-with v) o = refl
+kept-history (tried p) o = refl
+
 module _ (h : Held) (σ : Session) (cs : h .counters ≡ σ .counts) (a : Arguments) where
-  -- at rest with the vectors v
-  tries-good : (v : Vectors) (φ : Phase) → Allowed h a → At (σ .family) (σ .n) φ h → Same-start (unpack (h .kept .n) (h .area)) v → Good (doing-now σ (within (tries (σ .family) (σ .n) a v))) (attempt h a)
+  -- at rest
+  tries-good : (ρ : Resting) (φ : Phase) → Allowed h a → At (σ .family) (σ .n) φ h
+      → Same-start (has-history ρ) (unpack (h .kept .n) (h .area)) (vectors-of ρ)
+      → Good (doing-now σ (within (tries (σ .family) (σ .n) a (vectors-of ρ)))) (attempt h a)
   unfolding doing-now Does tries going-on
-  tries-good v φ p at same =
-      let m = in-one-piece h a in
-      let m′ = attempt-step (family-of (h .kept .family)) (h .kept .n) a v in
-      let g = goes h a p m m′ 0 h (attempt h a) (attempt-follows h a p) (attempt-alike (family-of (h .kept .family)) (h .kept .n) a (unpack (h .kept .n) (h .area)) v same) in
+  tries-good ρ φ p at same =
+      let v = vectors-of ρ in
+      let F = family-of (h .kept .family) in
+      let alike = attempt-alike (has-history ρ) F (h .kept .n) a (unpack (h .kept .n) (h .area)) v same in
+      let g = goes h a p (has-history ρ) (kept-history ρ) (in-one-piece h a) (attempt-step F (h .kept .n) a v) 0 h (attempt h a) (attempt-follows h a p) alike in
       subst (λ (f : ℕ). Good (record { family = f; n = σ .n; doing = within (tries f (σ .n) a v); counts = σ .counts }) (attempt h a)) (at .family-is)
       (subst (λ (n : ℕ). Good (record { family = h .kept .family; n = n; doing = within (tries (h .kept .family) n a v); counts = σ .counts }) (attempt h a)) (at .n-is)
       (record { shown-is = g .shown-is; counts-are = ap (λ (x : Called). x .held .counters) (attempt-is h a p) ∙ cs; does = g .shows }))
@@ -70,9 +79,11 @@ module _ (h : Held) (σ : Session) (cs : h .counters ≡ σ .counts) (a : Argume
     where
       go : Allowed h a → (δ : Doing) → Does (σ .family) (σ .n) δ h → Good (session-after (doing-now σ δ) (Attempt a)) (attempt h a)
       go p none e = absurd (differ (sym (ap may-attempt e) ∙ p .phase-allows))
-      go p (within (done (ready-with v))) e = tries-good v P.Ready p (e .0) (e .1)
+      go p (within (done (ready-with v))) e = tries-good (ready-with v) P.Ready p (e .0) (e .1)
       go p (within (done (tried o))) e =
-          tries-good (o .vectors) P.Finished p (e .0) (record { state-same = ap (λ (w : Vectors). w state) (e .1); first-same = ap (λ (w : Vectors). w first-derivative) (e .1); eigenvector-same = ap (λ (w : Vectors). w eigenvector) (e .1) })
+          let same = e .1 in
+          tries-good (tried o) P.Finished p (e .0)
+          (record { state-same = same state refl; first-same = same first-derivative refl; eigenvector-same = same eigenvector refl; older-same = same older-state })
       go p (within (stopped i v)) e = absurd (differ (sym (ap may-attempt e) ∙ p .phase-allows))
       go p (within (ask why t q k)) e = absurd (differ (sym (waits-alone (h .kept) (e .1) .0) ∙ p .phase-allows))
 
@@ -83,4 +94,4 @@ attempt-area h a q =
     let v = unpack (h .kept .n) (h .area) in
     ap (λ (x : Called). length (x .held .area)) (attempt-is h a p)
     ∙ pack-length (h .kept .family) (h .kept .n) _ (h .area)
-    (long-perturbed (h .kept .n) (perturbation-of v) (with-direction (h .kept .n) v) (long-direction (h .kept .n) v (long-area (h .kept .family) (h .kept .n) (h .area) (p .area-whole)))) (p .area-whole)
+    (long-perturbed (its-family (h .kept)) (h .kept .n) (perturbation-of v) (with-direction (h .kept .n) v) (long-direction (its-family (h .kept)) (h .kept .n) v (long-area (h .kept .family) (h .kept .n) (h .area) (p .area-whole)))) (p .area-whole)

@@ -8,7 +8,7 @@ use lib.ListN.{length, length-replicate, replicate}
 use lib.Ieee.{Float}
 use lib.Ieee.Scale.{finite}
 use Rattle.ieee.specs.Double.{nought}
-use Rattle.family.specs.Family.{known}
+use Rattle.family.specs.Family.{known, family-of}
 use Rattle.workspace.specs.Vectors.{Vectors, _with_≔_, unpack, all-finite, first-derivative, eigenvector, state}
 use Rattle.workspace.proofs.Areas.{Long, unpack-pack, long-with}
 use Rattle.driver.specs.declared.Phase.the-variants as P
@@ -16,8 +16,9 @@ use Rattle.driver.specs.Calls.{Held, in-phase, at-time, first-at, take-first, r
 use Rattle.driver.specs.Calls.{start, Start, taken, first-failing, decide, guarded, start-tests}
 use Rattle.driver.proofs.Ladder.{each-passes}
 use Rattle.session.specs.Attempt.{_>>=_, evaluate}
-use Rattle.session.specs.Session.{evaluates, answer-shown, initialize, Session, session-after, doing-shown}
+use Rattle.session.specs.Session.{evaluates, answer-shown, has-history, initialize, Session, session-after, doing-shown}
 use Rattle.ieee.proofs.Logic.{and-left, and-right}
+use Rattle.session.proofs.Truth.{differ}
 use Rattle.session.proofs.Lengths.{long-area, pack-length}
 use Rattle.session.proofs.Shows.{Does, Good, once}
 use Rattle.session.proofs.Guards.{taken-exactly, taken-passes}
@@ -46,21 +47,21 @@ module _ (h : Held) (f n : ℕ) (y : List Float) (t : Float) (q : taken (start h
   v : Vectors
   v = unpack n (h .area) with state ≔ y with eigenvector ≔ replicate n nought
 
-  long-v : Long n v
+  long-v : Long (family-of f) n v
   unfolding v as-long
   long-v =
       let long = eqb-true (length y) n (and-right (whole-area f n (h .area)) (as-long n y) (passed .lengths-good)) in
-      long-with n (unpack n (h .area) with state ≔ y) eigenvector (replicate n nought)
-      (long-with n (unpack n (h .area)) state y (long-area f n (h .area) whole) long) (length-replicate n nought)
+      long-with (family-of f) n (unpack n (h .area) with state ≔ y) eigenvector (replicate n nought)
+      (long-with (family-of f) n (unpack n (h .area)) state y (long-area f n (h .area) whole) long) (length-replicate n nought)
 
   pub start-good : (σ : Session) → h .counters ≡ σ .counts → Good (session-after σ (Start f n y t)) (start h f n y t)
-  unfolding start start-tests guarded decide first-failing session-after initialize Does first-at at-time pending in-range awaiting finishes answer-shown doing-shown evaluate _>>=_ replied take-first in-phase v
+  unfolding start start-tests guarded decide first-failing session-after initialize has-history Does first-at at-time pending in-range awaiting finishes answer-shown doing-shown evaluate _>>=_ replied take-first in-phase v
   start-good σ cs = rw (passed .family-known, passed .n-sized, passed .lengths-good, passed .state-finite, passed .time-finite) (record {
-    shown-is = ap (λ (w : Vectors). evaluates t (w state)) (unpack-pack n v long-v);
+    shown-is = ap (λ (w : Vectors). evaluates t (w state)) (unpack-pack (family-of f) n v long-v);
     counts-are = cs;
     does = once (first-at P.First f n t (h .kept)) (h .counters) v (passed .family-known) (passed .n-sized) long-v
         ((λ b. replicate n nought) with state ≔ y) t y (λ d. (λ b. replicate n nought) with state ≔ y with first-derivative ≔ d) (λ d. v with first-derivative ≔ d)
-        refl refl (λ d hd. long-with n v first-derivative d long-v hd) (λ d. refl) (λ d. record { state-same = refl; first-same = refl; eigenvector-same = refl });
+        refl refl (λ d hd. long-with (family-of f) n v first-derivative d long-v hd) (λ d. refl) (λ d. record { state-same = refl; first-same = refl; eigenvector-same = refl; older-same = λ e. absurd (differ e) });
   })
 
   pub start-area : length (start h f n y t .held .area) ≡ length (h .area)

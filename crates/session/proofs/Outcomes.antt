@@ -32,7 +32,7 @@ use Rattle.driver.specs.Calls.{Call, Start, Attempt, Reply, Accept, Accept-with
 use Rattle.driver.proofs.Ladder.{Passing, each-passes, by-tests}
 use Rattle.ieee.proofs.Logic.{and-left, and-right}
 use Rattle.session.proofs.Needs.{need-is}
-use Rattle.session.proofs.Lengths.{long-area}
+use Rattle.session.proofs.Lengths.{its-family, long-area}
 use Rattle.session.proofs.Guards.{low, low-fails, not-taken}
 
 abbrev pub leaving : Answer → Record → Counters → List Float → Called
@@ -89,7 +89,7 @@ module _ (h : Held) where
         → Outcome (Reply d) (leaving (Evaluate t b) (at-stage s (j + 1) (carried-on (r .family) s j (r .staging .recurrence)) r) (one-more c) area)
     asks-candidate : {d : List Float} (t : Float) (b : ℕ) (area : List Float) → r .phase ≡ P.Stage → j ≡ s
         → Outcome (Reply d) (leaving (Evaluate t b) (in-phase P.Candidate r) (one-more c) area)
-    finishes : {d : List Float} (w : Vectors) → r .phase ≡ P.Candidate → Long (r .n) w
+    finishes : {d : List Float} (w : Vectors) → r .phase ≡ P.Candidate → Long (its-family r) (r .n) w
         → Outcome (Reply d) (leaving (Finished (norm-after r w)) (in-phase P.Finished r) (one-more-each c) (pack w))
     accepts : (area : List Float) → Outcome Accept (leaving Ready (in-phase P.Ready r) c area)
     calls-back : {y : List Float} {t : Float} (area : List Float)
@@ -150,7 +150,7 @@ module _ (h : Held) where
         go true e = goes-on _ _ _ p (ltb-true j s e)
         go false e = on-last-stage (with-candidate w) p (let l = ltb-false j s e in omega (arith, to))
 
-    by-phase : (φ : Phase) (v : Vectors) → r .phase ≡ φ → pending φ && in-range φ r ≡ true → Long (r .n) v → length d ≡ r .n
+    by-phase : (φ : Phase) (v : Vectors) → r .phase ≡ φ → pending φ && in-range φ r ≡ true → Long (its-family r) (r .n) v → length d ≡ r .n
         → Comes (settled c (replied φ r v d))
     unfolding replied pending in-range take-first take-callback take-pass take-candidate settled going-on counted
     by-phase P.Empty v p good lv ld = readies _
@@ -163,7 +163,7 @@ module _ (h : Held) where
         (leb-true (i .pass) 12 (and-right (leb 1 (i .pass)) (leb (i .pass) 12) good))
     by-phase P.Stage v p good lv ld = on-stage v p good
     by-phase P.Candidate v p good lv ld = let f = family-of (r .family) in
-        finishes (with-last f (r .n) (r .arguments) v d) p (long-last (r .n) f (r .arguments) v d lv ld)
+        finishes (with-last f (r .n) (r .arguments) v d) p (long-last (its-family r) (r .n) f (r .arguments) v d lv ld)
     by-phase P.Finished v p good lv ld = readies _
     by-phase P.Callback v p good lv ld = readies _
 

@@ -10,7 +10,7 @@ use Rattle.driver.specs.Calls.{first-failing, decide, guarded, accept-tests}
 use Rattle.session.specs.Attempt.{Finished-attempt}
 use Rattle.session.specs.Claim.{Allowed, Finishes}
 use Rattle.workspace.proofs.Areas.{unpack-pack}
-use Rattle.session.proofs.Lengths.{whole-pack}
+use Rattle.session.proofs.Lengths.{its-family, whole-pack}
 
 module _ (h : Held) (a : Arguments) (p : Allowed h a) (o : Finished-attempt) (replies : ℕ) (x : Called) (f : Finishes h a o replies x) where
   family-known : known (x .held .kept .family) ≡ true
@@ -24,7 +24,7 @@ module _ (h : Held) (a : Arguments) (p : Allowed h a) (o : Finished-attempt) (re
 
   -- the area holds the vectors of the finished attempt
   pub vectors-are : unpack (x .held .kept .n) (x .held .area) ≡ o .vectors
-  vectors-are = rw (f .n-is, f .area-is) (unpack-pack (h .kept .n) (o .vectors) (f .vectors-long))
+  vectors-are = rw (f .n-is, f .area-is) (unpack-pack (its-family (h .kept)) (h .kept .n) (o .vectors) (f .vectors-long))
 
   -- the next attempt is allowed, from the same state and first derivative (`state-stands`, `first-stands`)
   pub again : (a′ : Arguments) → good-times a′ ≡ true → good-tolerances a′ ≡ true → Allowed (x .held) a′

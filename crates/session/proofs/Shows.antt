@@ -8,7 +8,7 @@ use lib.ListN.{length}
 use lib.Ieee.{Float}
 use Rattle.family.specs.Family.{known}
 use Rattle.workspace.specs.declared.Arguments.{Arguments}
-use Rattle.workspace.specs.Vectors.{Vectors, unpack, pack, all-finite, first-derivative, state}
+use Rattle.workspace.specs.Vectors.{Vectors, unpack, pack, all-finite, first-derivative, state, candidate}
 use Rattle.workspace.proofs.Areas.{Long, unpack-pack}
 use Rattle.driver.specs.declared.Phase.{Phase}
 use Rattle.driver.specs.declared.Phase.the-variants as P
@@ -19,9 +19,9 @@ use Rattle.driver.specs.declared.Answer.the-variants.{Evaluate, Finished, Ready
 use Rattle.driver.specs.Calls.{Held, Called, step-to, in-phase, replied, sized, whole-area, awaiting, finishes, going-on, counted, spoiled, settled, reply}
 use Rattle.session.specs.Attempt.{for-another, closes, Asking, done, stopped, ask, _>>=_, evaluate, Finished-attempt, Evaluated, fixed-at}
 use Rattle.session.specs.Claim.{called-for, Allowed, room-in}
-use Rattle.session.specs.Alike.{Alike, Same, Same-start}
-use Rattle.session.specs.Session.{Shown, evaluates, ready-at, stops, nothing, Seen, answer-shown, call-seen, Resting, ready-with, tried, Doing, none, within, Session, finished-by, counts-on, doing-shown, session-seen}
-use Rattle.session.proofs.Lengths.{whole-pack}
+use Rattle.session.specs.Alike.{Alike, Same-vectors, Same-start, Same-attempt}
+use Rattle.session.specs.Session.{Shown, evaluates, finished-with, ready-at, stops, nothing, Seen, answer-shown, call-seen, Resting, ready-with, tried, has-history, Doing, none, within, Session, finished-by, counts-on, doing-shown, session-seen}
+use Rattle.session.proofs.Lengths.{its-family, whole-pack}
 use Rattle.session.proofs.Follows.{some-empty, Follows}
 use Rattle.session.proofs.Asked.{reply-is}
 use Rattle.session.proofs.Room.{pends}
@@ -36,8 +36,8 @@ pub record At (f n : ℕ) (φ : Phase) (h : Held) : Type 0 where
 
 -- what is held stands where the computation stands, and goes on as it does on every reply of n doubles that finds room
 unfoldable pub Shows : ℕ → ℕ → Asking Resting → Held → Type 0
-Shows f n (done (ready-with v)) h = At f n P.Ready h × Same-start (unpack (h .kept .n) (h .area)) v
-Shows f n (done (tried o)) h = At f n P.Finished h × (unpack (h .kept .n) (h .area) ≡ o .vectors)
+Shows f n (done (ready-with v)) h = At f n P.Ready h × Same-start (has-history (ready-with v)) (unpack (h .kept .n) (h .area)) v
+Shows f n (done (tried o)) h = At f n P.Finished h × Same-vectors (has-history (tried o)) (unpack (h .kept .n) (h .area)) (o .vectors)
 Shows f n (stopped i v) h = h .kept .phase ≡ P.Empty
 Shows f n (ask why t p k) h =
     At f n (h .kept .phase) h × (awaiting (h .kept) ≡ true) × (finishes (h .kept .phase) ≡ closes why)
@@ -64,12 +64,12 @@ same-counters c e p q = ap₂ {C = Counters} (λ (x y : ℕ). record { evaluatio
 
 -- ---- one evaluation: of the kept state, at the start and after a callback
 
-module _ (r : Record) (c : Counters) (v : Vectors) (hk : known (r .family) ≡ true) (hs : sized (r .n) ≡ true) (hv : Long (r .n) v) where
+module _ (r : Record) (c : Counters) (v : Vectors) (hk : known (r .family) ≡ true) (hs : sized (r .n) ≡ true) (hv : Long (its-family r) (r .n) v) where
   pub once : (u : Vectors) (t : Float) (y : List Float) (from to : List Float → Vectors)
       → awaiting r ≡ true → finishes (r .phase) ≡ false
-      → ((d : List Float) → length d ≡ r .n → Long (r .n) (to d))
+      → ((d : List Float) → length d ≡ r .n → Long (its-family r) (r .n) (to d))
       → ((d : List Float) → replied (r .phase) r v d ≡ step-to Ready (in-phase P.Ready r) (to d))
-      → ((d : List Float) → Same-start (to d) (from d))
+      → ((d : List Float) → Same-start (has-history (ready-with (from d))) (to d) (from d))
       → Shows (r .family) (r .n) (evaluate for-another u t y >>= λ d. done (ready-with (from d))) (record { kept = r; counters = c; area = pack v })
   unfolding Shows evaluate _>>=_ answer-shown doing-shown finished-by counts-on settled going-on counted spoiled in-phase closes fixed-at
   once u t y from to ha hc long will same = (
@@ -90,12 +90,12 @@ module _ (r : Record) (c : Counters) (v : Vectors) (hk : known (r .family) ≡ t
       go : (d : List Float) → length d ≡ r .n → (b : Bool) →
           let x = cond b (settled c (replied (r .phase) r v d)) (spoiled was) in
           (answer-shown (x .answer) (x .held) ≡ doing-shown (within (m d b))) × (x .held .counters ≡ counts-on (within (m d b)) c) × Shows (r .family) (r .n) (m d b) (x .held)
-      go d hd true = let back = unpack-pack (r .n) (to d) (long d hd) in rw (will d) (
+      go d hd true = let back = unpack-pack (its-family r) (r .n) (to d) (long d hd) in rw (will d) (
         ap₂ ready-at (ap (λ (w : Vectors). w state) back ∙ same d .state-same) (ap (λ (w : Vectors). w first-derivative) back ∙ same d .first-same),
         same-counters _ _ refl (omega arith),
         (
           record { family-is = refl; n-is = refl; phase-is = refl; family-known = hk; n-sized = hs; area-whole = whole-pack (r .family) (r .n) (to d) (long d hd) },
-          subst (λ (w : Vectors). Same-start w (from d)) (sym back) (same d),
+          subst (λ (w : Vectors). Same-start (has-history (ready-with (from d))) w (from d)) (sym back) (same d),
         ),
       )
       go d hd false = (refl, same-counters _ _ refl (omega arith), refl)
@@ -128,11 +128,13 @@ module _ (h : Held) (a : Arguments) (ok : Allowed h a) where
     counts-are : (c : Counters) → Before e c → x .held .counters ≡ counts-on (within m) c
     pub shows : Shows (h .kept .family) (h .kept .n) m (x .held)
 
-  -- calls that follow one attempt show a session's that is alike
-  pub goes : (m m′ : Asking Finished-attempt) (e : ℕ) (b : Held) (x : Called) → Follows h a e b m x → Alike Same m m′ → Goes e (on m′) x
+  -- calls that follow one attempt show a session's that is alike, with the history that it leaves
+  pub goes : (history : Bool) → ((o : Finished-attempt) → has-history (tried o) ≡ history) → (m m′ : Asking Finished-attempt) (e : ℕ) (b : Held) (x : Called)
+      → Follows h a e b m x → Alike (Same-attempt history) m m′ → Goes e (on m′) x
   unfolding Follows Shows _>>=_ answer-shown doing-shown finished-by counts-on in-phase
-  goes (done o) (done o′) e b x f s = subst (λ (z : Finished-attempt). Goes e (done (tried z)) x) s (record {
-    shown-is = rw (f .answer-is, f .stages-are, f .passes-are, f .radius-is, f .n-is, f .area-is, unpack-pack (h .kept .n) (o .vectors) (f .vectors-long));
+  goes η left (done o) (done o′) e b x f s = record {
+    shown-is = rw (f .answer-is, f .stages-are, f .passes-are, f .radius-is, f .n-is, f .area-is, back, s .norm-same, s .stages-same, s .passes-same, s .radius-same)
+        (ap (finished-with (o′ .norm) (o′ .stages) (o′ .passes) (o′ .scaled-radius)) (s .vectors-same candidate refl));
     counts-are = λ c w. same-counters (x .held .counters) _ (let q = f .evaluations-are in let q′ = w .evaluations-were in omega arith) (let q = f .attempts-are in let q′ = w .attempts-were in omega arith);
     shows = (
       record {
@@ -143,21 +145,24 @@ module _ (h : Held) (a : Arguments) (ok : Allowed h a) where
         n-sized = rw (f .n-is) (ok .n-sized);
         area-whole = rw (f .family-is, f .n-is, f .area-is) (whole-pack (h .kept .family) (h .kept .n) (o .vectors) (f .vectors-long));
       },
-      rw (f .n-is, f .area-is) (unpack-pack (h .kept .n) (o .vectors) (f .vectors-long)),
+      rw (f .n-is, f .area-is, back, left o′) (s .vectors-same),
     );
-  })
-  goes (done o) (stopped j w) e b x f s = absurd s
-  goes (done o) (ask why′ u q l) e b x f s = absurd s
-  goes (stopped i v) (done o′) e b x f s = absurd s
-  goes (stopped i v) (stopped j w) e b x f s = record {
-    shown-is = rw (f .answer-is, f .n-is, f .area-is, unpack-pack (h .kept .n) v (f .vectors-long)) (ap₂ stops (s .number-same) (s .vectors-same));
+  }
+    where
+      back : unpack (h .kept .n) (pack (o .vectors)) ≡ o .vectors
+      back = unpack-pack (its-family (h .kept)) (h .kept .n) (o .vectors) (f .vectors-long)
+  goes η left (done o) (stopped j w) e b x f s = absurd s
+  goes η left (done o) (ask why′ u q l) e b x f s = absurd s
+  goes η left (stopped i v) (done o′) e b x f s = absurd s
+  goes η left (stopped i v) (stopped j w) e b x f s = record {
+    shown-is = rw (f .answer-is, f .n-is, f .area-is, unpack-pack (its-family (h .kept)) (h .kept .n) v (f .vectors-long)) (ap₂ stops (s .number-same) (s .vectors-same));
     counts-are = λ c w. same-counters (x .held .counters) _ (let q = f .evaluations-are in let q′ = w .evaluations-were in omega arith) (let q = f .attempts-are in let q′ = w .attempts-were in omega arith);
     shows = ap (λ (r : Record). r .phase) (f .record-is);
   }
-  goes (stopped i v) (ask why′ u q l) e b x f s = absurd s
-  goes (ask why t p k) (done o′) e b x f s = absurd s
-  goes (ask why t p k) (stopped j w) e b x f s = absurd s
-  goes (ask why t p k) (ask why′ u q l) e b x f s = record {
+  goes η left (stopped i v) (ask why′ u q l) e b x f s = absurd s
+  goes η left (ask why t p k) (done o′) e b x f s = absurd s
+  goes η left (ask why t p k) (stopped j w) e b x f s = absurd s
+  goes η left (ask why t p k) (ask why′ u q l) e b x f s = record {
     shown-is = tell t p (x .answer) (x .held) (f .1) ∙ ap₂ evaluates (s .1) (s .2);
     counts-are = λ c w. same-counters (x .held .counters) _ (let q = f .0 .evaluations-are in let q′ = w .evaluations-were in omega arith) (let q = f .0 .attempts-are in let q′ = w .attempts-were in omega arith);
     shows = (
@@ -172,7 +177,7 @@ module _ (h : Held) (a : Arguments) (ok : Allowed h a) where
       f .0 .pending,
       sym (f .3 .purpose-is) ∙ ap closes (s .0),
       λ d hd hr.
-          let g = goes (k d) (l d) (suc e) (x .held) (reply (x .held) d) (f .2 d hd hr) (s .3 d) in
+          let g = goes η left (k d) (l d) (suc e) (x .held) (reply (x .held) d) (f .2 d hd hr) (s .3 d) in
           (g .shown-is, g .counts-are (x .held .counters) (record { evaluations-were = (let q = f .0 .evaluations-are in omega arith); attempts-were = f .0 .attempts-are }), g .shows),
     );
   }

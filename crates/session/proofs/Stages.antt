@@ -12,7 +12,7 @@ use Rattle.family.specs.Family.{Family, known, family-of, permitted}
 use Rattle.coefficients.specs.declared.Recurrence.{Recurrence}
 use Rattle.coefficients.specs.Rows.{coefficients, next}
 use Rattle.workspace.specs.declared.Arguments.{Arguments}
-use Rattle.workspace.specs.Vectors.{Vector, Vectors, _with_≔_, number, each, all-finite, first-derivative, last-derivative, derivative, previous-one, state, candidate}
+use Rattle.workspace.specs.Vectors.{Vector, Vectors, _with_≔_, number, each, all-finite, first-derivative, last-derivative, derivative, previous-one, state, candidate, older-state}
 use Rattle.workspace.specs.Kernel.{with-row, exchanged, with-candidate, with-last, error}
 use Rattle.workspace.proofs.Areas.{long-last}
 use Rattle.driver.specs.declared.Phase.the-variants as P
@@ -78,9 +78,10 @@ module _ (h : Held) (a : Arguments) (hk : known (h .kept .family) ≡ true) (hs 
             (λ d hd fin. record {
               answer-is = refl;
               area-is = refl;
-              vectors-long = long-last (h .kept .n) F a (with-candidate w) d (intact-candidate h w hw .long) hd;
+              vectors-long = long-last F (h .kept .n) F a (with-candidate w) d (intact-candidate h w hw .long) hd;
               state-stands = last-stands d state refl refl ∙ intact-candidate h w hw .state-is;
               first-stands = last-stands d first-derivative refl refl ∙ intact-candidate h w hw .first-is;
+              older-stands = last-stands d older-state refl refl ∙ intact-candidate h w hw .older-is;
               candidate-finite = ap all-finite (last-stands d candidate refl refl) ∙ finite;
               last-finite = ap all-finite (last-taken d) ∙ fin;
               phase-is = refl;

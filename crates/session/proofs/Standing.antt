@@ -12,7 +12,8 @@ use Rattle.driver.specs.declared.Record.{Record}
 use Rattle.driver.specs.declared.Counters.{Counters}
 use Rattle.driver.specs.Calls.{Held, sized, whole-area, as-long, pending, in-range, awaiting, may-attempt, may-accept, room, has-room}
 use Rattle.session.specs.Attempt.{done, stopped, ask, Finished-attempt}
-use Rattle.session.specs.Session.{ready-with, tried, Doing, none, within, Session, rests, has-tried, waits, waits-with-room}
+use Rattle.session.specs.Alike.{Same-vectors}
+use Rattle.session.specs.Session.{ready-with, tried, has-history, Doing, none, within, Session, rests, has-tried, waits, waits-with-room}
 use Rattle.ieee.proofs.Logic.{and-left}
 use Rattle.session.proofs.Truth.{differ}
 use Rattle.session.proofs.Shows.{At, Shows, Does}
@@ -102,7 +103,8 @@ room-alike h σ cs (within (ask why t p k)) e =
 
 -- an attempt is finished
 pub data Finished-at (h : Held) (f n : ℕ) : Doing → Type 0 where
-  finished-at : (o : Finished-attempt) → At f n P.Finished h → unpack (h .kept .n) (h .area) ≡ o .vectors → Finished-at h f n (within (done (tried o)))
+  finished-at : (o : Finished-attempt) → At f n P.Finished h → Same-vectors (has-history (tried o)) (unpack (h .kept .n) (h .area)) (o .vectors)
+      → Finished-at h f n (within (done (tried o)))
 
 pub rested : (h : Held) (f n : ℕ) (δ : Doing) → Does f n δ h → may-accept (h .kept .phase) ≡ true → Finished-at h f n δ
 unfolding Does Shows may-accept

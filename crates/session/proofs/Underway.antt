@@ -23,6 +23,7 @@ use Rattle.driver.specs.Answers.{case-number}
 use Rattle.driver.specs.Calls.{Held, Called, in-phase, first-at, at-pass, with-radius, at-stage, pending, Call, Attempt, Reply, taken}
 use Rattle.session.specs.Concluded.{stages-of, passes-of, scaled-radius-of, is-start}
 use Rattle.session.proofs.Truth.{differ}
+use Rattle.session.proofs.Lengths.{its-family}
 use Rattle.session.proofs.Signs.{Plus, not-below, perturbation-plus, radius-plus, scaled-plus}
 use Rattle.session.proofs.Outcomes.{radius-after, carried-on, norm-after, Outcome, away, starts, attempts, spoils, readies}
 use Rattle.session.proofs.Outcomes.{iterates, begins, goes-on, asks-candidate, finishes, accepts, calls-back, abandons}
@@ -244,7 +245,7 @@ leaves-finished x c y (goes-on t b area p below) two = absurd (omega arith)
 leaves-finished x c y (asks-candidate t b area p at) two = absurd (omega arith)
 leaves-finished x c y (finishes w p long) two = record {
   phase-is = refl;
-  norm-is = ap (λ (v : Vectors). Finished (norm-after (x .kept) v)) (sym (unpack-pack (x .kept .n) w long));
+  norm-is = ap (λ (v : Vectors). Finished (norm-after (x .kept) v)) (sym (unpack-pack (its-family (x .kept)) (x .kept .n) w long));
 }
 leaves-finished x c y (accepts area) two = absurd (omega arith)
 leaves-finished x c y (calls-back area) two = absurd (omega arith)

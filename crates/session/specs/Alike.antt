@@ -1,10 +1,13 @@
--- Two computations alike: they ask for the same on the same replies, and end alike.
+-- Two computations alike: they ask for the same on the same replies, and end alike. Of the state before, the area's last vector, that says something only
+-- where there is a history, a state before that an attempt may read: without one that part of the area stands, whatever it holds, and nothing reads it.
 use Prim.Native.Nat.{ℕ}
 use mathlib.Core.Path.{_≡_}
+use mathlib.Core.Bool.{Bool, true, cond}
 use mathlib.Core.List.{List}
+use lib.Dec.{eqb}
 use lib.Ieee.{Float}
-use Rattle.workspace.specs.Vectors.{Vectors, first-derivative, eigenvector, state}
-use Rattle.session.specs.Attempt.{Asking, done, stopped, ask, fixed-at, End, reached, refused}
+use Rattle.workspace.specs.Vectors.{Vector, Vectors, number, first-derivative, eigenvector, state, older-state}
+use Rattle.session.specs.Attempt.{Asking, done, stopped, ask, Finished-attempt, fixed-at, End, reached, refused}
 
 -- stopped with the same number, and with 10 with the same vectors but for the last derivative
 pub record Same-stop (i : ℕ) (v : Vectors) (j : ℕ) (w : Vectors) : Type 0 where
@@ -23,19 +26,33 @@ Alike R (ask why t p k) (done y) = ⊥
 Alike R (ask why t p k) (stopped j w) = ⊥
 Alike R (ask why t p k) (ask why′ u q l) = (why ≡ why′) × (t ≡ u) × (p ≡ q) × ((d : List Float) → Alike R (k d) (l d))
 
--- and in the narrowest sense, where they are done with one and the same
-abbrev pub Same : {A : Type 0} → A → A → Type 0
-Same x y = x ≡ y
+-- ended alike in the sense of R, or refused alike
+abbrev pub Same-end : {A : Type 0} → (A → A → Type 0) → End A → End A → Type 0
+Same-end R (reached x) (reached y) = R x y
+Same-end R (reached x) (refused j w) = ⊥
+Same-end R (refused i v) (reached y) = ⊥
+Same-end R (refused i v) (refused j w) = Same-stop i v j w
 
--- the same finished attempt, or refused alike
-abbrev pub Same-end : {A : Type 0} → End A → End A → Type 0
-Same-end (reached x) (reached y) = x ≡ y
-Same-end (reached x) (refused j w) = ⊥
-Same-end (refused i v) (reached y) = ⊥
-Same-end (refused i v) (refused j w) = Same-stop i v j w
+-- ---- vectors alike, with or without a history
 
--- equal where an attempt reads before it writes: the kept state, its derivative and the eigenvector
-pub record Same-start (v w : Vectors) : Type 0 where
+-- every vector, but of the state before only where there is a history
+abbrev pub compared : Bool → Vector → Bool
+compared history b = cond (eqb (number b) (number older-state)) history true
+
+abbrev pub Same-vectors : Bool → Vectors → Vectors → Type 0
+Same-vectors history v w = (b : Vector) → compared history b ≡ true → v b ≡ w b
+
+-- equal where an attempt reads before it writes: the kept state, its derivative, the eigenvector, and with a history the state before
+pub record Same-start (history : Bool) (v w : Vectors) : Type 0 where
   pub state-same : v state ≡ w state
   pub first-same : v first-derivative ≡ w first-derivative
   pub eigenvector-same : v eigenvector ≡ w eigenvector
+  pub older-same : history ≡ true → v older-state ≡ w older-state
+
+-- the same finished attempt
+pub record Same-attempt (history : Bool) (x y : Finished-attempt) : Type 0 where
+  pub norm-same : x .norm ≡ y .norm
+  pub stages-same : x .stages ≡ y .stages
+  pub passes-same : x .passes ≡ y .passes
+  pub radius-same : x .scaled-radius ≡ y .scaled-radius
+  pub vectors-same : Same-vectors history (x .vectors) (y .vectors)

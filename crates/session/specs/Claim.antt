@@ -8,7 +8,7 @@ use lib.Ieee.{Float, lt}
 use Rattle.ieee.specs.Double.{nought}
 use Rattle.family.specs.Family.{known, family-of, stage-count, permitted}
 use Rattle.workspace.specs.declared.Arguments.{Arguments}
-use Rattle.workspace.specs.Vectors.{Vector, Vectors, named, unpack, pack, all-finite, state, candidate, first-derivative, last-derivative}
+use Rattle.workspace.specs.Vectors.{Vector, Vectors, width, named, unpack, pack, all-finite, state, candidate, older-state, first-derivative, last-derivative}
 use Rattle.driver.specs.declared.Phase.the-variants as P
 use Rattle.driver.specs.declared.Need.the-variants.{Met}
 use Rattle.driver.specs.declared.Answer.{Answer}
@@ -80,9 +80,10 @@ pub record Waits (h : Held) (replies : ℕ) (x : Called) : Type 0 where
 pub record Finishes (h : Held) (a : Arguments) (o : Finished-attempt) (replies : ℕ) (x : Called) : Type 0 where
   pub answer-is : x .answer ≡ Finished (o .norm)
   pub area-is : x .held .area ≡ pack (o .vectors)
-  pub vectors-long : (b : Vector) → length (o .vectors b) ≡ h .kept .n
+  pub vectors-long : (b : Vector) → length (o .vectors b) ≡ width (family-of (h .kept .family)) (h .kept .n) b
   pub state-stands : o .vectors state ≡ unpack (h .kept .n) (h .area) state
   pub first-stands : o .vectors first-derivative ≡ unpack (h .kept .n) (h .area) first-derivative
+  pub older-stands : o .vectors older-state ≡ unpack (h .kept .n) (h .area) older-state
   pub candidate-finite : all-finite (o .vectors candidate) ≡ true
   pub last-finite : all-finite (o .vectors last-derivative) ≡ true
   pub phase-is : x .held .kept .phase ≡ P.Finished
@@ -110,7 +111,7 @@ pub record Stops (h : Held) (b : Held) (i : ℕ) (v : Vectors) (replies : ℕ) (
   pub record-is : x .held .kept ≡ in-phase P.Empty (b .kept)
   pub family-is : x .held .kept .family ≡ h .kept .family
   pub n-is : x .held .kept .n ≡ h .kept .n
-  pub vectors-long : (c : Vector) → length (v c) ≡ h .kept .n
+  pub vectors-long : (c : Vector) → length (v c) ≡ width (family-of (h .kept .family)) (h .kept .n) c
   pub evaluations-are : x .held .counters .evaluations ≡ h .counters .evaluations + replies
   pub attempts-are : x .held .counters .«finished_attempts» ≡ h .counters .«finished_attempts»
 

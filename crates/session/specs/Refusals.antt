@@ -9,7 +9,7 @@ use lib.Ieee.{Float}
 use lib.Ieee.Scale.{finite}
 use Rattle.family.specs.Family.{known, family-of}
 use Rattle.coefficients.specs.Rows.{coefficients}
-use Rattle.workspace.specs.Vectors.{Vectors, unpack, all-finite, last-derivative, next-stage}
+use Rattle.workspace.specs.Vectors.{Vectors, unpack, all-finite, last-derivative, next-stage, older-state}
 use Rattle.workspace.specs.Kernel.{turned, radius-of, ended, scaled, with-row}
 use Rattle.driver.specs.declared.Phase.{Phase}
 use Rattle.driver.specs.declared.Phase.the-variants as P
@@ -104,8 +104,8 @@ pub data _∈_ (k : ℕ) : List ℕ → Type 0 where
   here : {ks : List ℕ} → k ∈ (k ∷ ks)
   later : {i : ℕ} {ks : List ℕ} → k ∈ ks → k ∈ (i ∷ ks)
 
--- ---- what a call that is turned away with i leaves, by the kind of i: everything; or the reply is counted, the phase is empty, the rest of the record and the
--- last derivative stand, and on 9 the whole area
+-- ---- what a call that is turned away with i leaves, by the kind of i: everything; or the reply is counted, the phase is empty, the rest of the record, the last
+-- derivative and the state before stand, and on 9 the whole area
 
 pub record Left (h : Held) (i : ℕ) (x : Held) : Type 0 where
   pub kind : (i ∈ standing-numbers) ⊎ (i ∈ ending-numbers)
@@ -114,4 +114,5 @@ pub record Left (h : Held) (i : ℕ) (x : Held) : Type 0 where
   pub evaluations-are : i ∈ ending-numbers → x .counters .evaluations ≡ h .counters .evaluations + 1
   pub attempts-are : i ∈ ending-numbers → x .counters .«finished_attempts» ≡ h .counters .«finished_attempts»
   pub last-stands : i ∈ ending-numbers → unpack (h .kept .n) (x .area) last-derivative ≡ unpack (h .kept .n) (h .area) last-derivative
+  pub older-stands : i ∈ ending-numbers → unpack (h .kept .n) (x .area) older-state ≡ unpack (h .kept .n) (h .area) older-state
   pub area-stands : i ≡ 9 → x .area ≡ h .area

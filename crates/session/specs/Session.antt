@@ -79,6 +79,11 @@ unfoldable pub vectors-of : Resting → Vectors
 vectors-of (ready-with v) = v
 vectors-of (tried o) = o .vectors
 
+-- whether their state before is a history that an attempt may read (no family reads one yet)
+unfoldable pub has-history : Resting → Bool
+has-history (ready-with v) = false
+has-history (tried o) = false
+
 -- `initialize` of a new kernel, whose vectors are zeros
 unfoldable pub initialize : ℕ → List Float → Float → Asking Resting
 initialize n y t = do

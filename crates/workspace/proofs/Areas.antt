@@ -1,12 +1,13 @@
 -- The vectors and the area are got back from each other, and every step of the kernel keeps the vectors' length.
 use mathlib.Core.Path.{_≡_, refl, sym, ap, _∙_, fun-ext}
 use mathlib.Core.Bool.{Bool, true, false, cond}
-use mathlib.Core.List.{List, [], _∷_, _++_}
+use mathlib.Core.List.{List, [], _∷_, _++_, append-nil}
 use Prim.Native.Nat.{ℕ, zero, suc, _+_, _-_, _*_, _≤_, _<_}
 use native.Mathlib.Nat.{mul-le-mul-right, suc-mul, zero-mul, not-suc-le-zero, le-of-suc-le-suc}
 use native.Mathlib.Omega.{arith}
 use lib.Dec.{eqb}
-use lib.ListN.{length, take, drop, getD, replicate, length-append, length-drop, length-replicate}
+use borrow.Author.Tests.{eqb-true}
+use lib.ListN.{length, take, drop, getD, replicate, length-append, length-take, length-drop, length-replicate}
 use lib.Seq.{take-append-seam, drop-append-add, drop-drop, take-add, take-all, length-take-le}
 use lib.Ieee.{Float, nan, le}
 use Rattle.ieee.specs.Double.{one, min-positive}
@@ -14,20 +15,22 @@ use Rattle.family.specs.declared.Setting.{Setting}
 use Rattle.family.specs.declared.RowForm.{RowForm}
 use Rattle.family.specs.declared.CandidateForm.{CandidateForm}
 use Rattle.family.specs.declared.CandidateForm.the-variants.{LastStage}
-use Rattle.family.specs.Family.{Family, RKC, RKL1, RKL2, RKG1, RKG2, facts-of, kind}
+use Rattle.family.specs.Family.{Family, keeps-older, facts-of, kind}
 use Rattle.coefficients.specs.declared.Recurrence.{Recurrence}
 use Rattle.coefficients.specs.declared.Coefficients.{Coefficients}
 use Rattle.workspace.specs.declared.Arguments.{Arguments}
-use Rattle.workspace.specs.Vectors.{Vector, Vectors, _with_≔_, number, named, vector-count, unpack, Becomes, pack, join, in-order, tabulate, each, vector-norm, first-derivative, last-derivative, derivative, previous-two, previous-one, next-stage, eigenvector, perturbed-state, perturbed-derivative, state, candidate}
+use Rattle.workspace.specs.Vectors.{Vector, Vectors, _with_≔_, number, named, vector-count, width, unpack, Becomes, pack, join, in-order, tabulate, each}
+use Rattle.workspace.specs.Vectors.{vector-norm, first-derivative, last-derivative, derivative, previous-two, previous-one, next-stage, eigenvector}
+use Rattle.workspace.specs.Vectors.{perturbed-state, perturbed-derivative, state, candidate, older-state}
 use Rattle.workspace.specs.Kernel.{with-direction, perturbed-by, perturbed, turned, first-stage, with-row-in, entry-in, exchanged, candidate-in, with-candidate, with-last, error}
 
--- every vector is n long
-abbrev pub Long : ℕ → Vectors → Type 0
-Long n v = (b : Vector) → length (v b) ≡ n
+-- every vector is as long as it is in the family's area
+abbrev pub Long : Family → ℕ → Vectors → Type 0
+Long f n v = (b : Vector) → length (v b) ≡ width f n b
 
 -- ---- numbers and names
 
-pub number-below : (b : Vector) → number b < 11
+pub number-below : (b : Vector) → number b < 12
 number-below first-derivative = omega arith
 number-below last-derivative = omega arith
 number-below derivative = omega arith
@@ -39,8 +42,9 @@ number-below perturbed-state = omega arith
 number-below perturbed-derivative = omega arith
 number-below state = omega arith
 number-below candidate = omega arith
+number-below older-state = omega arith
 
-pub number-named : (k : ℕ) → k < 11 → number (named k) ≡ k
+pub number-named : (k : ℕ) → k < 12 → number (named k) ≡ k
 number-named zero h = refl
 number-named (suc zero) h = refl
 number-named (suc (suc zero)) h = refl
@@ -52,7 +56,8 @@ number-named (suc (suc (suc (suc (suc (suc (suc zero))))))) h = refl
 number-named (suc (suc (suc (suc (suc (suc (suc (suc zero)))))))) h = refl
 number-named (suc (suc (suc (suc (suc (suc (suc (suc (suc zero))))))))) h = refl
 number-named (suc (suc (suc (suc (suc (suc (suc (suc (suc (suc zero)))))))))) h = refl
-number-named (suc (suc (suc (suc (suc (suc (suc (suc (suc (suc (suc k))))))))))) h = absurd (omega (arith, h))
+number-named (suc (suc (suc (suc (suc (suc (suc (suc (suc (suc (suc zero))))))))))) h = refl
+number-named (suc (suc (suc (suc (suc (suc (suc (suc (suc (suc (suc (suc k)))))))))))) h = absurd (omega (arith, h))
 
 pub named-number : (b : Vector) → named (number b) ≡ b
 named-number first-derivative = refl
@@ -66,6 +71,7 @@ named-number perturbed-state = refl
 named-number perturbed-derivative = refl
 named-number state = refl
 named-number candidate = refl
+named-number older-state = refl
 
 -- vector k lies within the first m of n doubles each
 pub room : (m k n : ℕ) → k < m → k * n + n ≤ m * n
@@ -77,18 +83,48 @@ pub long-at : (n : ℕ) (area : List Float) (b : Vector) → number b * n + n �
 unfolding unpack
 long-at n area b h = length-take-le n (drop (number b * n) area) (omega (arith, length-drop (number b * n) area))
 
--- an area of eleven vectors, or more, has them all whole
-pub long-unpack : (n : ℕ) (area : List Float) → 11 * n ≤ length area → Long n (unpack n area)
-long-unpack n area h b = long-at n area b (omega (arith, room 11 (number b) n (number-below b)))
-
--- so has every family's
+-- a family's area has the first eleven whole, and never more than twelve
 pub whole : (f : Family) (n : ℕ) (area : List Float) → length area ≡ vector-count f * n → 11 * n ≤ length area
 unfolding vector-count
-whole RKC n area h = omega arith
-whole RKL1 n area h = omega arith
-whole RKL2 n area h = omega arith
-whole RKG1 n area h = omega arith
-whole RKG2 n area h = omega arith
+whole f n area h = go (keeps-older f) h
+  where
+    go : (t : Bool) → length area ≡ cond t 12 11 * n → 11 * n ≤ length area
+    go true e = omega arith
+    go false e = omega arith
+
+pub at-most-twelve : (f : Family) {k : ℕ} (n : ℕ) → k ≡ vector-count f → k * n ≤ 12 * n
+unfolding vector-count
+at-most-twelve f {k} n e = go (keeps-older f) e
+  where
+    go : (t : Bool) → k ≡ cond t 12 11 → k * n ≤ 12 * n
+    go true e = rw e (omega arith)
+    go false e = rw e (omega arith)
+
+-- each vector as long as it is there
+pub long-unpack : (f : Family) (n : ℕ) (area : List Float) → length area ≡ vector-count f * n → Long f n (unpack n area)
+unfolding vector-count unpack
+long-unpack f n area h = every
+  where
+    first : (b : Vector) → number b < 11 → length (unpack n area b) ≡ n
+    first b l = long-at n area b (omega (arith, room 11 (number b) n l, whole f n area h))
+
+    last : (t : Bool) → length area ≡ cond t 12 11 * n → length (unpack n area older-state) ≡ cond t n 0
+    last true e = long-at n area older-state (omega arith)
+    last false e = simp (length-take, length-drop) (omega arith)
+
+    every : Long f n (unpack n area)
+    every first-derivative = first first-derivative (omega arith)
+    every last-derivative = first last-derivative (omega arith)
+    every derivative = first derivative (omega arith)
+    every previous-two = first previous-two (omega arith)
+    every previous-one = first previous-one (omega arith)
+    every next-stage = first next-stage (omega arith)
+    every eigenvector = first eigenvector (omega arith)
+    every perturbed-state = first perturbed-state (omega arith)
+    every perturbed-derivative = first perturbed-derivative (omega arith)
+    every state = first state (omega arith)
+    every candidate = first candidate (omega arith)
+    every older-state = last (keeps-older f) h
 
 -- ---- an area that becomes another
 
@@ -120,31 +156,28 @@ join-pieces n area i (suc m) =
     ∙ sym (take-add n (m * n) (drop (i * n) area))
     ∙ ap (λ (k : ℕ). take k (drop (i * n) area)) e′
 
--- an area of eleven vectors, or fewer
-pub pack-unpack : (n : ℕ) (area : List Float) → length area ≤ 11 * n → pack (unpack n area) ≡ area
+-- an area of twelve vectors, or fewer
+pub pack-unpack : (n : ℕ) (area : List Float) → length area ≤ 12 * n → pack (unpack n area) ≡ area
 unfolding pack unpack pieces
 pack-unpack n area h =
-    join-pieces n area 0 11
-    ∙ ap (λ (k : ℕ). take (11 * n) (drop k area)) (zero-mul n)
-    ∙ take-all (11 * n) area h
+    join-pieces n area 0 12
+    ∙ ap (λ (k : ℕ). take (12 * n) (drop k area)) (zero-mul n)
+    ∙ take-all (12 * n) area h
 
 -- what an area is, from what its vectors are
 pub packed : (f : Family) (n : ℕ) (area : List Float) {v : Vectors} → length area ≡ vector-count f * n → unpack n area ≡ v → area ≡ pack v
-unfolding vector-count
-packed RKC n area h e = sym (pack-unpack n area (omega arith)) ∙ ap pack e
-packed RKL1 n area h e = sym (pack-unpack n area (omega arith)) ∙ ap pack e
-packed RKL2 n area h e = sym (pack-unpack n area (omega arith)) ∙ ap pack e
-packed RKG1 n area h e = sym (pack-unpack n area (omega arith)) ∙ ap pack e
-packed RKG2 n area h e = sym (pack-unpack n area (omega arith)) ∙ ap pack e
+packed f n area h e = sym (pack-unpack n area (omega (arith, at-most-twelve f n refl))) ∙ ap pack e
 
 -- ---- the vectors got back from their area
 
+-- each n long, but the last may be shorter
 data All (n : ℕ) : List (List Float) → Type 0 where
-  none : All n []
+  last : {x : List Float} → length x ≤ n → All n (x ∷ [])
   more : {x : List Float} {xs : List (List Float)} → length x ≡ n → All n xs → All n (x ∷ xs)
 
 part : (n k : ℕ) {xs : List (List Float)} → All n xs → k < length xs → take n (drop (k * n) (join xs)) ≡ getD xs k []
-part n k none h = absurd (not-suc-le-zero h)
+part n zero (last {x} p) h = rw zero-mul (ap (take n) (append-nil x) ∙ take-all n x p)
+part n (suc k) (last p) h = absurd (not-suc-le-zero (le-of-suc-le-suc h))
 part n zero (more {x} {xs} p q) h = rw (zero-mul, ← p) (take-append-seam x (join xs))
 part n (suc k) (more {x} {xs} p q) h =
     let e : suc k * n ≡ length x + k * n = omega (arith, suc-mul k n) in
@@ -152,39 +185,52 @@ part n (suc k) (more {x} {xs} p q) h =
     ∙ ap (λ (l : List Float). take n l) (drop-append-add x (join xs) (k * n))
     ∙ part n k q (le-of-suc-le-suc h)
 
-length-join : {n : ℕ} {xs : List (List Float)} → All n xs → length (join xs) ≡ length xs * n
-length-join {n} none = sym (zero-mul n)
-length-join {n} (more {x} {xs} p q) = length-append x (join xs) ∙ rw (p, length-join q, suc-mul) (omega arith)
+short : (t : Bool) (n : ℕ) → cond t n 0 ≤ n
+short true n = omega arith
+short false n = omega arith
 
-all : {n : ℕ} (v : Vectors) → Long n v → All n (in-order v)
-all v h =
+all : (f : Family) (n : ℕ) (v : Vectors) → Long f n v → All n (in-order v)
+all f n v h =
     more (h first-derivative) (more (h last-derivative) (more (h derivative) (more (h previous-two) (more (h previous-one) (more (h next-stage)
-    (more (h eigenvector) (more (h perturbed-state) (more (h perturbed-derivative) (more (h state) (more (h candidate) none))))))))))
+    (more (h eigenvector) (more (h perturbed-state) (more (h perturbed-derivative) (more (h state) (more (h candidate) (last {x = v older-state} (omega (arith, h older-state, short (keeps-older f) n)))))))))))))
 
-pub unpack-pack : (n : ℕ) (v : Vectors) → Long n v → unpack n (pack v) ≡ v
+pub unpack-pack : (f : Family) (n : ℕ) (v : Vectors) → Long f n v → unpack n (pack v) ≡ v
 unfolding unpack pack
-unpack-pack n v h = fun-ext go
+unpack-pack f n v h = fun-ext go
   where
     go : (b : Vector) → unpack n (pack v) b ≡ v b
-    go first-derivative = part n 0 (all v h) (omega arith)
-    go last-derivative = part n 1 (all v h) (omega arith)
-    go derivative = part n 2 (all v h) (omega arith)
-    go previous-two = part n 3 (all v h) (omega arith)
-    go previous-one = part n 4 (all v h) (omega arith)
-    go next-stage = part n 5 (all v h) (omega arith)
-    go eigenvector = part n 6 (all v h) (omega arith)
-    go perturbed-state = part n 7 (all v h) (omega arith)
-    go perturbed-derivative = part n 8 (all v h) (omega arith)
-    go state = part n 9 (all v h) (omega arith)
-    go candidate = part n 10 (all v h) (omega arith)
+    go first-derivative = part n 0 (all f n v h) (omega arith)
+    go last-derivative = part n 1 (all f n v h) (omega arith)
+    go derivative = part n 2 (all f n v h) (omega arith)
+    go previous-two = part n 3 (all f n v h) (omega arith)
+    go previous-one = part n 4 (all f n v h) (omega arith)
+    go next-stage = part n 5 (all f n v h) (omega arith)
+    go eigenvector = part n 6 (all f n v h) (omega arith)
+    go perturbed-state = part n 7 (all f n v h) (omega arith)
+    go perturbed-derivative = part n 8 (all f n v h) (omega arith)
+    go state = part n 9 (all f n v h) (omega arith)
+    go candidate = part n 10 (all f n v h) (omega arith)
+    go older-state = part n 11 (all f n v h) (omega arith)
 
-pub length-pack : (f : Family) (n : ℕ) (v : Vectors) → Long n v → length (pack v) ≡ vector-count f * n
-unfolding pack vector-count
-length-pack RKC n v h = length-join (all v h)
-length-pack RKL1 n v h = length-join (all v h)
-length-pack RKL2 n v h = length-join (all v h)
-length-pack RKG1 n v h = length-join (all v h)
-length-pack RKG2 n v h = length-join (all v h)
+-- the lengths added up
+total : List (List Float) → ℕ
+total [] = 0
+total (x ∷ xs) = length x + total xs
+
+length-join : (xs : List (List Float)) → length (join xs) ≡ total xs
+unfolding total
+length-join [] = refl
+length-join (x ∷ xs) = length-append x (join xs) ∙ ap (λ (k : ℕ). length x + k) (length-join xs)
+
+pub length-pack : (f : Family) (n : ℕ) (v : Vectors) → Long f n v → length (pack v) ≡ vector-count f * n
+unfolding pack vector-count total
+length-pack f n v h =
+    length-join (in-order v)
+    ∙ rw (h first-derivative, h last-derivative, h derivative, h previous-two, h previous-one, h next-stage, h eigenvector, h perturbed-state, h perturbed-derivative, h state, h candidate, h older-state) (go (keeps-older f))
+  where
+    go : (t : Bool) → n + (n + (n + (n + (n + (n + (n + (n + (n + (n + (n + (cond t n 0 + 0))))))))))) ≡ cond t 12 11 * n
+    go true = omega arith
+    go false = omega arith
 
 -- ---- every step keeps the length
 
@@ -196,65 +242,66 @@ pub length-each : (n : ℕ) (v : Vectors) (f : (Vector → Float) → Float) →
 unfolding each
 length-each n v f = length-tabulate (λ i. f (λ a. getD (v a) i nan)) 0 n
 
-module _ (n : ℕ) where
-  pub long-with : (v : Vectors) (b : Vector) (x : List Float) → Long n v → length x ≡ n → Long n (v with b ≔ x)
-  long-with v b x h p c = go (eqb (number b) (number c))
+module _ (f : Family) (n : ℕ) where
+  pub long-with : (v : Vectors) (b : Vector) (x : List Float) → Long f n v → length x ≡ width f n b → Long f n (v with b ≔ x)
+  long-with v b x h p c = go (eqb (number b) (number c)) refl
     where
-      go : (t : Bool) → length (cond t x (v c)) ≡ n
-      go true = p
-      go false = h c
+      go : (t : Bool) → eqb (number b) (number c) ≡ t → length (cond t x (v c)) ≡ width f n c
+      go true e = p ∙ ap (width f n) (sym (named-number b) ∙ ap named (eqb-true (number b) (number c) e) ∙ named-number c)
+      go false e = h c
 
-  long-each : (v w : Vectors) (b : Vector) (f : (Vector → Float) → Float) → Long n v → Long n (v with b ≔ each n w f)
-  long-each v w b f h = long-with v b (each n w f) h (length-each n w f)
+  -- a vector that every family has, worked out
+  long-each : (v w : Vectors) (b : Vector) (g : (Vector → Float) → Float) → Long f n v → width f n b ≡ n → Long f n (v with b ≔ each n w g)
+  long-each v w b g h e = long-with v b (each n w g) h (length-each n w g ∙ sym e)
 
-  pub long-direction : (v : Vectors) → Long n v → Long n (with-direction n v)
+  pub long-direction : (v : Vectors) → Long f n v → Long f n (with-direction n v)
   unfolding with-direction
   long-direction v h = go (le (vector-norm (v eigenvector)) min-positive) (le (vector-norm (v first-derivative)) min-positive)
     where
-      go : (t u : Bool) → Long n (cond t (cond u (v with eigenvector ≔ replicate n one) (v with eigenvector ≔ v first-derivative)) v)
+      go : (t u : Bool) → Long f n (cond t (cond u (v with eigenvector ≔ replicate n one) (v with eigenvector ≔ v first-derivative)) v)
       go true true = long-with v eigenvector (replicate n one) h (length-replicate n one)
       go true false = long-with v eigenvector (v first-derivative) h (h first-derivative)
       go false u = h
 
-  pub long-perturbed : (p : Float) (v : Vectors) → Long n v → Long n (perturbed n p v)
+  pub long-perturbed : (p : Float) (v : Vectors) → Long f n v → Long f n (perturbed n p v)
   unfolding perturbed perturbed-by
-  long-perturbed p v h = long-each v v perturbed-state _ h
+  long-perturbed p v h = long-each v v perturbed-state _ h refl
 
-  pub long-turned : (v : Vectors) (d : List Float) → Long n v → length d ≡ n → Long n (turned n v d)
+  pub long-turned : (v : Vectors) (d : List Float) → Long f n v → length d ≡ n → Long f n (turned n v d)
   unfolding turned
-  long-turned v d h p = let w = v with perturbed-derivative ≔ d in long-each w w eigenvector _ (long-with v perturbed-derivative d h p)
+  long-turned v d h p = let w = v with perturbed-derivative ≔ d in long-each w w eigenvector _ (long-with v perturbed-derivative d h p) refl
 
-  pub long-first : (step mu~ : Float) (v : Vectors) → Long n v → Long n (first-stage n step mu~ v)
+  pub long-first : (step mu~ : Float) (v : Vectors) → Long f n v → Long f n (first-stage n step mu~ v)
   unfolding first-stage
-  long-first step mu~ v h = long-each (v with previous-two ≔ v state) v previous-one _ (long-with v previous-two (v state) h (h state))
+  long-first step mu~ v h = long-each (v with previous-two ≔ v state) v previous-one _ (long-with v previous-two (v state) h (h state)) refl
 
-  pub long-row : (form : RowForm) (step : Float) (c : Coefficients) (v : Vectors) (d : List Float) → Long n v → length d ≡ n
-      → Long n (with-row-in form n step c v d)
+  pub long-row : (form : RowForm) (step : Float) (c : Coefficients) (v : Vectors) (d : List Float) → Long f n v → length d ≡ n
+      → Long f n (with-row-in form n step c v d)
   unfolding with-row-in
-  long-row form step c v d h p = let w = v with derivative ≔ d in long-each w w next-stage (entry-in form step c) (long-with v derivative d h p)
+  long-row form step c v d h p = let w = v with derivative ≔ d in long-each w w next-stage (entry-in form step c) (long-with v derivative d h p) refl
 
-  pub long-exchanged : (v : Vectors) → Long n v → Long n (exchanged v)
+  pub long-exchanged : (v : Vectors) → Long f n v → Long f n (exchanged v)
   unfolding exchanged
   long-exchanged v h =
       long-with (v with previous-two ≔ v previous-one with previous-one ≔ v next-stage) next-stage (v previous-two)
       (long-with (v with previous-two ≔ v previous-one) previous-one (v next-stage)
       (long-with v previous-two (v previous-one) h (h previous-one)) (h next-stage)) (h previous-two)
 
-  pub long-candidate : (m : Setting) (step : Float) (s : ℕ) (c : Recurrence) (row : Coefficients) (v : Vectors) → Long n v
-      → Long n (with-candidate m n step s c row v)
+  pub long-candidate : (m : Setting) (step : Float) (s : ℕ) (c : Recurrence) (row : Coefficients) (v : Vectors) → Long f n v
+      → Long f n (with-candidate m n step s c row v)
   unfolding with-candidate candidate-in
   long-candidate m step s c row v h = long-with v candidate (candidate-in (facts-of (kind m) .candidate) m n step s c row v) h (go (facts-of (kind m) .candidate))
     where
       go : (form : CandidateForm) → length (candidate-in form m n step s c row v) ≡ n
       go LastStage = h next-stage
 
-  pub long-last : (m : Setting) (a : Arguments) (v : Vectors) (d : List Float) → Long n v → length d ≡ n → Long n (with-last m n a v d)
+  pub long-last : (m : Setting) (a : Arguments) (v : Vectors) (d : List Float) → Long f n v → length d ≡ n → Long f n (with-last m n a v d)
   unfolding with-last
   long-last m a v d h p = go (a .adaptive)
     where
       w : Vectors
       w = v with last-derivative ≔ d
 
-      go : (t : Bool) → Long n (cond t (w with derivative ≔ each n w (error m (a .step))) w)
-      go true = long-each w w derivative (error m (a .step)) (long-with v last-derivative d h p)
+      go : (t : Bool) → Long f n (cond t (w with derivative ≔ each n w (error m (a .step))) w)
+      go true = long-each w w derivative (error m (a .step)) (long-with v last-derivative d h p) refl
       go false = long-with v last-derivative d h p

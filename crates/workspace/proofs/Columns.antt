@@ -8,7 +8,7 @@ use mathlib.Core.List.{List, [], _∷_}
 use Prim.Native.Nat.{ℕ, _+_, _-_, _*_, _≤_, _<_, min, zero-le}
 use native.Mathlib.Nat.{mul-le-mul-right, suc-mul, eq-or-lt-of-le, not-suc-le-zero}
 use native.Mathlib.Omega.{arith}
-use borrow.Author.Tests.{eq-eqb, ne-eqb, eqb-true, ltb-true, lt-ltb}
+use borrow.Author.Tests.{eq-eqb, ne-eqb, eqb-true, ltb-true}
 use lib.Dec.{eqb, ltb}
 use lib.ListN.{length, getD, drop, set, length-set, length-take, length-drop}
 use lib.Seq.{getD-set-same, getD-set-other, drop-set-lt, ext-getD, getD-take, getD-drop, length-take-le}
@@ -88,14 +88,10 @@ unfoldable pub written : Rules → (Vector → Float) → (Vector → Float) →
 written [] v w = w
 written ((k, f) ∷ rs) v w = written rs v (with-at k (f v) w)
 
--- every vector that is written is among the first m, as each is among the first eleven
+-- every vector that is written is among the first m
 abbrev pub among : ℕ → Rules → Bool
 among m [] = true
 among m ((k, f) ∷ rs) = ltb (number k) m && among m rs
-
-eleven : (rs : Rules) → among 11 rs ≡ true
-eleven [] = refl
-eleven ((k, f) ∷ rs) = ap (λ (t : Bool). t && among 11 rs) (lt-ltb (number k) 11 (number-below k)) ∙ eleven rs
 
 -- they lie within a list of l
 unfoldable pub Room : ℕ → ℕ → Rules → Type 0
@@ -126,7 +122,7 @@ stores-beyond : (n i : ℕ) (ws : List (Vector × Float)) (l : List Float) → i
 stores-beyond n i [] l h = refl
 stores-beyond n i ((k, x) ∷ ws) l h =
     stores-beyond n i ws (set l (number k * n + i) x) h
-    ∙ drop-set-lt (extent n) l (number k * n + i) x (omega (arith, room 11 (number k) n (number-below k)))
+    ∙ drop-set-lt (extent n) l (number k * n + i) x (omega (arith, room 12 (number k) n (number-below k)))
 
 pub stores-there : (n i j : ℕ) (ws : List (Vector × Float)) (l : List Float) → i < n → j < n → (j ≡ i → ⊥)
     → column n (stores n i ws l) j ≡ column n l j
@@ -212,16 +208,20 @@ pub record Working (n : ℕ) (rs : Rules) (a area : List Float) (i : ℕ) : Type
   pub ahead : (j : ℕ) → i ≤ j → j < n → column n area j ≡ column n a j
   pub rest : beyond n area ≡ beyond n a
 
-pub begin : (n : ℕ) (rs : Rules) (a : List Float) → 11 * n ≤ length a → Working n rs a a 0
-begin n rs a h = record {
+pub begin-in : (n : ℕ) (rs : Rules) (a : List Float) → Room n (length a) rs → 11 * n ≤ length a → Working n rs a a 0
+begin-in n rs a r h = record {
   bound = zero-le;
   size = h;
   long = refl;
-  fits = roomy 11 n (length a) rs (eleven rs) h;
+  fits = r;
   past = λ j p. absurd (not-suc-le-zero p);
   ahead = λ j p q. refl;
   rest = refl;
 }
+
+-- where the rules write among the first eleven
+pub begin : (n : ℕ) (rs : Rules) (a : List Float) → among 11 rs ≡ true → 11 * n ≤ length a → Working n rs a a 0
+begin n rs a e h = begin-in n rs a (roomy 11 n (length a) rs e h) h
 
 turn-all : {n : ℕ} {rs : Rules} {a area : List Float} {i : ℕ} (ws : List (Vector × Float)) → Working n rs a area i → i < n
     → ws ≡ made rs (column n area i) → Working n rs a (stores n i ws area) (i + 1)

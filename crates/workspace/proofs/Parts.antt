@@ -14,7 +14,7 @@ use lib.Seq.{take-nil, take-take, drop-drop, take-at, drop-at, length-take-le, d
 use lib.Ieee.{Float}
 use Rattle.ieee.proofs.Logic.{le-or-lt}
 use Rattle.workspace.specs.Vectors.{Vector, Vectors, _with_≔_, number, named, unpack, extent, beyond, Becomes}
-use Rattle.workspace.proofs.Areas.{number-below, number-named, room, long-unpack}
+use Rattle.workspace.proofs.Areas.{number-named, room, long-at}
 
 -- ---- what stands from p on in two lists that are the same there, and n elements of it
 
@@ -38,7 +38,7 @@ module _ (p n : ℕ) (y z : List Float) where
   same-after : (b : ℕ) → b ≤ p → drop b y ≡ drop b z → take n (drop p y) ≡ take n (drop p z)
   same-after b h e = ap (take n) (drop-later b p y z h e)
 
--- a part that ends within the eleven vectors leaves what stands beyond them
+-- a part that ends within the vectors leaves what stands beyond them
 beyond-part : (p e n : ℕ) (a ys : List Float) → p ≤ e → e ≤ extent n → e ≤ length a → length ys ≡ e - p
     → beyond n (putMid p (e - p) a ys) ≡ beyond n a
 beyond-part p e n a ys h within fits long = drop-later e (extent n) (putMid p (e - p) a ys) a within (drop-put p e a ys h fits long)
@@ -51,10 +51,10 @@ width k n = omega arith
 -- what is read
 pub read-part : (k n : ℕ) (a : List Float) → k < 11 → take (k * n + n - k * n) (drop (k * n) a) ≡ unpack n a (named k)
 unfolding unpack
-read-part k n a h = ap (λ (m : ℕ). take m (drop (k * n) a)) (width k n) ∙ ap (λ (q : ℕ). take n (drop (q * n) a)) (sym (number-named k h))
+read-part k n a h = ap (λ (m : ℕ). take m (drop (k * n) a)) (width k n) ∙ ap (λ (q : ℕ). take n (drop (q * n) a)) (sym (number-named k (omega arith)))
 
 pub length-part : (k n : ℕ) (a : List Float) → 11 * n ≤ length a → k < 11 → length (take (k * n + n - k * n) (drop (k * n) a)) ≡ n
-length-part k n a h l = ap length (read-part k n a l) ∙ long-unpack n a h (named k)
+length-part k n a h l = ap length (read-part k n a l) ∙ long-at n a (named k) (rw (number-named k (omega arith)) (omega (arith, room 11 k n l)))
 
 -- what is written
 module _ (b : Vector) (n : ℕ) (a x : List Float) (long : length x ≡ n) (fits : number b * n + n ≤ length a) where
@@ -95,12 +95,12 @@ pub written-part : (k n : ℕ) (a : List Float) {ys x : List Float} → 11 * n �
     → Becomes n a (putMid (k * n) (k * n + n - k * n) a ys) (λ v. v with named k ≔ x)
 unfolding back
 written-part k n a {ys} {x} h l long e =
-    let q : number (named k) ≡ k = number-named k l in
+    let q : number (named k) ≡ k = number-named k (omega arith) in
     record {
       vectors =
           ap (λ (y : List Float). unpack n (putMid (k * n) (k * n + n - k * n) a y)) e
           ∙ ap (λ (m : ℕ). unpack n (putMid (m * n) (m * n + n - m * n) a x)) (sym q)
-          ∙ unpack-back (named k) n a x long (omega (arith, room 11 (number (named k)) n (number-below (named k))));
+          ∙ unpack-back (named k) n a x long (rw q (omega (arith, room 11 k n l)));
       rest = beyond-part (k * n) (k * n + n) n a ys (omega arith) (omega (arith, room 11 k n l)) (omega (arith, room 11 k n l)) (ap length e ∙ long ∙ sym (width k n));
     }
 

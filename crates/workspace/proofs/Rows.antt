@@ -11,7 +11,7 @@ use lib.Ieee.{Float}
 use Rattle.family.specs.declared.RowForm.{RowForm}
 use Rattle.family.specs.declared.RowForm.the-variants.{ChebyshevRow, OrthogonalRow}
 use Rattle.coefficients.specs.declared.Coefficients.{Coefficients}
-use Rattle.workspace.specs.Vectors.{Vector, Vectors, number, _with_≔_, each, first-derivative, last-derivative, derivative, previous-two, previous-one, next-stage, eigenvector, perturbed-state, perturbed-derivative, state, candidate}
+use Rattle.workspace.specs.Vectors.{Vector, Vectors, number, _with_≔_, each, first-derivative, last-derivative, derivative, previous-two, previous-one, next-stage, eigenvector, perturbed-state, perturbed-derivative, state, candidate, older-state}
 use Rattle.workspace.specs.Kernel.{entry-in, chebyshev-entry, orthogonal-entry, with-row-in, exchanged}
 use Rattle.workspace.proofs.Lists.{each-same}
 use Rattle.workspace.proofs.Parts.{_beside_}
@@ -40,6 +40,7 @@ cycled v x perturbed-state = refl
 cycled v x perturbed-derivative = refl
 cycled v x state = refl
 cycled v x candidate = refl
+cycled v x older-state = refl
 
 pub exchange-law : (n : ℕ) (g : (Vector → Float) → Float) (v : Vectors) → length (v previous-two) ≡ n → length (v previous-one) ≡ n
     → written-by n (exchange-rules g) v v ≡ exchanged (rowed n g v)
@@ -79,6 +80,7 @@ exchanged-beside v w perturbed-state = refl
 exchanged-beside v w perturbed-derivative = refl
 exchanged-beside v w state = refl
 exchanged-beside v w candidate = refl
+exchanged-beside v w older-state = refl
 
 module _ (f : RowForm) (n : ℕ) (h : Float) (c : Coefficients) (d : List Float) (v w : Vectors) where
   pub row-beside : with-row-in f n h c (v beside w) d ≡ (with-row-in f n h c v d beside w)

@@ -1,4 +1,5 @@
--- The area's vectors by name: workspace.rs's nine in its order, then a copy of the state, then the candidate. Document 01, "one lent area".
+-- The area's vectors by name: workspace.rs's nine in its order, then a copy of the state, then the candidate. Document 01, "one lent area". Last, where the
+-- family keeps it, the state before: no family does yet.
 use mathlib.Core.Path.{_≡_}
 use Prim.Native.Nat.{ℕ, zero, suc, _+_, _*_}
 use mathlib.Core.Bool.{Bool, true, cond, _&&_}
@@ -9,11 +10,11 @@ use lib.Ieee.{Float, nan}
 use lib.Ieee.Scale.{finite}
 use Rattle.ieee.specs.Double.{_⊕_, _⊘_, nought, one, square}
 use Rattle.ieee.specs.Sqrt.{sqrt}
-use Rattle.family.specs.Family.{Family, RKC, RKL1, RKL2, RKG1, RKG2}
+use Rattle.family.specs.Family.{Family, keeps-older}
 
 pub data Vector : Type 0 where
   first-derivative last-derivative derivative previous-two previous-one next-stage : Vector
-  eigenvector perturbed-state perturbed-derivative state candidate : Vector
+  eigenvector perturbed-state perturbed-derivative state candidate older-state : Vector
 
 abbrev pub number : Vector → ℕ
 number first-derivative = 0
@@ -27,8 +28,9 @@ number perturbed-state = 7
 number perturbed-derivative = 8
 number state = 9
 number candidate = 10
+number older-state = 11
 
--- and the name of a number below 11
+-- and the name of a number below 12
 abbrev pub named : ℕ → Vector
 named zero = first-derivative
 named (suc zero) = last-derivative
@@ -40,15 +42,16 @@ named (suc (suc (suc (suc (suc (suc zero)))))) = eigenvector
 named (suc (suc (suc (suc (suc (suc (suc zero))))))) = perturbed-state
 named (suc (suc (suc (suc (suc (suc (suc (suc zero)))))))) = perturbed-derivative
 named (suc (suc (suc (suc (suc (suc (suc (suc (suc zero))))))))) = state
-named (suc (suc (suc (suc (suc (suc (suc (suc (suc (suc k)))))))))) = candidate
+named (suc (suc (suc (suc (suc (suc (suc (suc (suc (suc zero)))))))))) = candidate
+named (suc (suc (suc (suc (suc (suc (suc (suc (suc (suc (suc k))))))))))) = older-state
 
--- how many vectors the area of a family has
+-- how many of them the area of a family has
 unfoldable pub vector-count : Family → ℕ
-vector-count RKC = 11
-vector-count RKL1 = 11
-vector-count RKL2 = 11
-vector-count RKG1 = 11
-vector-count RKG2 = 11
+vector-count f = cond (keeps-older f) 12 11
+
+-- and how long each is there: one that the family does not keep is empty
+abbrev pub width : Family → ℕ → Vector → ℕ
+width f n b = cond (eqb (number b) (number older-state)) (cond (keeps-older f) n 0) n
 
 abbrev pub Vectors : Type 0
 Vectors = Vector → List Float
@@ -58,13 +61,13 @@ infixl 10 _with_≔_
 abbrev pub _with_≔_ : Vectors → Vector → List Float → Vectors
 (v with a ≔ x) b = cond (eqb (number a) (number b)) x (v b)
 
--- the area: the vectors one after the other, each n long
+-- the area: the vectors one after the other, each n long, and empty past its end
 unfoldable pub unpack : ℕ → List Float → Vectors
 unpack n area a = take n (drop (number a * n) area)
 
 -- how long they are together, and what a longer area has beyond them
 abbrev pub extent : ℕ → ℕ
-extent n = 11 * n
+extent n = 12 * n
 
 abbrev pub beyond : ℕ → List Float → List Float
 beyond n area = drop (extent n) area
@@ -81,7 +84,7 @@ column n area i a = getD area (number a * n + i) nan
 abbrev pub in-order : Vectors → List (List Float)
 in-order v =
     v first-derivative ∷ v last-derivative ∷ v derivative ∷ v previous-two ∷ v previous-one ∷ v next-stage
-    ∷ v eigenvector ∷ v perturbed-state ∷ v perturbed-derivative ∷ v state ∷ v candidate ∷ []
+    ∷ v eigenvector ∷ v perturbed-state ∷ v perturbed-derivative ∷ v state ∷ v candidate ∷ v older-state ∷ []
 
 abbrev pub join : List (List Float) → List Float
 join [] = []

@@ -1,6 +1,6 @@
 // One vector of the area at a time, lent to functions that know nothing of the area: copied, filled, tested.
 ghost use mathlib.Core.Path.{_≡_};
-ghost use Prim.Native.Nat.{_*_, _≤_, _<_};
+ghost use Prim.Native.Nat.{_+_, _*_, _≤_, _<_};
 ghost use lib.ListN.{length, replicate};
 ghost use Rattle.workspace.specs.Vectors.{named, unpack, Becomes, _with_≔_, all-finite};
 
@@ -65,7 +65,8 @@ pub fn fill_vector(area: &mut [f64], n: usize, k: usize, x: f64)
 // Vector `to` becomes vector `from`. Two parts of one slice cannot be lent at the same time, so the loop works in the area.
 pub fn copy_vector(area: &mut [f64], n: usize, from: usize, to: usize)
     requires { ⌜ 11 * n ≤ length (now area) ⌝ }
-    requires { ⌜ (from < 11) × (to < 11) ⌝ }
+    requires { ⌜ (from < 12) × (to < 12) ⌝ }
+    requires { ⌜ (from * n + n ≤ length (now area)) × (to * n + n ≤ length (now area)) ⌝ }
     ensures { λ _. ⌜ Becomes n (now (area .entry)) (now (area .exit)) (λ w. w with named to ≔ w (named from)) ⌝ }
 {
     let a = from * n;

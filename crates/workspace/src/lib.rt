@@ -61,15 +61,12 @@ pub const STATE: usize = 9;
 
 pub const CANDIDATE: usize = 10;
 
+// The state accepted before, last, where the family keeps it.
+pub const OLDER_STATE: usize = 11;
+
 // How many vectors a family's area has.
 pub fn vector_count(family: u64) -> usize
     ensures { λ r. ⌜ r ≡ vector-count (family-of family) ⌝ }
 {
-    match family {
-        1 => 11,
-        2 => 11,
-        3 => 11,
-        4 => 11,
-        _ => 11,
-    }
+    if family::keeps_older(family) { 12 } else { 11 }
 }

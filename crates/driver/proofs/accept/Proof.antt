@@ -32,7 +32,8 @@ copy-vector-requires c κs =
     let a = t .before .before .before .before .args in
     let r = a .«record» in
     let l = clear (r .family) (r .n) (a .area .now) _ refl (t .before .of-accept .ensures) (t .if1 .left) in
-    (whole (family-of (r .family)) (r .n) (a .area .now) (l .long), search needs)
+    let w = whole (family-of (r .family)) (r .n) (a .area .now) (l .long) in
+    (w, (search needs, (omega (arith, w), omega (arith, w))))
 
 copy-vector-requires-2 : tie.Need-copy-vector-requires-2
 unfolding accept-tests
@@ -41,7 +42,9 @@ copy-vector-requires-2 c κs =
     let a = t .before .before .before .before .args in
     let r = a .«record» in
     let l = clear (r .family) (r .n) (a .area .now) _ refl (t .before .of-accept .ensures) (t .if1 .left) in
-    (omega (arith, whole (family-of (r .family)) (r .n) (a .area .now) (l .long), c .before .before .area .given), search needs)
+    let w = whole (family-of (r .family)) (r .n) (a .area .now) (l .long) in
+    let g = c .before .before .area .given in
+    (omega (arith, w, g), (search needs, (omega (arith, w, g), omega (arith, w, g))))
 
 in-phase-requires : tie.Need-in-phase-requires
 in-phase-requires c κs = search needs

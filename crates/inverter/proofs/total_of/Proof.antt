@@ -1,12 +1,13 @@
 -- `inverter::total_of` meets its contract, by that of `from_rest`: the part of the zeros that is lent is zero. Assumes nothing.
 use borrow.Author.Needs.{needs}
 use mathlib.Core.Path.{_≡_, sym, ap, _∙_}
-use Prim.Native.Nat.{_*_, _≤_}
+use Prim.Native.Nat.{ℕ, _*_}
 use native.Mathlib.Omega.{arith}
-use lib.ListN.{length, take, length-replicate}
+use lib.ListN.{length, take, replicate, length-replicate}
 use lib.Seq.{length-take-le}
 use Rattle.ieee.specs.Double.{nought}
-use Rattle.inverter.proofs.Outset.{take-replicate}
+use Rattle.inverter.specs.Day.{largest-area}
+use Rattle.inverter.proofs.Outset.{take-replicate, has-room}
 use Rattle.inverter.proofs.total_of.Statement.{statement}
 use Rattle.inverter.proofs.total_of.Tie as tie
 
@@ -16,32 +17,41 @@ zeros-requires c κs = search needs
 blank-requires : tie.Need-blank-requires
 blank-requires c κs = search needs
 
+vector-count-requires : tie.Need-vector-count-requires
+vector-count-requires c κs = search needs
+
 mul-whole : tie.Need-mul-whole
-mul-whole c = search needs
+mul-whole c = let s = c .before .before .before .before .before .before in
+    omega (arith, has-room _ (s .args .m .n) (c .vector-count .ensures) (s .pre .0 .1))
 
 array-borrow-prefix-area : tie.Need-array-borrow-prefix-area
-array-borrow-prefix-area c = search needs
+array-borrow-prefix-area c = let s = c .before .before .before .before .before .before in
+    omega (arith, has-room _ (s .args .m .n) (c .vector-count .ensures) (s .pre .0 .1))
 
 slice-aggregate-from-rest : tie.Need-slice-aggregate-from-rest
-slice-aggregate-from-rest c = let n = c .before .before .before .before .before .before .args .m .n in
-    let z = c .before .before .zeros in
-    let l : length (z .result) ≡ 5632 = ap length (z .ensures) ∙ length-replicate 5632 nought in
-    sym (length-take-le (11 * n) (z .result) (omega (arith, l, c .before .before .before .before .before .before .pre .0 .1)))
+slice-aggregate-from-rest c = let s = c .before .before .before .before .before .before .before in
+    let z = c .before .before .before .zeros in
+    let l : length (z .result) ≡ largest-area = ap length (z .ensures) ∙ length-replicate largest-area nought in
+    let v = c .before .vector-count in
+    sym (length-take-le (v .result * s .args .m .n) (z .result) (omega (arith, l, has-room _ (s .args .m .n) (v .ensures) (s .pre .0 .1))))
 
 array-borrow-prefix-scratch : tie.Need-array-borrow-prefix-scratch
 array-borrow-prefix-scratch c = search needs
 
 slice-aggregate-from-rest-2 : tie.Need-slice-aggregate-from-rest-2
-slice-aggregate-from-rest-2 c = let n = c .before .before .before .before .before .before .before .args .m .n in
-    let b = c .before .before .blank in
-    sym (length-take-le n (b .result) (omega (arith, b .ok .1 .0, c .before .before .before .before .before .before .before .pre .0 .1)))
+slice-aggregate-from-rest-2 c = let s = c .before .before .before .before .before .before .before .before in
+    let b = c .before .before .before .blank in
+    sym (length-take-le (s .args .m .n) (b .result) (omega (arith, b .ok .1 .0, s .pre .0 .1)))
 
 from-rest-requires : tie.Need-from-rest-requires
-from-rest-requires c κs = let s = c .before .before .before .before .before .before .before .before .before in
+from-rest-requires c κs = let s = c .before .before .before .before .before .before .before .before .before .before in
     let n = s .args .m .n in
-    let b = c .before .before .before .before .blank in
-    let h : 11 * n ≤ 5632 = omega (arith, s .pre .0 .1) in
-    let z = ap (take (11 * n)) (c .before .before .before .before .before .zeros .ensures) ∙ take-replicate (11 * n) 5632 nought h in
+    let b = c .before .before .before .before .before .blank in
+    let v = c .before .before .before .before .vector-count in
+    let z =
+    ap (take (v .result * n)) (c .before .before .before .before .before .before .zeros .ensures)
+    ∙ take-replicate (v .result * n) largest-area nought (has-room _ n (v .ensures) (s .pre .0 .1))
+    ∙ ap (λ (k : ℕ). replicate (k * n) nought) (v .ensures) in
     (s .pre .0 .0, (z, (length-take-le n (b .result) (omega (arith, b .ok .1 .0, s .pre .0 .1)), s .pre .1)))
 
 same-length : tie.Need-same-length
@@ -59,6 +69,7 @@ total-of-spec =
     (tie.spec
     zeros-requires
     blank-requires
+    vector-count-requires
     mul-whole
     array-borrow-prefix-area
     slice-aggregate-from-rest

@@ -1,9 +1,8 @@
--- `whole_area` meets its contract; with n at most 512 the product fits.
-use mathlib.Core.Path.{_∙_}
+-- `whole_area` meets its contract; with n at most 512 the product fits, whatever the family.
 use native.Mathlib.Omega.{arith}
 use borrow.Author.Needs.{needs}
+use Rattle.workspace.proofs.Areas.{at-most-twelve}
 use Rattle.driver.specs.Calls.{whole-area}
-use Rattle.driver.proofs.Sizes.{eleven, at-most}
 use Rattle.driver.proofs.checks.whole_area.Statement.{statement}
 use Rattle.driver.proofs.checks.whole_area.Tie as tie
 
@@ -11,7 +10,7 @@ vector-count-requires : tie.Need-vector-count-requires
 vector-count-requires c κs = search needs
 
 mul-whole : tie.Need-mul-whole
-mul-whole c = omega (arith, at-most _ _ (c .vector-count .ensures ∙ eleven _) (c .before .before .pre))
+mul-whole c = omega (arith, at-most-twelve _ (c .before .before .args .n) (c .vector-count .ensures), c .before .before .pre)
 
 returns : tie.Need-returns
 unfolding whole-area

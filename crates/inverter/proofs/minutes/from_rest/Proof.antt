@@ -2,26 +2,28 @@
 use borrow.Author.Needs.{needs}
 use mathlib.Core.Path.{_≡_, ap, subst, _∙_}
 use mathlib.Core.List.{List}
-use Prim.Native.Nat.{_*_}
 use native.Mathlib.Omega.{arith}
 use lib.ListN.{length, length-replicate, replicate}
 use lib.Ieee.{Float}
 use Rattle.ieee.specs.Double.{nought}
+use Rattle.family.specs.Family.{family-of}
 use Rattle.workspace.specs.Vectors.{_with_≔_, unpack, state}
-use Rattle.inverter.specs.Day.{Gives-total, run, outset}
+use Rattle.workspace.proofs.Areas.{whole}
+use Rattle.inverter.specs.Day.{area-size, Gives-total, run, outset}
 use Rattle.inverter.proofs.Outset.{outset-area}
 use Rattle.inverter.proofs.minutes.from_rest.Statement.{statement}
 use Rattle.inverter.proofs.minutes.from_rest.Tie as tie
 
 fill-vector-requires : tie.Need-fill-vector-requires
 fill-vector-requires c κs = let s = c .before .before .before .before .before .before in
-    let l : length (s .args .area .now) ≡ 11 * s .args .m .n = ap length (s .pre .1 .0) ∙ length-replicate (11 * s .args .m .n) nought in
-    (omega (arith, l), omega arith)
+    let l : length (s .args .area .now) ≡ area-size (s .args .m) = ap length (s .pre .1 .0) ∙ length-replicate (area-size (s .args .m)) nought in
+    (whole (family-of (s .args .m .family)) (s .args .m .n) (s .args .area .now) l, omega arith)
 
 run-requires : tie.Need-run-requires
 run-requires c κs = let s = c .before .before .before .before .before .before .before .before .before .before .before .before .before in
-    let l : length (s .args .area .now) ≡ 11 * s .args .m .n = ap length (s .pre .1 .0) ∙ length-replicate (11 * s .args .m .n) nought in
-    (s .pre .0, (omega (arith, l, c .before .before .before .before .before .before .fill-vector .kept .0), s .pre .1 .1))
+    let l : length (s .args .area .now) ≡ area-size (s .args .m) = ap length (s .pre .1 .0) ∙ length-replicate (area-size (s .args .m)) nought in
+    let w = whole (family-of (s .args .m .family)) (s .args .m .n) (s .args .area .now) l in
+    (s .pre .0, (omega (arith, w, c .before .before .before .before .before .before .fill-vector .kept .0), s .pre .1 .1))
 
 same-length : tie.Need-same-length
 same-length c = search needs
@@ -40,7 +42,7 @@ returns c = let s = c .before .before .before .before .before .before .before .b
     let m = s .args .m in
     let f = c .before .before .before .before .before .before .before .before .before .before .before .before .before .before .before .fill-vector in
     let r = c .before .before .before .before .before .before .before .before .run in
-    let l : length (s .args .area .now) ≡ 11 * m .n = ap length (s .pre .1 .0) ∙ length-replicate (11 * m .n) nought in
+    let l : length (s .args .area .now) ≡ area-size m = ap length (s .pre .1 .0) ∙ length-replicate (area-size m) nought in
     let e = f .ensures .vectors ∙ ap (λ (a : List Float). unpack (m .n) a with state ≔ replicate (m .n) (m .initial)) (s .pre .1 .0) in
     let q = outset-area m (f .last .0) (f .kept .0 ∙ l) e in
     subst (λ (a : List Float). Gives-total (run m 0 (s .args .readings .now) (outset a)) (r .result) (r .last .1 .1 .1 .1 .0) (r .last .1 .1 .1 .1 .1 .0)) q (r .ensures)

@@ -5,9 +5,9 @@ use Prim.Native.Nat.{ℕ, _+_, _-_, _*_, _≤_, _<_}
 use lib.ListN.{length, getD, set}
 use lib.Ieee.{Float, nan}
 use Rattle.workspace.specs.Vectors.{named, number, unpack, _with_≔_}
-use Rattle.workspace.proofs.Areas.{room, number-named, long-unpack, becomes-as}
+use Rattle.workspace.proofs.Areas.{number-named, long-at, becomes-as}
 use Rattle.workspace.proofs.Lists.{each-same}
-use Rattle.workspace.proofs.Columns.{Rules, Working, begin, turn, finish}
+use Rattle.workspace.proofs.Columns.{Rules, Room, Working, begin-in, turn, finish}
 use native.Mathlib.Omega.{arith}
 use Rattle.workspace.proofs.area.copy_vector.Statement.{statement}
 use Rattle.workspace.proofs.area.copy_vector.Tie as tie
@@ -17,7 +17,7 @@ abbrev rules : ℕ → ℕ → Rules
 rules from to = (named to, λ x. x (named from)) ∷ []
 
 -- a turn, where the numbers are known when the program runs
-turned : {n from to i : ℕ} {a area : List Float} → from < 11 → to < 11 → Working n (rules from to) a area i → i < n
+turned : {n from to i : ℕ} {a area : List Float} → from < 12 → to < 12 → Working n (rules from to) a area i → i < n
     → Working n (rules from to) a (set area (to * n + i) (getD area (from * n + i) nan)) (i + 1)
 turned {n} {from} {to} {i} {a} {area} p q W h =
     subst (λ (k : ℕ). Working n (rules from to) a (set area (k * n + i) (getD area (from * n + i) nan)) (i + 1)) (number-named to q)
@@ -25,24 +25,25 @@ turned {n} {from} {to} {i} {a} {area} p q W h =
     (turn (_ ∷ []) W h (refl, tt)))
 
 abbrev Inv-loop : tie.InvT-loop
-Inv-loop area₀ n from to a b i₀ area i = Working n (rules from to) area₀ area i × (from < 11) × (to < 11) × (from * n + n ≤ length area₀) × (to * n + n ≤ length area₀)
+Inv-loop area₀ n from to a b i₀ area i = Working n (rules from to) area₀ area i × (from < 12) × (to < 12) × (from * n + n ≤ length area₀) × (to * n + n ≤ length area₀)
 
 abbrev μ-loop : tie.MeasureT-loop
 μ-loop area₀ n from to a b i₀ area i = n - i
 
 mul-a : tie.Need-mul-a Inv-loop μ-loop
-mul-a c = omega (arith, room 11 (c .args .from) (c .args .n) (c .pre .1 .0))
+mul-a c = omega arith
 
 mul-b : tie.Need-mul-b Inv-loop μ-loop
-mul-b c = omega (arith, room 11 (c .args .to) (c .args .n) (c .pre .1 .1))
+mul-b c = omega arith
 
 loop-holds : tie.Need-loop-holds Inv-loop μ-loop
+unfolding Room
 loop-holds c = (
-  begin _ _ _ (omega arith),
-  c .pre .1 .0,
-  c .pre .1 .1,
-  omega (arith, room 11 (c .args .from) (c .args .n) (c .pre .1 .0)),
-  omega (arith, room 11 (c .args .to) (c .args .n) (c .pre .1 .1)),
+  begin-in _ _ _ (rw (number-named _ (c .pre .1 .0 .1)) (c .pre .1 .1 .1), tt) (c .pre .0),
+  c .pre .1 .0 .0,
+  c .pre .1 .0 .1,
+  c .pre .1 .1 .0,
+  c .pre .1 .1 .1,
 )
 
 add-area : tie.Need-add-area Inv-loop μ-loop
@@ -84,7 +85,7 @@ returns c =
     let v = unpack n a in
     let from = named (c .before .before .args .from) in
     becomes-as (finish (c .before .loop .inv .0) (c .loop-test .left))
-    (ap (λ (x : List Float). v with named (c .before .before .args .to) ≔ x) (each-same n v from (long-unpack n a (omega arith) from)))
+    (ap (λ (x : List Float). v with named (c .before .before .args .to) ≔ x) (each-same n v from (long-at n a from (rw (number-named _ (c .before .before .pre .1 .0 .0)) (c .before .before .pre .1 .1 .0)))))
 
 pub copy-vector-spec : {M : Type 1} → statement M
 copy-vector-spec =

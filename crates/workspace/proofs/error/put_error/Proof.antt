@@ -1,4 +1,5 @@
 -- `put_error` meets its contract, by the law of a loop over columns with one rule.
+use mathlib.Core.Path.{refl}
 use mathlib.Core.List.{[], _∷_}
 use Prim.Native.Nat.{_-_}
 use Rattle.workspace.specs.Vectors.{derivative}
@@ -15,7 +16,7 @@ abbrev μ-loop : tie.MeasureT-loop
 μ-loop area₀ n form step i₀ area i = n - i
 
 loop-holds : tie.Need-loop-holds Inv-loop μ-loop
-loop-holds c = begin _ _ _ (omega arith)
+loop-holds c = begin _ _ _ refl (omega arith)
 
 error-at-requires : tie.Need-error-at-requires Inv-loop μ-loop
 error-at-requires c κs = omega arith

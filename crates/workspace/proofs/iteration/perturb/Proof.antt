@@ -25,7 +25,7 @@ max-requires : tie.Need-max-requires Inv-loop μ-loop
 max-requires c κs = omega arith
 
 loop-holds : tie.Need-loop-holds Inv-loop μ-loop
-loop-holds c = begin _ _ _ (omega arith)
+loop-holds c = begin _ _ _ refl (omega arith)
 
 mul-area : tie.Need-mul-area Inv-loop μ-loop
 mul-area c = omega arith

@@ -24,7 +24,7 @@ put-vector-requires : tie.Need-put-vector-requires Inv-loop μ-loop
 put-vector-requires c κs = omega arith
 
 loop-holds : tie.Need-loop-holds Inv-loop μ-loop
-loop-holds c = begin _ _ _ (omega arith)
+loop-holds c = begin _ _ _ refl (omega arith)
 
 mul-area : tie.Need-mul-area Inv-loop μ-loop
 mul-area c = omega arith

@@ -7,7 +7,7 @@ use lib.Ieee.{Float}
 use Rattle.ieee.specs.Double.{_⊕_, _⊗_}
 use Rattle.workspace.specs.Vectors.{unpack, _with_≔_, each, state, previous-one, previous-two, first-derivative}
 use Rattle.workspace.specs.Kernel.{first-stage}
-use Rattle.workspace.proofs.Areas.{long-unpack, becomes-as}
+use Rattle.workspace.proofs.Areas.{long-at, becomes-as}
 use Rattle.workspace.proofs.Lists.{each-same}
 use Rattle.workspace.proofs.Columns.{Rules, Working, begin, turn, finish}
 use native.Mathlib.Omega.{arith}
@@ -24,7 +24,7 @@ abbrev μ-loop : tie.MeasureT-loop
 μ-loop area₀ n step mu-tilde i₀ area i = n - i
 
 loop-holds : tie.Need-loop-holds Inv-loop μ-loop
-loop-holds c = begin _ _ _ (omega arith)
+loop-holds c = begin _ _ _ refl (omega arith)
 
 mul-initial : tie.Need-mul-initial Inv-loop μ-loop
 mul-initial c = omega arith
@@ -93,7 +93,7 @@ returns c =
     let v = unpack (a .n) (a .area .now) in
     becomes-as (finish (c .before .loop .inv) (c .loop-test .left))
     (ap (λ (x : List Float). v with previous-two ≔ x with previous-one ≔ each (a .n) v (λ y. y state ⊕ a .step ⊗ a .mu-tilde ⊗ y first-derivative))
-    (each-same (a .n) v state (long-unpack (a .n) (a .area .now) (omega arith) state)))
+    (each-same (a .n) v state (long-at (a .n) (a .area .now) state (omega arith))))
 
 pub first-stage-spec : {M : Type 1} → statement M
 first-stage-spec =
