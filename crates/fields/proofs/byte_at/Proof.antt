@@ -1,9 +1,9 @@
--- `sheet::byte_at` meets its contract: past the end `getD` gives its default. Assumes nothing.
+-- `fields::byte_at` meets its contract: past the end `getD` gives its default. Assumes nothing.
 use borrow.Author.Needs.{needs}
 use mathlib.Core.Path.{sym}
 use lib.ListN.{List·getD-eq-default}
-use Rattle.sheet.proofs.byte_at.Statement.{statement}
-use Rattle.sheet.proofs.byte_at.Tie as tie
+use Rattle.fields.proofs.byte_at.Statement.{statement}
+use Rattle.fields.proofs.byte_at.Tie as tie
 
 shared-slice-read-result : tie.Need-shared-slice-read-result
 shared-slice-read-result c = search needs

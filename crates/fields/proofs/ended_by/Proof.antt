@@ -1,8 +1,8 @@
--- `sheet::ended_by` meets its contract, case by case. Assumes nothing.
-use Rattle.sheet.specs.Text.{ended-by}
+-- `fields::ended_by` meets its contract, case by case. Assumes nothing.
+use Rattle.fields.specs.Fields.{ended-by}
 use borrow.Author.Needs.{needs}
-use Rattle.sheet.proofs.ended_by.Statement.{statement}
-use Rattle.sheet.proofs.ended_by.Tie as tie
+use Rattle.fields.proofs.ended_by.Statement.{statement}
+use Rattle.fields.proofs.ended_by.Tie as tie
 
 enum-known-field : tie.Need-enum-known-field
 enum-known-field c = search needs

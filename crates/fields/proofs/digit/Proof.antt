@@ -1,9 +1,9 @@
--- `sheet::digit` meets its contract: the tests are those of the definition. Assumes nothing.
+-- `fields::digit` meets its contract: the tests are those of the definition. Assumes nothing.
 use borrow.Author.Needs.{needs}
 use borrow.Author.Tests.{le-leb, lt-leb, lt-ltb, le-ltb}
-use Rattle.sheet.specs.Text as spec
-use Rattle.sheet.proofs.digit.Statement.{statement}
-use Rattle.sheet.proofs.digit.Tie as tie
+use Rattle.fields.specs.Fields as spec
+use Rattle.fields.proofs.digit.Statement.{statement}
+use Rattle.fields.proofs.digit.Tie as tie
 
 returns : tie.Need-returns
 unfolding spec.digit

@@ -1,9 +1,9 @@
--- `sheet::digit_at` meets its contract, by those of its three calls. Assumes nothing.
+-- `fields::digit_at` meets its contract, by those of its three calls. Assumes nothing.
 use borrow.Author.Needs.{needs}
 use mathlib.Core.Path.{ap, _∙_}
-use Rattle.sheet.specs.Text.{digit}
-use Rattle.sheet.proofs.digit_at.Statement.{statement}
-use Rattle.sheet.proofs.digit_at.Tie as tie
+use Rattle.fields.specs.Fields.{digit}
+use Rattle.fields.proofs.digit_at.Statement.{statement}
+use Rattle.fields.proofs.digit_at.Tie as tie
 
 byte-at-requires : tie.Need-byte-at-requires
 byte-at-requires c κs = search needs

@@ -1,9 +1,9 @@
--- `sheet::ended_at` meets its contract: the tests are those of the definition. Assumes nothing.
+-- `fields::ended_at` meets its contract: the tests are those of the definition. Assumes nothing.
 use borrow.Author.Tests.{lt-ltb, le-ltb, eq-eqb, ne-eqb}
-use Rattle.sheet.specs.Text.{ended-at}
+use Rattle.fields.specs.Fields.{ended-at}
 use borrow.Author.Needs.{needs}
-use Rattle.sheet.proofs.ended_at.Statement.{statement}
-use Rattle.sheet.proofs.ended_at.Tie as tie
+use Rattle.fields.proofs.ended_at.Statement.{statement}
+use Rattle.fields.proofs.ended_at.Tie as tie
 
 shared-slice-read-if2 : tie.Need-shared-slice-read-if2
 shared-slice-read-if2 c = search needs
