@@ -9,7 +9,7 @@ use lib.Arith.{digits-lt}
 use lib.Dec.{ltb, eqb, lit<, lit≤}
 use lib.ListN.{length, getD, List·getD-eq-default}
 use borrow.Author.Tests.{lt-ltb, le-ltb, ltb-true, ltb-false, eq-eqb, ne-eqb}
-use Rattle.fields.specs.Fields.{digit, digit-at, digits-from, ended-by, number-field, after}
+use Rattle.fields.specs.Fields.{digit, digit-at, digits-from, ended-at, ended-by, number-field, after}
 use Rattle.fields.specs.declared.Field.{Field}
 use Rattle.fields.specs.declared.Field.the-variants.{Value, Bad}
 
@@ -81,6 +81,11 @@ module _ (places c : ℕ) (text : List ℕ) (at : ℕ) where
   pub first-not-zero : (digit-at text at ≡ 0 → ⊥) → number-field places c text at ≡ ended-by c text (digits-from 10 1 places text at 0)
   unfolding number-field
   first-not-zero h = simp (ne-eqb (digit-at text at) 0 h)
+
+-- the byte that ends a field
+pub ended : (c : ℕ) (text : List ℕ) (at value : ℕ) → at < length text → getD text at 0 ≡ c → ended-by c text (Value value at) ≡ Value value (at + 1)
+unfolding ended-by ended-at
+ended c text at value h e = simp (lt-ltb at (length text) h, eq-eqb (getD text at 0) c e)
 
 -- ---- field after field: what the code found of a field, and what follows
 
