@@ -4,11 +4,12 @@ use mathlib.Core.Path.{_≡_, refl, sym, ap, subst, _∙_}
 use mathlib.Core.Bool.{Bool, true, false, cond}
 use mathlib.Core.List.{List, [], _∷_, _++_}
 use Prim.Native.Nat.{ℕ, zero, suc, _+_, _-_, _*_, _/_, _%_, _^_, _≤_, _<_}
-use native.Mathlib.Nat.{pow-zero, pow-suc, pow-succ', pow-le-pow-right, one-le-pow, mod-lt, mod-eq-of-lt, one-mul, div-one, div-add-mod', div-lt-iff-lt-mul, le-div-iff-mul-le, div-div-eq-div-mul, le-trans}
+use native.Mathlib.Nat.{pow-zero, pow-suc, pow-succ', pow-le-pow-right, one-le-pow, one-mul}
+use native.Mathlib.Nat.{mod-lt, mod-eq-of-lt, div-one, div-add-mod', div-lt-iff-lt-mul, le-div-iff-mul-le, div-div-eq-div-mul}
 use native.Mathlib.Numerals.{add-one}
 use native.Mathlib.Omega.{arith}
-use borrow.Author.Tests.{lt-ltb, le-ltb, le-leb, lt-leb, ltb-true, ltb-false}
-use lib.Dec.{ltb, lit<, lit≤}
+use borrow.Author.Tests.{ltb-true, ltb-false}
+use lib.Dec.{T, ltb, eqb, eqb→eq, lit<, lit≤}
 use lib.ListN.{length, getD, length-append, List·getD-append}
 use lib.Seq.{append-snoc, getD-append-add, getD-at}
 use Rattle.fields.specs.Fields.{digit, digit-at, digits-from, ended-by, word-field, number-field}
@@ -18,20 +19,39 @@ use Rattle.fields.proofs.Reading.{digit-on, digit-off, digits-full, first-not-z
 use Rattle.page.specs.Page.{glyph, digits, places, decimal, word}
 use Rattle.page.proofs.Digits.{length-digits}
 
--- a digit
-pub digit-read : (d : ℕ) → d < 16 → digit (glyph d) ≡ d
-unfolding glyph digit
-digit-read d h = go (ltb d 10) refl
+-- ---- a digit: each of the sixteen is tried
+
+abbrev pub all-below : (ℕ → Bool) → ℕ → Bool
+all-below f zero = true
+all-below f (suc k) = cond (f k) (all-below f k) false
+
+pub tried : (f : ℕ → Bool) (k : ℕ) → T (all-below f k) → (n : ℕ) → n < k → T (f n)
+tried f zero t n h = absurd (omega arith)
+tried f (suc k) t n h = go (f k) refl t (tried f k)
   where
-    go : (b : Bool) → ltb d 10 ≡ b → digit (cond b (48 + d) (55 + d)) ≡ d
-    go true e =
-        let l : d < 10 = ltb-true d 10 e in
-        simp (le-ltb (48 + d) 48 (omega arith), le-leb (48 + d) 57 (omega arith)) (omega arith)
-    go false e =
-        let l : 10 ≤ d = ltb-false d 10 e in
-        simp
-        (le-ltb (55 + d) 48 (omega arith), lt-leb (55 + d) 57 (omega arith), le-ltb (55 + d) 65 (omega arith), le-leb (55 + d) 70 (omega arith))
-        (omega arith)
+    last : n ≡ k → f k ≡ true → T (f n)
+    last e y = subst (λ (j : ℕ). T (f j)) (sym e) (subst T (sym y) tt)
+
+    go : (b : Bool) → f k ≡ b → T (cond b (all-below f k) false) → (T (all-below f k) → (n : ℕ) → n < k → T (f n)) → T (f n)
+    go true y u i = among (ltb n k) refl
+      where
+        among : (b : Bool) → ltb n k ≡ b → T (f n)
+        among true e = i u n (ltb-true n k e)
+        among false e = let l = ltb-false n k e in last (omega arith) y
+    go false y u i = absurd u
+
+read-right : ℕ → Bool
+read-right d = eqb (digit (glyph d)) d
+
+all-right : T (all-below read-right 16)
+unfolding read-right digit glyph
+all-right = tt
+
+pub digit-read : (d : ℕ) → d < 16 → digit (glyph d) ≡ d
+unfolding read-right
+digit-read d h = eqb→eq (digit (glyph d)) d (tried read-right 16 all-right d h)
+
+-- ---- digits
 
 -- the byte after a text that stands after another
 next-byte : (front text rest : List ℕ) (c k : ℕ) → length text ≡ k → getD (front ++ (text ++ (c ∷ rest))) (length front + k) 0 ≡ c
@@ -43,7 +63,7 @@ same : (base : ℕ) {l l′ m m′ a a′ v v′ : ℕ} {t t′ : List ℕ} → 
 same base p q r s u = cc
 
 -- a quotient has a digit less
-less : (base k n : ℕ) → 0 < base → n < base ^ suc k → n / base < base ^ k
+pub less : (base k n : ℕ) → 0 < base → n < base ^ suc k → n / base < base ^ k
 less base k n b h = div-lt-iff-lt-mul b .1 (subst (λ (q : ℕ). n < q) (pow-suc base k) h)
 
 last-digit : (base k n : ℕ) (rest : List ℕ) → digits base (suc k) n ++ rest ≡ digits base k (n / base) ++ (glyph (n % base) ∷ rest)
@@ -105,7 +125,8 @@ places-enough (suc k) n h = go (ltb n 10) refl (places-enough k (n / 10) (less 1
     go : (b : Bool) → ltb n 10 ≡ b → n / 10 < 10 ^ places k (n / 10) → n < 10 ^ cond b 1 (places k (n / 10) + 1)
     go true e i = ltb-true n 10 e
     go false e i =
-        let p : 10 ^ (places k (n / 10) + 1) ≡ 10 ^ places k (n / 10) * 10 = ap (λ (j : ℕ). 10 ^ j) (add-one (places k (n / 10))) ∙ pow-suc 10 (places k (n / 10)) in
+        let q = places k (n / 10) in
+        let p : 10 ^ (q + 1) ≡ 10 ^ q * 10 = ap (λ (j : ℕ). 10 ^ j) (add-one q) ∙ pow-suc 10 q in
         omega (arith, i, p)
 
 places-needed : (k n : ℕ) → 0 < n → 10 ^ (places k n - 1) ≤ n
@@ -166,13 +187,15 @@ module _ (most n c : ℕ) (front rest : List ℕ) (above : 0 < n) (below : n < 1
       let here : length front ≡ length front + 0 = omega arith in
       let first : getD t (length front) 0 ≡ getD (digits 10 (suc k) n ++ (c ∷ rest)) 0 0 =
       ap (λ (j : ℕ). getD t j 0) here ∙ getD-append-add front (digits 10 (suc k) n ++ (c ∷ rest)) 0 0 in
+      let after : getD t (length front + suc k) 0 ≡ c = next-byte front (digits 10 (suc k) n) rest c (suc k) long in
+      let stops : 10 ≤ digit-at t (length front + suc k) = subst (λ (x : ℕ). 10 ≤ x) (sym (ap digit after)) other in
       let v : 0 * 10 ^ suc k + n ≡ n = omega arith in
       first-not-zero most c t (length front) (λ z. first-above k n (c ∷ rest) l h (ap digit (sym first) ∙ z))
       ∙ ap (λ (f : Field). ended-by c t f)
       (same 10 refl (omega arith) refl refl refl
       ∙ digits-read 10 (lit< tt) (lit≤ tt) (suc k) n 1 (most - suc k) 0 front (c ∷ rest) h
       ∙ same 10 (omega arith) refl refl refl v
-      ∙ digit-off 10 t (length front + suc k) n (most - suc k) (subst (λ (x : ℕ). 10 ≤ x) (sym (ap digit (next-byte front (digits 10 (suc k) n) rest c (suc k) long))) other))
+      ∙ digit-off 10 t (length front + suc k) n (most - suc k) stops)
       ∙ ends front (digits 10 (suc k) n) rest c (suc k) n long
 
   counted : (p : ℕ) → 10 ^ (p - 1) ≤ n → n < 10 ^ p

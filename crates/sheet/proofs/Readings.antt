@@ -100,7 +100,8 @@ module _ (text : List ℕ) where
     unfolding to-the-end
     whole {xs} {at} e h = lines e ∙ simp (eq-eqb at (length text) h)
 
-    pub goes-on : {xs : List Float} {at : ℕ} → lines-from text minutes-a-day from 2 [] ≡ Readings xs at → (at ≡ length text → ⊥) → parsed text ≡ Bad-at (minutes-a-day + 2)
+    pub goes-on : {xs : List Float} {at : ℕ} → lines-from text minutes-a-day from 2 [] ≡ Readings xs at → (at ≡ length text → ⊥)
+        → parsed text ≡ Bad-at (minutes-a-day + 2)
     unfolding to-the-end
     goes-on {xs} {at} e h = lines e ∙ simp (ne-eqb at (length text) h)
 

@@ -22,11 +22,15 @@ sub-result c = search needs
 
 returns-4 : tie.Need-returns-4
 unfolding spec.digit
-returns-4 c = simp (le-ltb _ 48 (c .before .before .before .if1 .left), lt-leb _ 57 (c .before .before .if2 .left), le-ltb _ 65 (c .before .if3 .left), le-leb _ 70 (c .if4 .taken))
+returns-4 c =
+    let b = c .before .before in
+    simp (le-ltb _ 48 (b .before .if1 .left), lt-leb _ 57 (b .if2 .left), le-ltb _ 65 (c .before .if3 .left), le-leb _ 70 (c .if4 .taken))
 
 returns-5 : tie.Need-returns-5
 unfolding spec.digit
-returns-5 c = simp (le-ltb _ 48 (c .before .before .before .if1 .left), lt-leb _ 57 (c .before .before .if2 .left), le-ltb _ 65 (c .before .if3 .left), lt-leb _ 70 (c .if4 .left))
+returns-5 c =
+    let b = c .before .before in
+    simp (le-ltb _ 48 (b .before .if1 .left), lt-leb _ 57 (b .if2 .left), le-ltb _ 65 (c .before .if3 .left), lt-leb _ 70 (c .if4 .left))
 
 pub digit-spec : {M : Type 1} → statement M
 digit-spec = tie.close (tie.spec returns returns-2 returns-3 sub-result returns-4 returns-5)

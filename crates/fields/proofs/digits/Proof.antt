@@ -84,13 +84,15 @@ loop-again c =
     let l = c .before .before .before .loop in
     let e = c .before .digit-at .ensures in
     let h : digit-at (a .text .now) (l .at) < a .base = subst (λ (d : ℕ). d < a .base) e (c .if1 .left) in
+    let d = digit-at (a .text .now) (l .at) in
+    let v = ap (λ (x : ℕ). l .value * a .base + x) (sym e) in
     let p : a .least - l .count - 1 ≡ a .least - (l .count + 1) = omega arith in
     let q : a .most - l .count - 1 ≡ a .most - (l .count + 1) = omega arith in (
       l .inv .0
           ∙ digit-on (a .base) (a .text .now) (l .at) (l .value) (a .least - l .count) (a .most - l .count) (omega arith) h
-          ∙ ap (λ (k : ℕ). digits-from (a .base) k (a .most - l .count - 1) (a .text .now) (l .at + 1) (l .value * a .base + digit-at (a .text .now) (l .at))) p
-          ∙ ap (λ (k : ℕ). digits-from (a .base) (a .least - (l .count + 1)) k (a .text .now) (l .at + 1) (l .value * a .base + digit-at (a .text .now) (l .at))) q
-          ∙ ap (λ (d : ℕ). digits-from (a .base) (a .least - (l .count + 1)) (a .most - (l .count + 1)) (a .text .now) (l .at + 1) (l .value * a .base + d)) (sym e),
+          ∙ ap (λ (k : ℕ). digits-from (a .base) k (a .most - l .count - 1) (a .text .now) (l .at + 1) (l .value * a .base + d)) p
+          ∙ ap (λ (k : ℕ). digits-from (a .base) (a .least - (l .count + 1)) k (a .text .now) (l .at + 1) (l .value * a .base + d)) q
+          ∙ ap (λ (x : ℕ). digits-from (a .base) (a .least - (l .count + 1)) (a .most - (l .count + 1)) (a .text .now) (l .at + 1) x) v,
       omega arith,
       grows (a .base) (l .count) (l .value) (c .before .digit-at .result) (l .inv .2) (c .if1 .left),
     )
