@@ -1,5 +1,5 @@
 #!/usr/bin/env python3
-"""Writes the stored days and the texts that are none, into the crates that run them.
+"""Writes the stored days and the texts that are none, into the crates that run them (crates/days/args names each).
 
 A day is half a sine of sunlight with clouds, drawn from a fixed sequence, so that every run writes the same bytes. Among the readings stand odd
 ones, as a meter gives them: a NaN, infinities, a negative one, a subnormal one, and a huge one near the end. One day has no sun and one NaN.
@@ -101,9 +101,6 @@ def write(path, text):
 
 if __name__ == "__main__":
     write("crates/day/stdin", RKL2)
-    write("crates/day_junctions/stdin", RKL2)
-    write("crates/day_rkc/stdin", RKC)
-    for name, text in texts().items():
-        write("crates/day_texts/data/" + name, text)
-    write("crates/day_texts/data/nan_at_120", NAN_AT_120)
-    write("crates/day_texts/data/bad_readings", BAD_READINGS)
+    days = {"rkl2": RKL2, "rkc": RKC, "nan_at_120": NAN_AT_120, "bad_readings": BAD_READINGS}
+    for name, text in {**days, **texts()}.items():
+        write("crates/days/data/" + name, text)

@@ -2,7 +2,7 @@
 """Draws the figures of docs/, from the project's own numbers: python3 docs/figures/make.py, in the project's root.
 
 multipliers.svg: the multiplier of each family of orthogonal.rs at s = 9, over its interval, by exact fractions (document 01's recurrence).
-day.svg: the junction temperature of the stored day (crates/day_junctions/stdout) and its rated temperature (crates/day/stdin).
+day.svg: the junction temperature of the stored day (the last lines of crates/days/stdout) and its rated temperature (crates/day/stdin).
 """
 import struct
 from fractions import Fraction as F
@@ -85,7 +85,7 @@ def double(word):
 def day(last=1437):
     """The minutes before the huge reading."""
     rated = double(open("crates/day/stdin").readline().split()[7])
-    temperatures = [double(line) for line in open("crates/day_junctions/stdout")][:last]
+    temperatures = [double(line) for line in open("crates/days/stdout").readlines()[-1440:]][:last]
     top = 5 * (int(max(temperatures + [rated])) // 5 + 1)
     return drawing("Junction temperature over the stored day", (0, 1440), (20, top), [(60 * h, f"{h}:00") for h in range(0, 25, 4)],
                    [(t, f"{t} °C") for t in range(20, top + 1, 5)], [("junction", list(enumerate(temperatures, 1)))], [(f"rated, {rated:g} °C", rated)])

@@ -1,3 +1,2 @@
-mod Fields
 pub mod Readings
 pub mod Soundness

@@ -8,15 +8,15 @@ use native.Mathlib.Numerals.{add-one}
 use lib.ListN.{length, take, set}
 use lib.Seq.{take-suc-set}
 use lib.Ieee.{Float}
-use Rattle.sheet.specs.Text.{line-end, word-field, after, double-of-bits, Lined, Readings, Bad-line, lines-from, Fills, minutes-a-day, Parsed, Day, Bad-at, to-the-end, after-head, parsed, first-line, Reads}
+use Rattle.sheet.specs.Text.{line-end, double-of-bits, Lined, Readings, Bad-line, lines-from, Fills, minutes-a-day, Parsed, Day, Bad-at, to-the-end, after-head, parsed, first-line, Reads}
 use Rattle.heat_sink.specs.declared.Inverter.{Inverter}
-use Rattle.sheet.specs.declared.Field.the-variants.{Value, Bad}
+use Rattle.fields.specs.Fields.{word-field, after}
+use Rattle.fields.specs.declared.Field.the-variants.{Value, Bad}
 use Rattle.sheet.specs.declared.Head.the-variants.{Line, Malformed}
 use Rattle.sheet.specs.declared.Lines.{Lines}
 use Rattle.sheet.specs.declared.Lines.the-variants.{Read, BadLine}
 use Rattle.sheet.specs.declared.Sheet.{Sheet}
 use Rattle.sheet.specs.declared.Sheet.the-variants.{Whole, Broken}
-use Rattle.sheet.proofs.Fields.{one-less}
 
 -- one line
 module _ (text : List ℕ) (at line : ℕ) (xs : List Float) where
@@ -24,7 +24,8 @@ module _ (text : List ℕ) (at line : ℕ) (xs : List Float) where
       → lines-from text k at line xs ≡ lines-from text (k - 1) next (line + 1) (xs ++ (double-of-bits value ∷ []))
   unfolding lines-from after
   line-on zero value next p e = absurd (omega arith)
-  line-on (suc k) value next p e = rw e (ap (λ (j : ℕ). lines-from text j next (line + 1) (xs ++ (double-of-bits value ∷ []))) (one-less k))
+  line-on (suc k) value next p e = let l : k ≡ suc k - 1 = omega arith in
+      rw e (ap (λ (j : ℕ). lines-from text j next (line + 1) (xs ++ (double-of-bits value ∷ []))) l)
 
   pub line-off : (k : ℕ) → 0 < k → word-field line-end text at ≡ Bad → lines-from text k at line xs ≡ Bad-line line
   unfolding lines-from after
@@ -99,7 +100,8 @@ module _ (text : List ℕ) where
     unfolding to-the-end
     whole {xs} {at} e h = lines e ∙ simp (eq-eqb at (length text) h)
 
-    pub goes-on : {xs : List Float} {at : ℕ} → lines-from text minutes-a-day from 2 [] ≡ Readings xs at → (at ≡ length text → ⊥) → parsed text ≡ Bad-at 1442
+    pub goes-on : {xs : List Float} {at : ℕ} → lines-from text minutes-a-day from 2 [] ≡ Readings xs at → (at ≡ length text → ⊥)
+        → parsed text ≡ Bad-at (minutes-a-day + 2)
     unfolding to-the-end
     goes-on {xs} {at} e h = lines e ∙ simp (ne-eqb at (length text) h)
 

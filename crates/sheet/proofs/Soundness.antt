@@ -1,4 +1,4 @@
--- What is read as a day has 1 to 512 temperatures, since line 1 is tested for it, and 1,440 readings, one a line. Assumes nothing.
+-- What is read as a day has 1 to `most-temperatures` of them, since line 1 is tested for it, and `minutes-a-day` readings, one a line. Assumes nothing.
 use mathlib.Core.Path.{_≡_, refl, subst}
 use mathlib.Core.Bool.{Bool, true, false, cond, _&&_}
 use mathlib.Core.List.{List, [], _∷_, _++_}
@@ -11,11 +11,12 @@ use lib.Ieee.{Float}
 use Rattle.ieee.proofs.Logic.{both}
 use Rattle.family.specs.Family.{known}
 use Rattle.heat_sink.specs.declared.Inverter.{Inverter}
-use Rattle.sheet.specs.declared.Field.{Field}
-use Rattle.sheet.specs.declared.Field.the-variants.{Value, Bad}
+use Rattle.fields.specs.Fields.{word-field, after}
+use Rattle.fields.specs.declared.Field.{Field}
+use Rattle.fields.specs.declared.Field.the-variants.{Value, Bad}
 use Rattle.sheet.specs.declared.Head.{Head}
 use Rattle.sheet.specs.declared.Head.the-variants.{Line, Malformed}
-use Rattle.sheet.specs.Text.{line-end, word-field, double-of-bits, after, finite-constants, sound, if-sound, constants, first-line, Lined, Readings, Bad-line, lines-from, minutes-a-day, Day, Bad-at, to-the-end, after-head, parsed}
+use Rattle.sheet.specs.Text.{most-temperatures, line-end, double-of-bits, finite-constants, sound, if-sound, constants, first-line, Lined, Readings, Bad-line, lines-from, minutes-a-day, Day, Bad-at, to-the-end, after-head, parsed}
 
 unfoldable Sound : Head → Type 0
 Sound (Line m at) = sound m ≡ true
@@ -59,7 +60,7 @@ ended-sound : (text : List ℕ) (m′ m : Inverter) (xs : List Float) (l : Lined
 unfolding to-the-end
 ended-sound text m′ m xs (Readings ys at) e s = go (eqb at (length text)) e
   where
-    go : (b : Bool) → cond b (Day m′ ys) (Bad-at 1442) ≡ Day m xs → sound m ≡ true
+    go : (b : Bool) → cond b (Day m′ ys) (Bad-at (minutes-a-day + 2)) ≡ Day m xs → sound m ≡ true
     go true e = let q : m′ ≡ m = cc in subst (λ (x : Inverter). sound x ≡ true) q s
     go false e = let z : _≡_ {A = ℕ} 0 1 = cc in absurd (omega arith)
 ended-sound text m′ m xs (Bad-line line) e s = let z : _≡_ {A = ℕ} 0 1 = cc in absurd (omega arith)
@@ -69,15 +70,15 @@ unfolding after-head Sound
 read-sound text m xs (Line m′ at) s e = ended-sound text m′ m xs (lines-from text minutes-a-day at 2 []) e s
 read-sound text m xs Malformed s e = let z : _≡_ {A = ℕ} 0 1 = cc in absurd (omega arith)
 
-sizes : (m : Inverter) → sound m ≡ true → (1 ≤ m .n) × (m .n ≤ 512)
+sizes : (m : Inverter) → sound m ≡ true → (1 ≤ m .n) × (m .n ≤ most-temperatures)
 unfolding sound
 sizes m e =
-    let a = both (known (m .family) && leb 1 (m .n) && leb (m .n) 512) (finite-constants m) e in
-    let b = both (known (m .family) && leb 1 (m .n)) (leb (m .n) 512) (a .0) in
+    let a = both (known (m .family) && leb 1 (m .n) && leb (m .n) most-temperatures) (finite-constants m) e in
+    let b = both (known (m .family) && leb 1 (m .n)) (leb (m .n) most-temperatures) (a .0) in
     let c = both (known (m .family)) (leb 1 (m .n)) (b .0) in
-    (leb-true 1 (m .n) (c .1), leb-true (m .n) 512 (b .1))
+    (leb-true 1 (m .n) (c .1), leb-true (m .n) most-temperatures (b .1))
 
-pub day-sizes : (text : List ℕ) (m : Inverter) (xs : List Float) → parsed text ≡ Day m xs → (1 ≤ m .n) × (m .n ≤ 512)
+pub day-sizes : (text : List ℕ) (m : Inverter) (xs : List Float) → parsed text ≡ Day m xs → (1 ≤ m .n) × (m .n ≤ most-temperatures)
 unfolding parsed
 day-sizes text m xs e = sizes m (read-sound text m xs (first-line text) (head-sound text) e)
 
@@ -105,7 +106,7 @@ ended-grown : (text : List ℕ) (m′ m : Inverter) (n : ℕ) (xs : List Float) 
 unfolding to-the-end Grown
 ended-grown text m′ m n xs (Readings ys at) g e = go (eqb at (length text)) e
   where
-    go : (b : Bool) → cond b (Day m′ ys) (Bad-at 1442) ≡ Day m xs → length xs ≡ n
+    go : (b : Bool) → cond b (Day m′ ys) (Bad-at (minutes-a-day + 2)) ≡ Day m xs → length xs ≡ n
     go true e = let q : ys ≡ xs = cc in subst (λ (l : List Float). length l ≡ n) q g
     go false e = let z : _≡_ {A = ℕ} 0 1 = cc in absurd (omega arith)
 ended-grown text m′ m n xs (Bad-line line) g e = let z : _≡_ {A = ℕ} 0 1 = cc in absurd (omega arith)

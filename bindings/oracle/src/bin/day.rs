@@ -1,5 +1,5 @@
 //! A day driven through the Rust: what the program `day` writes of the text on standard input (a day that is not
-//! malformed), or with the argument `junctions` what the program `day_junctions` writes of it.
+//! malformed), or with the argument `junctions` the junction temperatures that the program `days` writes of it.
 //!
 //! The same model and the same order of calls: each minute begins with `accept_step`, or with `initialize` on a kernel made
 //! anew where the last attempt was refused, and goes on with one attempt of 60 seconds. The candidate is evaluated with the

@@ -1,6 +1,6 @@
 -- `sheet::constants` meets its contract: field after field, by the contract of `word_field`. Assumes nothing.
 use Rattle.sheet.specs.Text.{constants}
-use Rattle.sheet.proofs.Fields.{on, off}
+use Rattle.fields.proofs.Reading.{on, off}
 use borrow.Author.Needs.{needs}
 use Rattle.sheet.proofs.constants.Statement.{statement}
 use Rattle.sheet.proofs.constants.Tie as tie

@@ -1,6 +1,6 @@
 -- `sheet::first_line` meets its contract: field after field, by the contracts of `number_field` and `constants`. Assumes nothing.
 use Rattle.sheet.specs.Text.{first-line}
-use Rattle.sheet.proofs.Fields.{on, off}
+use Rattle.fields.proofs.Reading.{on, off}
 use borrow.Author.Needs.{needs}
 use Rattle.sheet.proofs.first_line.Statement.{statement}
 use Rattle.sheet.proofs.first_line.Tie as tie

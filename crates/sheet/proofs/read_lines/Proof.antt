@@ -6,7 +6,8 @@ use native.Mathlib.Omega.{arith}
 use lib.ListN.{length, take, length-set}
 use lib.Seq.{take-all}
 use borrow.Author.Needs.{needs}
-use Rattle.sheet.specs.Text.{line-end, word-field, lines-from}
+use Rattle.fields.specs.Fields.{word-field}
+use Rattle.sheet.specs.Text.{line-end, lines-from}
 use Rattle.sheet.proofs.Readings.{line-turn, line-off, line-none, fills-read, fills-bad}
 use Rattle.sheet.proofs.read_lines.Statement.{statement}
 use Rattle.sheet.proofs.read_lines.Tie as tie

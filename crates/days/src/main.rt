@@ -1,0 +1,34 @@
+// The texts that the arguments name, each with what is written of it as a day; at the end the junction temperatures of the first.
+// The longest day is 24,588 bytes, and the first bad line of a longer text is among its first 65,536.
+use libc::STDOUT_FILENO;
+
+fn write_text(argument: usize, junctions: bool) {
+    let mut name = io::buffer();
+    let length = os::arg(argument, &mut name);
+    let file = os::open_read(&name[..length]);
+    if file < 0 {
+        os::fail(&name[..length]);
+        return;
+    }
+    let mut text = io::large_buffer();
+    let n = io::read_full(file, &mut text);
+    libc::close(file);
+    io::write_all(STDOUT_FILENO, &name[..length]);
+    if junctions {
+        io::write_all(STDOUT_FILENO, b", junctions:\n");
+        daily::junctions(&text[..n]);
+        return;
+    }
+    io::write_all(STDOUT_FILENO, b": ");
+    daily::day(&text[..n]);
+}
+
+fn main() {
+    let count = os::arg_count();
+    let mut i = 1;
+    while i < count {
+        write_text(i, false);
+        i += 1;
+    }
+    write_text(1, true);
+}
