@@ -9,7 +9,7 @@ use lib.Dec.{ltb, eqb}
 use lib.ListN.{length, getD}
 use lib.Ieee.{Float, nan}
 use Rattle.ieee.specs.Double.{_⊕_}
-use Rattle.family.specs.Family.{Family, family-of}
+use Rattle.family.specs.Family.{Family}
 use Rattle.coefficients.specs.Rows.{coefficients, next}
 use Rattle.workspace.specs.Vectors.{Vectors, number, unpack, vector-count, all-finite, candidate}
 use Rattle.workspace.specs.Kernel.{turned, radius-of, ended, scaled, with-row, exchanged, with-candidate}
@@ -25,7 +25,7 @@ use Rattle.driver.specs.declared.Replied.{Replied}
 use Rattle.driver.specs.declared.Answer.{Answer}
 use Rattle.driver.specs.declared.Answer.the-variants.{Evaluate, Finished, Ready, Refused, Empty}
 use Rattle.driver.specs.Answers.{case-number, Values, case-values, Says}
-use Rattle.driver.specs.Calls.{Held, Called, Step, step-to, in-phase, at-pass, at-stage, stage-need, ask-pass, ask-stage, by-need, begin-stages, take-first, take-callback, take-pass, ask-candidate, take-stage, replied, finishes, room, has-room, one-more, counted, going-on, spoiled, settled}
+use Rattle.driver.specs.Calls.{Held, Called, Step, step-to, in-phase, at-pass, at-stage, stage-need, ask-pass, ask-stage, by-need, begin-stages, take-first, take-callback, take-pass, ask-candidate, take-stage, replied, finishes, room, has-room, one-more, counted, going-on, spoiled, settled, setting-of}
 use Rattle.driver.specs.Promises.{Meets, Steps}
 use Rattle.driver.proofs.Ladder.{says}
 use Rattle.driver.proofs.Sizes.{both}
@@ -80,12 +80,11 @@ pass-goes r v d =
     let i = r .iteration in
     let w = turned (r .n) v d in
     let radius = radius-of (i .perturbation) w in
-    let f = family-of (r .family) in
     let big = scaled (r .arguments .step) radius in
     either (ended (i .pass) (i .«previous_radius») radius || eqb (i .pass) 12)
     (begin-stages r w big)
     (ask-pass (at-pass (r .arguments) (i .pass + 1) (i .perturbation) radius r) w)
-    (need-goes (stage-need f big) r w big)
+    (need-goes (stage-need (setting-of r) big) r w big)
     (asks _ _ _ _)
 
 candidate-goes : (r : Record) (v : Vectors) → Goes (ask-candidate r v)
@@ -101,16 +100,17 @@ candidate-goes r v =
 stage-goes : (r : Record) (v : Vectors) (d : List Float) → Goes (take-stage r v d)
 unfolding take-stage ask-stage
 stage-goes r v d =
-    let f = family-of (r .family) in
+    let m = setting-of r in
     let s = r .staging .stages in
     let j = r .staging .stage in
-    let row = coefficients f s j (r .staging .recurrence) in
-    let w = with-row f (r .n) (r .arguments .step) row v d in
+    let c = r .staging .recurrence in
+    let row = coefficients m s j c in
+    let w = with-row m (r .n) (r .arguments .step) row v d in
     either (ltb j s)
-    (ask-stage (at-stage s (j + 1) (next f s (r .staging .recurrence) row) r) (exchanged w))
-    (ask-candidate r (with-candidate w))
+    (ask-stage (at-stage s (j + 1) (next m s c row) r) (exchanged w))
+    (ask-candidate r (with-candidate m (r .n) (r .arguments .step) s c row w))
     (asks _ _ _ _)
-    (candidate-goes r (with-candidate w))
+    (candidate-goes r (with-candidate m (r .n) (r .arguments .step) s c row w))
 
 -- only a reply to the candidate's evaluation says finished
 pub finishing : (p : Phase) (r : Record) (v : Vectors) (d : List Float) → case-number (replied p r v d .answer) ≡ 2 → finishes p ≡ true

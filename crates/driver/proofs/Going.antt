@@ -16,7 +16,7 @@ use Rattle.driver.specs.declared.Counters.{Counters}
 use Rattle.driver.specs.declared.Replied.{Replied}
 use Rattle.driver.specs.declared.Staged.{Staged}
 use Rattle.driver.specs.declared.Staged.the-variants.{Elsewhere, On, Ended, NotFinite}
-use Rattle.driver.specs.Calls.{Called, sized, whole-area, as-long, pending, in-range, good-stage, awaiting, finishes, room, has-room}
+use Rattle.driver.specs.Calls.{Called, sized, whole-area, as-long, pending, in-range, good-stage, awaiting, finishes, room, has-room, setting-of}
 use Rattle.driver.specs.Calls.{reply-tests, reply, replied, take-stage, one-more, counted}
 use Rattle.driver.specs.Promises.{Meets, Steps, Within, holding, in-stages, stage-taken, of-stages, outcome-of}
 use Rattle.driver.proofs.Ladder.{Passing, admits, admitted-meets}
@@ -32,7 +32,7 @@ pub record Passed (r : Record) (c : Counters) (area d : List Float) : Type 0 whe
   pub phase : r .phase ≡ P.Stage
   pub more : room (c .evaluations) ≡ true
   pub lengths : (whole-area (r .family) (r .n) area && as-long (r .n) d) ≡ true
-  pub place : good-stage (r .family) (r .staging .stages) (r .staging .stage) ≡ true
+  pub place : good-stage (setting-of r) (r .staging .stages) (r .staging .stage) ≡ true
   pub finite : all-finite d ≡ true
 
 is-stage : (p : Phase) → in-stages p ≡ true → p ≡ P.Stage
@@ -64,7 +64,7 @@ passed r c area d e =
 
 -- ---- the reply
 
-awaits : (r : Record) → r .phase ≡ P.Stage → good-stage (r .family) (r .staging .stages) (r .staging .stage) ≡ true → awaiting r ≡ true
+awaits : (r : Record) → r .phase ≡ P.Stage → good-stage (setting-of r) (r .staging .stages) (r .staging .stage) ≡ true → awaiting r ≡ true
 unfolding awaiting pending in-range
 awaits r e g = ap (λ (p : Phase). pending p && in-range p r) e ∙ g
 

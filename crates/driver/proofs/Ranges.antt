@@ -5,18 +5,20 @@ use Prim.Native.Nat.{ℕ, _≤_}
 use borrow.Author.Tests.{leb-true}
 use lib.Dec.{T, leb}
 use lib.Ieee.{Float}
-use Rattle.family.specs.Family.{Family, family-of, permitted, stage-count}
-use Rattle.family.proofs.Range.{permitted-range}
+use Rattle.family.specs.declared.Setting.{Setting}
+use Rattle.family.specs.Family.{kind, stage-count}
+use Rattle.family.proofs.Range.{most-stages, permitted-range}
 use Rattle.family.proofs.Counts.{stage-count-permitted}
 use Rattle.driver.specs.declared.Phase.the-variants as P
 use Rattle.driver.specs.declared.Record.{Record}
 use Rattle.driver.specs.declared.Need.{Need}
 use Rattle.driver.specs.declared.Need.the-variants.{Met, Unmet}
-use Rattle.driver.specs.Calls.{in-range, stage-need}
+use Rattle.driver.specs.Calls.{setting-of, permits, in-range, stage-need}
 use Rattle.driver.proofs.Sizes.{both}
 
-permitted-most : (f : Family) (s : ℕ) → permitted f s ≡ true → s ≤ 200
-permitted-most f s e = permitted-range f s (subst T (sym e) tt) .1
+permitted-most : (m : Setting) (s : ℕ) → permits m s ≡ true → s ≤ most-stages
+unfolding permits
+permitted-most m s e = permitted-range (kind m) s (subst T (sym e) tt) .1
 
 pub pass-in : (r : Record) → in-range P.Pass r ≡ true → r .iteration .pass ≤ 12
 unfolding in-range
@@ -25,23 +27,25 @@ pass-in r e = let k = r .iteration .pass in leb-true k 12 (both (leb 1 k) (leb k
 pub record Staged (s j : ℕ) : Type 0 where
   pub from : 2 ≤ j
   pub to : j ≤ s
-  pub most : s ≤ 200
+  pub most : s ≤ most-stages
 
 pub stage-in : (r : Record) → in-range P.Stage r ≡ true → Staged (r .staging .stages) (r .staging .stage)
 unfolding in-range
 stage-in r e =
-    let f = family-of (r .family) in
+    let m = setting-of r in
     let s = r .staging .stages in
     let j = r .staging .stage in
-    let t = both (permitted f s) (leb 2 j && leb j s) e in
+    let t = both (permits m s) (leb 2 j && leb j s) e in
     let u = both (leb 2 j) (leb j s) (t .1) in
-    record { from = leb-true 2 j (u .0); to = leb-true j s (u .1); most = permitted-most f s (t .0) }
+    record { from = leb-true 2 j (u .0); to = leb-true j s (u .1); most = permitted-most m s (t .0) }
 
 -- the stages of a need that is met
 count : Need → ℕ
 count (Met s) = s
 count (Unmet i) = 0
 
-pub need-most : (f : Family) (radius : Float) (s : ℕ) → Met s ≡ stage-need f radius → s ≤ 200
+pub need-most : (m : Setting) (radius : Float) (s : ℕ) → Met s ≡ stage-need m radius → s ≤ most-stages
 unfolding stage-need count
-need-most f radius s e = subst (λ (k : ℕ). k ≤ 200) (sym (ap count e)) (permitted-range f (stage-count f radius) (stage-count-permitted f radius) .1)
+need-most m radius s e =
+    let f = kind m in
+    subst (λ (k : ℕ). k ≤ most-stages) (sym (ap count e)) (permitted-range f (stage-count f radius) (stage-count-permitted f radius) .1)

@@ -10,7 +10,8 @@ use lib.Dec.{eqb}
 use lib.ListN.{length}
 use lib.Ieee.{Float}
 use Rattle.ieee.specs.Double.{_⊕_, nought}
-use Rattle.family.specs.Family.{Family, family-of}
+use Rattle.family.specs.declared.Setting.{Setting}
+use Rattle.family.specs.Family.{Family}
 use Rattle.coefficients.specs.declared.Coefficients.{Coefficients}
 use Rattle.coefficients.specs.declared.Recurrence.{Recurrence}
 use Rattle.coefficients.specs.Rows.{recurrence, coefficients, next}
@@ -23,7 +24,7 @@ use Rattle.driver.specs.declared.Phase.the-variants as P
 use Rattle.driver.specs.declared.Record.{Record}
 use Rattle.driver.specs.declared.Next.{Next}
 use Rattle.driver.specs.declared.Need.the-variants.{Met}
-use Rattle.driver.specs.Calls.{Step, going-on, with-radius, at-pass, at-stage, ask-pass, ask-stage, by-need, begin-stages, take-first, take-pass, ask-candidate, take-stage, replied}
+use Rattle.driver.specs.Calls.{Step, going-on, with-radius, at-pass, at-stage, ask-pass, ask-stage, by-need, begin-stages, take-first, take-pass, ask-candidate, take-stage, replied, setting-of}
 use Rattle.driver.proofs.Phase as Phases
 use Rattle.driver.specs.declared.Staged.the-variants.{Ended, NotFinite}
 use Rattle.driver.specs.Promises.{Keeps, Steps, in-stages, outcome-of}
@@ -53,11 +54,11 @@ attempts r v a {w = w} e m p t =
 
 -- the stages begin
 pub begun : (r : Record) (v : Vectors) (radius : Float) (s : ℕ) {c : Recurrence} {known made : Record} {x : Next} {w : Vectors}
-    → c ≡ recurrence (family-of (r .family)) s → known ≡ with-radius radius r → made ≡ at-stage s 2 c known
+    → c ≡ recurrence (setting-of r) s → known ≡ with-radius radius r → made ≡ at-stage s 2 c known
     → w ≡ first-stage (r .n) (r .arguments .step) (c .«theta_previous») v → Steps (ask-stage made w) x w → Steps (by-need (Met s) r v radius) x w
 unfolding by-need
 begun r v radius s {c} {w = w} e k m p t =
-    let c₀ = recurrence (family-of (r .family)) s in
+    let c₀ = recurrence (setting-of r) s in
     as-step
     (ap (λ (y : Record). ask-stage y w) (m ∙ ap (at-stage s 2 c) k ∙ ap (λ (y : Recurrence). at-stage s 2 y (with-radius radius r)) e)
     ∙ ap (ask-stage (at-stage s 2 c₀ (with-radius radius r))) (p ∙ ap (λ (y : Recurrence). first-stage (r .n) (r .arguments .step) (y .«theta_previous») v) e))
@@ -100,42 +101,51 @@ module _ (r : Record) (v : Vectors) (d : List Float) where
       ∙ pass-is w radius e f)
       m
 
-  abbrev f : Family
-  f = family-of (r .family)
-
   abbrev row-of : Coefficients
-  row-of = coefficients f (r .staging .stages) (r .staging .stage) (r .staging .recurrence)
+  row-of = coefficients (setting-of r) (r .staging .stages) (r .staging .stage) (r .staging .recurrence)
 
-  -- the vectors after the row
-  abbrev rowed : Vectors
-  rowed = with-row f (r .n) (r .arguments .step) row-of v d
+  abbrev rowed : Setting → Coefficients → Vectors
+  rowed m c = with-row m (r .n) (r .arguments .step) c v d
+
+  abbrev kept : Setting → Coefficients → Vectors → Vectors
+  kept m c u = with-candidate m (r .n) (r .arguments .step) (r .staging .stages) (r .staging .recurrence) c u
 
   abbrev staged : Bool → Step
-  staged b = cond b (ask-stage (at-stage (r .staging .stages) (r .staging .stage + 1) (next f (r .staging .stages) (r .staging .recurrence) row-of) r) (exchanged rowed)) (ask-candidate r (with-candidate rowed))
+  staged b =
+      cond b
+      (ask-stage (at-stage (r .staging .stages) (r .staging .stage + 1) (next (setting-of r) (r .staging .stages) (r .staging .recurrence) row-of) r) (exchanged (rowed (setting-of r) row-of)))
+      (ask-candidate r (kept (setting-of r) row-of (rowed (setting-of r) row-of)))
 
   -- below stage s
-  pub stages-on : {c : Coefficients} {on : Recurrence} {made : Record} {x : Next} {w : Vectors}
-      → c ≡ coefficients (family-of (r .family)) (r .staging .stages) (r .staging .stage) (r .staging .recurrence) → r .staging .stage < r .staging .stages
-      → w ≡ exchanged (with-row (family-of (r .family)) (r .n) (r .arguments .step) c v d) → on ≡ next (family-of (r .family)) (r .staging .stages) (r .staging .recurrence) c
+  pub stages-on : {m : Setting} {c : Coefficients} {on : Recurrence} {made : Record} {x : Next} {w : Vectors} → m ≡ setting-of r
+      → c ≡ coefficients m (r .staging .stages) (r .staging .stage) (r .staging .recurrence) → r .staging .stage < r .staging .stages
+      → w ≡ exchanged (with-row m (r .n) (r .arguments .step) c v d) → on ≡ next m (r .staging .stages) (r .staging .recurrence) c
       → made ≡ at-stage (r .staging .stages) (r .staging .stage + 1) on r → Steps (ask-stage made w) x w → Steps (take-stage r v d) x w
   unfolding take-stage
-  stages-on {w = w} e h p q m t =
+  stages-on {m} {c} {w = w} b e h p q k t =
       let s = r .staging .stages in
       let j = r .staging .stage in
+      let f = r .staging .recurrence in
+      let row = e ∙ ap (λ (y : Setting). coefficients y s j f) b in
+      let vectors = p ∙ ap (λ (y : Setting). exchanged (rowed y c)) b ∙ ap (λ (y : Coefficients). exchanged (rowed (setting-of r) y)) row in
+      let carried = q ∙ ap (λ (y : Setting). next y s f c) b ∙ ap (next (setting-of r) s f) row in
       as-step
-      (ap (λ (y : Record). ask-stage y w) (m ∙ ap (λ (y : Recurrence). at-stage s (j + 1) y r) (q ∙ ap (next f s (r .staging .recurrence)) e))
-      ∙ ap (ask-stage (at-stage s (j + 1) (next f s (r .staging .recurrence) row-of) r)) (p ∙ ap (λ (y : Coefficients). exchanged (with-row f (r .n) (r .arguments .step) y v d)) e)
+      (ap (λ (y : Record). ask-stage y w) (k ∙ ap (λ (y : Recurrence). at-stage s (j + 1) y r) carried)
+      ∙ ap (ask-stage (at-stage s (j + 1) (next (setting-of r) s f row-of) r)) vectors
       ∙ sym (ap staged (lt-ltb j s h)))
       t
 
   -- at stage s
-  pub stages-end : {c : Coefficients} {x : Next} {u w : Vectors}
-      → c ≡ coefficients (family-of (r .family)) (r .staging .stages) (r .staging .stage) (r .staging .recurrence) → r .staging .stages ≤ r .staging .stage
-      → u ≡ with-row (family-of (r .family)) (r .n) (r .arguments .step) c v d → w ≡ with-candidate u → Steps (ask-candidate r w) x w → Steps (take-stage r v d) x w
+  pub stages-end : {m : Setting} {c : Coefficients} {x : Next} {u w : Vectors} → m ≡ setting-of r
+      → c ≡ coefficients m (r .staging .stages) (r .staging .stage) (r .staging .recurrence) → r .staging .stages ≤ r .staging .stage
+      → u ≡ with-row m (r .n) (r .arguments .step) c v d
+      → w ≡ with-candidate m (r .n) (r .arguments .step) (r .staging .stages) (r .staging .recurrence) c u → Steps (ask-candidate r w) x w → Steps (take-stage r v d) x w
   unfolding take-stage
-  stages-end e h p q t =
+  stages-end {m} {c} b e h p q t =
+      let row = e ∙ ap (λ (y : Setting). coefficients y (r .staging .stages) (r .staging .stage) (r .staging .recurrence)) b in
       as-step
-      (ap (ask-candidate r) (q ∙ ap with-candidate (p ∙ ap (λ (y : Coefficients). with-row f (r .n) (r .arguments .step) y v d) e))
+      (ap (ask-candidate r)
+      (q ∙ ap (kept m c) p ∙ ap (λ (y : Setting). kept y c (rowed y c)) b ∙ ap (λ (y : Coefficients). kept (setting-of r) y (rowed (setting-of r) y)) row)
       ∙ sym (ap staged (le-ltb (r .staging .stage) (r .staging .stages) h)))
       t
 

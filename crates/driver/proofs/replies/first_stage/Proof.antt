@@ -1,8 +1,14 @@
 -- `first_stage` meets its contract: the recurrence and stage 1 are those of the definition.
+use mathlib.Core.Path.{ap, _∙_}
+use Rattle.family.specs.declared.Setting.{Setting}
+use Rattle.coefficients.specs.Rows.{recurrence}
 use borrow.Author.Needs.{needs}
 use Rattle.driver.proofs.Steps.{begun}
 use Rattle.driver.proofs.replies.first_stage.Statement.{statement}
 use Rattle.driver.proofs.replies.first_stage.Tie as tie
+
+setting-of-requires : tie.Need-setting-of-requires
+setting-of-requires c κs = search needs
 
 first-recurrence-requires : tie.Need-first-recurrence-requires
 first-recurrence-requires c κs = search needs
@@ -24,13 +30,15 @@ same-length c = search needs
 
 returns : tie.Need-returns
 returns c =
-    let a = c .before .before .before .before .before .before .before .before .before .args in
-    begun (a .«record») _ (a .scaled-radius) (a .stages) (c .before .before .before .before .before .before .before .first-recurrence .ensures) (c .before .before .with-radius .ensures) (c .before .at-stage .ensures) (c .before .before .before .before .before .first-stage .ensures .vectors) (c .ask-stage .ensures _)
+    let a = c .before .before .before .before .before .before .before .before .before .before .args in
+    let row = c .before .before .before .before .before .before .before .first-recurrence .ensures ∙ ap (λ (m : Setting). recurrence m (a .stages)) (c .before .before .before .before .before .before .before .before .setting-of .ensures) in
+    begun (a .«record») _ (a .scaled-radius) (a .stages) row (c .before .before .with-radius .ensures) (c .before .at-stage .ensures) (c .before .before .before .before .before .first-stage .ensures .vectors) (c .ask-stage .ensures _)
 
 pub first-stage-spec : {M : Type 1} → statement M
 first-stage-spec =
     tie.close
     (tie.spec
+    setting-of-requires
     first-recurrence-requires
     first-stage-requires
     with-radius-requires

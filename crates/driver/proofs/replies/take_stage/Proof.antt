@@ -9,6 +9,9 @@ use Rattle.driver.proofs.Steps.{stages-on, stages-end, candidate-asked,
 use Rattle.driver.proofs.replies.take_stage.Statement.{statement}
 use Rattle.driver.proofs.replies.take_stage.Tie as tie
 
+setting-of-requires : tie.Need-setting-of-requires
+setting-of-requires c κs = search needs
+
 row-and-recurrence-requires : tie.Need-row-and-recurrence-requires
 row-and-recurrence-requires c κs = search needs
 
@@ -24,12 +27,12 @@ same-length c = search needs
 returns : tie.Need-returns
 unfolding of-stages outcome-of ask-stage at-stage
 returns c =
-    let a = c .before .before .before .before .before .before .before .before .before .before .before .before .before .args in
+    let a = c .before .before .before .before .before .before .before .before .before .before .before .before .before .before .args in
     let r = a .«record» in
     let both = c .before .before .before .before .before .before .before .before .before .row-and-recurrence .ensures in
-    let below = c .before .before .before .before .before .before .before .if1 .taken in
     let exchanged = c .before .before .before .before .before .row-and-exchange .ensures .vectors in
-    (refl, stages-on r (unpack (r .n) (a .area .now)) (a .derivative .now) (both .0) below exchanged (both .1) refl (record { answer = says refl; kept = refl; vectors = refl }))
+    (refl, stages-on r (unpack (r .n) (a .area .now)) (a .derivative .now) (c .before .before .before .before .before .before .before .before .before .before .before .setting-of .ensures) (both .0) (c .before .before .before .before .before .before .before .if1 .taken) exchanged (both .1) refl
+    (record { answer = says refl; kept = refl; vectors = refl }))
 
 row-requires : tie.Need-row-requires
 row-requires c κs = search needs
@@ -46,11 +49,11 @@ same-length-2 c = search needs
 returns-2 : tie.Need-returns-2
 unfolding of-stages
 returns-2 c =
-    let t = c .before .before .before .before .before .before in
-    let a = t .before .before .before .before .before .before .before .before .before .before .before .before .args in
+    let a = c .before .before .before .before .before .before .before .before .before .before .before .before .before .before .before .before .before .before .before .args in
     let r = a .«record» in
+    let row = c .before .before .before .before .before .before .before .before .before .before .before .before .before .before .row-and-recurrence .ensures .0 in
     let asked = candidate-asked r _ (c .before .before .finite-vector .ensures) (c .before .if2 .taken) in
-    (refl, stages-end r (unpack (r .n) (a .area .now)) (a .derivative .now) (t .before .before .before .before .before .before .before .before .row-and-recurrence .ensures .0) (t .before .before .before .before .before .before .if1 .left) (t .before .before .before .before .row2 .ensures .vectors) (t .keep-candidate .ensures .vectors) asked)
+    (refl, stages-end r (unpack (r .n) (a .area .now)) (a .derivative .now) (c .before .before .before .before .before .before .before .before .before .before .before .before .before .before .before .before .setting-of .ensures) row (c .before .before .before .before .before .before .before .before .before .before .before .before .if1 .left) (c .before .before .before .before .before .before .before .before .before .before .row2 .ensures .vectors) (c .before .before .before .before .before .before .keep-candidate .ensures .vectors) asked)
 
 same-length-3 : tie.Need-same-length-3
 same-length-3 c = search needs
@@ -58,16 +61,17 @@ same-length-3 c = search needs
 returns-3 : tie.Need-returns-3
 unfolding of-stages
 returns-3 c =
-    let t = c .before .before .before .before .before in
-    let a = t .before .before .before .before .before .before .before .before .before .before .before .before .args in
+    let a = c .before .before .before .before .before .before .before .before .before .before .before .before .before .before .before .before .before .before .args in
     let r = a .«record» in
+    let row = c .before .before .before .before .before .before .before .before .before .before .before .before .before .row-and-recurrence .ensures .0 in
     let refused = candidate-refused r _ (c .before .finite-vector .ensures) (c .if2 .left) in
-    (refl, stages-end r (unpack (r .n) (a .area .now)) (a .derivative .now) (t .before .before .before .before .before .before .before .before .row-and-recurrence .ensures .0) (t .before .before .before .before .before .before .if1 .left) (t .before .before .before .before .row2 .ensures .vectors) (t .keep-candidate .ensures .vectors) refused)
+    (refl, stages-end r (unpack (r .n) (a .area .now)) (a .derivative .now) (c .before .before .before .before .before .before .before .before .before .before .before .before .before .before .before .setting-of .ensures) row (c .before .before .before .before .before .before .before .before .before .before .before .if1 .left) (c .before .before .before .before .before .before .before .before .before .row2 .ensures .vectors) (c .before .before .before .before .before .keep-candidate .ensures .vectors) refused)
 
 pub take-stage-spec : {M : Type 1} → statement M
 take-stage-spec =
     tie.close
     (tie.spec
+    setting-of-requires
     row-and-recurrence-requires
     row-and-exchange-requires
     add-t21
