@@ -17,7 +17,6 @@ use Rattle.driver.specs.Calls.{setting-of, permits, in-range, stage-need
 use Rattle.driver.proofs.Sizes.{both}
 
 permitted-most : (m : Setting) (s : ℕ) → permits m s ≡ true → s ≤ most-stages
-unfolding permits
 permitted-most m s e = permitted-range (kind m) s (subst T (sym e) tt) .1
 
 pub pass-in : (r : Record) → in-range P.Pass r ≡ true → r .iteration .pass ≤ 12

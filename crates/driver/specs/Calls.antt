@@ -180,7 +180,7 @@ pending P.Callback = true
 abbrev pub good-pass : ℕ → Bool
 good-pass k = leb 1 k && leb k 12
 
-unfoldable pub permits : Setting → ℕ → Bool
+abbrev pub permits : Setting → ℕ → Bool
 permits m s = permitted (kind m) s
 
 abbrev pub good-stage : Setting → ℕ → ℕ → Bool

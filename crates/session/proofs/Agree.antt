@@ -8,11 +8,19 @@ use lib.Dec.{eqb}
 use lib.ListN.{replicate}
 use lib.Ieee.{Float, le}
 use Rattle.ieee.specs.Double.{one, min-positive}
-use Rattle.family.specs.Family.{Family, RKC, RKL1, RKL2, RKG1, RKG2}
+use Rattle.family.specs.declared.Setting.{Setting}
+use Rattle.family.specs.declared.RowForm.{RowForm}
+use Rattle.family.specs.declared.RowForm.the-variants.{ChebyshevRow, OrthogonalRow}
+use Rattle.family.specs.declared.ErrorForm.{ErrorForm}
+use Rattle.family.specs.declared.ErrorForm.the-variants.{FirstDerivative, BothDerivatives}
+use Rattle.family.specs.declared.CandidateForm.{CandidateForm}
+use Rattle.family.specs.declared.CandidateForm.the-variants.{LastStage}
+use Rattle.family.specs.Family.{facts-of, kind}
+use Rattle.coefficients.specs.declared.Recurrence.{Recurrence}
 use Rattle.coefficients.specs.declared.Coefficients.{Coefficients}
 use Rattle.workspace.specs.declared.Arguments.{Arguments}
 use Rattle.workspace.specs.Vectors.{Vector, Vectors, _with_≔_, number, each, vector-norm, first-derivative, last-derivative, derivative, previous-two, previous-one, next-stage, eigenvector, perturbed-state, perturbed-derivative, state, candidate, older-state}
-use Rattle.workspace.specs.Kernel.{with-direction, perturbed-by, perturbed, turned, first-stage, orthogonal-entry, chebyshev-entry, entry, with-row, exchanged, with-candidate, with-last, error, scaled-error, scaled-error-norm, error-norm}
+use Rattle.workspace.specs.Kernel.{with-direction, perturbed-by, perturbed, turned, first-stage, orthogonal-entry, chebyshev-entry, entry-in, with-row-in, exchanged, with-candidate, with-last, error, error-in, scaled-error, scaled-error-norm, error-norm, candidate-in}
 use Rattle.session.specs.Attempt.{all-but-last}
 use Rattle.session.specs.Alike.{compared, Same-vectors}
 
@@ -81,16 +89,13 @@ module _ (history : Bool) where
     first-agrees h mu~ v w p = agree-with (five or previous-two) previous-one (v with previous-two ≔ v state) (w with previous-two ≔ w state) _ _
         (agree-with five previous-two v w (v state) (w state) p (p state refl)) (rw (p state refl, p first-derivative refl))
 
-    entry-same : (f : Family) (h : Float) (c : Coefficients) (d : List Float) (v w : Vectors) → Agree seven v w → each n (v with derivative ≔ d) (entry f h c) ≡ each n (w with derivative ≔ d) (entry f h c)
-    unfolding each entry orthogonal-entry chebyshev-entry
-    entry-same RKC h c d v w p = rw (p state refl, p first-derivative refl, p previous-one refl, p previous-two refl)
-    entry-same RKL1 h c d v w p = rw (p state refl, p first-derivative refl, p previous-one refl, p previous-two refl)
-    entry-same RKL2 h c d v w p = rw (p state refl, p first-derivative refl, p previous-one refl, p previous-two refl)
-    entry-same RKG1 h c d v w p = rw (p state refl, p first-derivative refl, p previous-one refl, p previous-two refl)
-    entry-same RKG2 h c d v w p = rw (p state refl, p first-derivative refl, p previous-one refl, p previous-two refl)
+    entry-same : (f : RowForm) (h : Float) (c : Coefficients) (d : List Float) (v w : Vectors) → Agree seven v w → each n (v with derivative ≔ d) (entry-in f h c) ≡ each n (w with derivative ≔ d) (entry-in f h c)
+    unfolding each entry-in orthogonal-entry chebyshev-entry
+    entry-same ChebyshevRow h c d v w p = rw (p state refl, p first-derivative refl, p previous-one refl, p previous-two refl)
+    entry-same OrthogonalRow h c d v w p = rw (p state refl, p first-derivative refl, p previous-one refl, p previous-two refl)
 
-    pub row-agrees : (f : Family) (h : Float) (c : Coefficients) (d : List Float) (v w : Vectors) → Agree seven v w → Agree nine (with-row f n h c v d) (with-row f n h c w d)
-    unfolding with-row
+    pub row-agrees : (f : RowForm) (h : Float) (c : Coefficients) (d : List Float) (v w : Vectors) → Agree seven v w → Agree nine (with-row-in f n h c v d) (with-row-in f n h c w d)
+    unfolding with-row-in
     row-agrees f h c d v w p = agree-with (seven or derivative) next-stage (v with derivative ≔ d) (w with derivative ≔ d) _ _ (agree-with seven derivative v w d d p refl) (entry-same f h c d v w p)
 
     pub exchanged-agrees : (v w : Vectors) → Agree nine v w → Agree nine (exchanged v) (exchanged w)
@@ -108,9 +113,13 @@ module _ (history : Bool) where
     exchanged-agrees v w p candidate e = p candidate e
     exchanged-agrees v w p older-state e = p older-state e
 
-    pub candidate-agrees : (v w : Vectors) → Agree nine v w → Agree ten (with-candidate v) (with-candidate w)
-    unfolding with-candidate
-    candidate-agrees v w p = agree-with nine candidate v w (v next-stage) (w next-stage) p (p next-stage refl)
+    pub candidate-agrees : (m : Setting) (h : Float) (s : ℕ) (c : Recurrence) (row : Coefficients) (v w : Vectors) → Agree nine v w
+        → Agree ten (with-candidate m n h s c row v) (with-candidate m n h s c row w)
+    unfolding with-candidate candidate-in
+    candidate-agrees m h s c row v w p = agree-with nine candidate v w _ _ p (go (facts-of (kind m) .candidate))
+      where
+        go : (form : CandidateForm) → candidate-in form m n h s c row v ≡ candidate-in form m n h s c row w
+        go LastStage = p next-stage refl
 
     -- all but the last derivative
     pub ten-same : (v w : Vectors) → Agree ten v w → all-but-last v ≡ all-but-last w
@@ -128,17 +137,14 @@ module _ (history : Bool) where
           p candidate refl,
         ) refl
 
-    error-same : (f : Family) (h : Float) (v w : Vectors) → Agree eleven v w → each n v (error f h) ≡ each n w (error f h)
-    unfolding each error
-    error-same RKC h v w p = rw (p state refl, p first-derivative refl, p candidate refl, p last-derivative refl)
-    error-same RKL1 h v w p = rw (p state refl, p first-derivative refl, p candidate refl)
-    error-same RKL2 h v w p = rw (p state refl, p first-derivative refl, p candidate refl)
-    error-same RKG1 h v w p = rw (p state refl, p first-derivative refl, p candidate refl)
-    error-same RKG2 h v w p = rw (p state refl, p first-derivative refl, p candidate refl)
+    error-same : (f : ErrorForm) (h : Float) (v w : Vectors) → Agree eleven v w → each n v (error-in f h) ≡ each n w (error-in f h)
+    unfolding each error-in
+    error-same BothDerivatives h v w p = rw (p state refl, p first-derivative refl, p candidate refl, p last-derivative refl)
+    error-same FirstDerivative h v w p = rw (p state refl, p first-derivative refl, p candidate refl)
 
-    last-agrees : (f : Family) (a : Arguments) (d : List Float) (v w : Vectors) → Agree ten v w → Agree eleven (with-last f n a v d) (with-last f n a w d)
+    last-agrees : (m : Setting) (a : Arguments) (d : List Float) (v w : Vectors) → Agree ten v w → Agree eleven (with-last m n a v d) (with-last m n a w d)
     unfolding with-last
-    last-agrees f a d v w p = go (a .adaptive)
+    last-agrees m a d v w p = go (a .adaptive)
       where
         x : Vectors
         x = v with last-derivative ≔ d
@@ -149,14 +155,14 @@ module _ (history : Bool) where
         q : Agree eleven x y
         q = agree-with ten last-derivative v w d d p refl
 
-        go : (t : Bool) → Agree eleven (cond t (x with derivative ≔ each n x (error f (a .step))) x) (cond t (y with derivative ≔ each n y (error f (a .step))) y)
-        go true = drop-one eleven derivative _ _ (agree-with eleven derivative x y _ _ q (error-same f (a .step) x y q))
+        go : (t : Bool) → Agree eleven (cond t (x with derivative ≔ each n x (error m (a .step))) x) (cond t (y with derivative ≔ each n y (error m (a .step))) y)
+        go true = drop-one eleven derivative _ _ (agree-with eleven derivative x y _ _ q (error-same (facts-of (kind m) .error) (a .step) x y q))
         go false = q
 
     -- and these are all that are compared
-    pub last-same : (f : Family) (a : Arguments) (d : List Float) (v w : Vectors) → Agree ten v w
-        → Same-vectors history (with-last f n a v d) (with-last f n a w d)
-    last-same f a d v w p b e = last-agrees f a d v w p b (every b e)
+    pub last-same : (m : Setting) (a : Arguments) (d : List Float) (v w : Vectors) → Agree ten v w
+        → Same-vectors history (with-last m n a v d) (with-last m n a w d)
+    last-same m a d v w p b e = last-agrees m a d v w p b (every b e)
       where
         every : (b : Vector) → compared history b ≡ true → eleven b ≡ true
         every first-derivative e = refl
@@ -172,9 +178,9 @@ module _ (history : Bool) where
         every candidate e = refl
         every older-state e = e
 
-    pub norm-same : (f : Family) (s : ℕ) (a : Arguments) (v w : Vectors) → Same-vectors history v w → error-norm f n s a v ≡ error-norm f n s a w
+    pub norm-same : (m : Setting) (s : ℕ) (a : Arguments) (v w : Vectors) → Same-vectors history v w → error-norm m n s a v ≡ error-norm m n s a w
     unfolding error-norm scaled-error-norm scaled-error each
-    norm-same f s a v w p = rw (p derivative refl, p state refl, p candidate refl)
+    norm-same m s a v w p = rw (p derivative refl, p state refl, p candidate refl)
 
   pub five-three : (v w : Vectors) → Agree five v w → Agree three v w
   five-three v w p = drop-one three perturbed-state v w (drop-one (three or perturbed-state) perturbed-derivative v w (drop-one (three or perturbed-state or perturbed-derivative) eigenvector v w p))

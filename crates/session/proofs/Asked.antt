@@ -9,12 +9,15 @@ use lib.Dec.{eqb}
 use borrow.Author.Tests.{eq-eqb}
 use lib.ListN.{length, replicate}
 use lib.Ieee.{Float, le}
+use Rattle.coefficients.specs.declared.Recurrence.{Recurrence}
+use Rattle.family.specs.declared.RowForm.{RowForm}
+use Rattle.family.specs.declared.Setting.{Setting}
 use Rattle.ieee.specs.Double.{one, min-positive}
 use Rattle.family.specs.Family.{Family, known}
 use Rattle.coefficients.specs.declared.Coefficients.{Coefficients}
 use Rattle.workspace.specs.declared.Arguments.{Arguments}
 use Rattle.workspace.specs.Vectors.{Vector, Vectors, _with_≔_, number, named, unpack, pack, vector-norm, all-finite, first-derivative, eigenvector, state, older-state}
-use Rattle.workspace.specs.Kernel.{with-direction, perturbed-by, perturbed, turned, first-stage, with-row, exchanged, with-candidate}
+use Rattle.workspace.specs.Kernel.{with-direction, perturbed-by, perturbed, turned, first-stage, with-row, exchanged, with-candidate, with-row-in}
 use Rattle.workspace.proofs.Areas.{Long, named-number, unpack-pack, long-direction, long-perturbed, long-turned, long-first, long-row, long-exchanged, long-candidate}
 use Rattle.driver.specs.declared.Phase.{Phase}
 use Rattle.driver.specs.declared.Iteration.{Iteration}
@@ -82,17 +85,23 @@ module _ (h : Held) where
   unfolding first-stage
   intact-first step mu~ v i = record { long = long-first (its-family (h .kept)) (h .kept .n) step mu~ v (i .long); state-is = i .state-is; first-is = i .first-is; older-is = i .older-is }
 
-  pub intact-row : (f : Family) (step : Float) (c : Coefficients) (v : Vectors) (d : List Float) → Intact v → length d ≡ h .kept .n → Intact (with-row f (h .kept .n) step c v d)
-  unfolding with-row
+  pub intact-row : (f : RowForm) (step : Float) (c : Coefficients) (v : Vectors) (d : List Float) → Intact v → length d ≡ h .kept .n → Intact (with-row-in f (h .kept .n) step c v d)
+  unfolding with-row-in
   intact-row f step c v d i hd = record { long = long-row (its-family (h .kept)) (h .kept .n) f step c v d (i .long) hd; state-is = i .state-is; first-is = i .first-is; older-is = i .older-is }
 
   pub intact-exchanged : (v : Vectors) → Intact v → Intact (exchanged v)
   unfolding exchanged
   intact-exchanged v i = record { long = long-exchanged (its-family (h .kept)) (h .kept .n) v (i .long); state-is = i .state-is; first-is = i .first-is; older-is = i .older-is }
 
-  pub intact-candidate : (v : Vectors) → Intact v → Intact (with-candidate v)
+  pub intact-candidate : (m : Setting) (step : Float) (s : ℕ) (c : Recurrence) (row : Coefficients) (v : Vectors) → Intact v
+      → Intact (with-candidate m (h .kept .n) step s c row v)
   unfolding with-candidate
-  intact-candidate v i = record { long = long-candidate (its-family (h .kept)) (h .kept .n) v (i .long); state-is = i .state-is; first-is = i .first-is; older-is = i .older-is }
+  intact-candidate m step s c row v i = record {
+    long = long-candidate (its-family (h .kept)) (h .kept .n) m step s c row v (i .long);
+    state-is = i .state-is;
+    first-is = i .first-is;
+    older-is = i .older-is;
+  }
 
 module _ (h : Held) (a : Arguments) where
   -- the record within the attempt

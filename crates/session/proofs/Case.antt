@@ -9,14 +9,14 @@ use lib.Ieee.{Float, binary64, toBits, add, sub, mul, div, neg, le, lt, eq, ofIn
 use Rattle.ieee.specs.Double.{double, nearest, square, min-positive, root-epsilon, nought, one}
 use Rattle.ieee.specs.Sqrt.{root-below, root, halves, root-units, sqrt}
 use Rattle.ieee.specs.Whole.{abs, max, floor, ceil}
-use Rattle.family.specs.Family.{known, family-of, keeps-older, smallest-count, largest-count, odd-only, permitted, before-limits, odd-step, limited, stage-count}
-use Rattle.coefficients.specs.Rows.{omega-zero, omega-one-of, b-first, first-mu-tilde, first-polynomials, recurrence, with-theta, legendre-one, coefficients, next-polynomials, next}
+use Rattle.family.specs.Family.{known, family-of, keeps-older, smallest-count, largest-count, odd-only, permitted, before-limits, odd-step, limited, stage-count, by-rule, facts-of}
+use Rattle.coefficients.specs.Rows.{omega-zero, omega-one-of, b-first, first-mu-tilde, first-polynomials, recurrence-of, with-theta, legendre-one, coefficients-of, next-polynomials, next-of}
 use Rattle.workspace.specs.declared.Arguments.{Arguments}
 use Rattle.workspace.specs.Vectors.{join, vector-count, each, sum-of-squares, root-of-squares, vector-norm, all-finite}
-use Rattle.workspace.specs.Kernel.{with-direction, perturbation-of, perturbed-by, perturbed, turned, radius-of, ended, scaled, first-stage, orthogonal-entry, entry, with-row, exchanged, with-candidate, error, with-last, divisor, scaled-error, scaled-error-norm, error-norm}
+use Rattle.workspace.specs.Kernel.{with-direction, perturbation-of, perturbed-by, perturbed, turned, radius-of, ended, scaled, first-stage, orthogonal-entry, entry-in, with-row-in, exchanged, with-candidate, candidate-in, error-in, with-last, divisor-in, scaled-error, scaled-error-norm, error-norm}
 use Rattle.driver.specs.declared.Counters.{Counters}
 use Rattle.driver.specs.Calls.{Held, stage-need, Call, Start, Attempt, Reply, Accept, Abandon, sized, as-long, good-times, good-tolerance, good-tolerances, room}
-use Rattle.session.specs.Attempt.{closes, _>>=_, evaluate, stages-for, iterate, spectral-radius, stage-loop, run-recurrence, finished-attempt, close, attempt-step}
+use Rattle.session.specs.Attempt.{closes, _>>=_, evaluate, stages-for, iterate, spectral-radius, stage-row, stage-loop, run-recurrence, finished-attempt, close, attempt-step}
 use Rattle.session.specs.Session.{Shown, evaluates, finished-with, ready-at, stops, nothing, Seen, seen-of, vectors-of, initialize, tries, accept-step, at-rest, after-attempt, waiting, finished-by, counts-on, doing-now, replied-with, session-after, doing-shown, session-seen, rests, has-tried, waits, waits-with-room, takes, session, fresh}
 use Rattle.session.proofs.Sequences.{every-sequence}
 
@@ -26,11 +26,11 @@ unfolding toBits add sub mul div neg le lt eq ofInt round toUnsigned sum units o
 doubles = tt
 
 unfoldable attempts : Unit {0}
-unfolding smallest-count largest-count odd-only before-limits odd-step limited stage-count omega-zero omega-one-of b-first first-mu-tilde first-polynomials recurrence with-theta legendre-one coefficients next-polynomials next each sum-of-squares root-of-squares vector-norm all-finite with-direction perturbation-of perturbed-by perturbed turned radius-of ended scaled first-stage orthogonal-entry entry with-row exchanged with-candidate error with-last divisor scaled-error scaled-error-norm error-norm stage-need _>>=_ evaluate stages-for iterate spectral-radius stage-loop run-recurrence finished-attempt close attempt-step closes
+unfolding smallest-count largest-count odd-only before-limits odd-step limited stage-count omega-zero omega-one-of b-first first-mu-tilde first-polynomials recurrence-of with-theta legendre-one coefficients-of next-polynomials next-of each sum-of-squares root-of-squares vector-norm all-finite with-direction perturbation-of perturbed-by perturbed turned radius-of ended scaled first-stage orthogonal-entry entry-in with-row-in exchanged with-candidate candidate-in error-in with-last divisor-in scaled-error scaled-error-norm error-norm stage-need _>>=_ evaluate stages-for iterate spectral-radius stage-row stage-loop run-recurrence finished-attempt close attempt-step closes by-rule facts-of
 attempts = tt
 
 unfoldable sessions : Unit {0}
-unfolding known family-of permitted keeps-older vector-count sized as-long good-times good-tolerance good-tolerances room vectors-of initialize tries accept-step at-rest after-attempt waiting finished-by counts-on doing-now replied-with session-after doing-shown session-seen rests has-tried waits waits-with-room takes session fresh
+unfolding known family-of permitted keeps-older vector-count sized as-long good-times good-tolerance good-tolerances room vectors-of initialize tries accept-step at-rest after-attempt waiting finished-by counts-on doing-now replied-with session-after doing-shown session-seen rests has-tried waits waits-with-room takes session fresh facts-of
 sessions = tt
 
 pub arguments : Arguments

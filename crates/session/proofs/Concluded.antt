@@ -16,7 +16,7 @@ use Rattle.family.proofs.Range.{permitted-range}
 use Rattle.family.proofs.Counts.{stage-count-permitted, serves}
 use Rattle.family.proofs.Special.{infinite-count}
 use Rattle.coefficients.specs.declared.Recurrence.{Recurrence}
-use Rattle.coefficients.specs.Rows.{recurrence, carried}
+use Rattle.coefficients.specs.Rows.{recurrence, carried, carried-of, recurrence-of}
 use Rattle.coefficients.specs.Chebyshev as Chebyshev
 use Rattle.coefficients.proofs.CloseTable.{entry-taken, close-taken}
 use Rattle.coefficients.proofs.CloseRows.{close-row, close-first}
@@ -65,7 +65,7 @@ module _ (h : Held) (f n : ℕ) (y : List Float) (t : Float) where
 -- ---- an answer "finished"
 
 demanded : (g : Orthogonal) (r : Float) (s : ℕ) → lt r nought ≡ false → s ≡ stage-count (made-of g) r → Demand-three g r s
-unfolding recurrence
+unfolding recurrence-of
 demanded g r s positive e =
     let permits : T (permitted (made-of g) s) = subst (λ (i : ℕ). T (permitted (made-of g) i)) (sym e) (stage-count-permitted (made-of g) r) in record {
       serves = λ fin. subst (Serves g r) (sym e) (serves g r fin positive);
@@ -133,8 +133,8 @@ carries h f n y t cs q e =
     let permits : T (permitted F s) =
     subst (λ (k : ℕ). T (permitted F k)) (sym (p .suits .stages-are)) (stage-count-permitted F (scaled-radius-of x)) in
     let range = permitted-range F s permits in
-    let entry : F ≡ RKC → x .kept .staging .recurrence .polynomials .«omega_one» ≡ carried RKC s i .polynomials .«omega_one» = λ is.
-    ap (λ (c : Recurrence). c .polynomials .«omega_one») (p .recurrence-is) ∙ ap (λ (f : Family). carried f s i .polynomials .«omega_one») is in record {
+    let entry : F ≡ RKC → x .kept .staging .recurrence .polynomials .«omega_one» ≡ carried-of RKC s i .polynomials .«omega_one» = λ is.
+    ap (λ (c : Recurrence). c .polynomials .«omega_one») (p .recurrence-is) ∙ ap (λ (f : Family). carried-of f s i .polynomials .«omega_one») is in record {
       stages-permitted = permits;
       from-two = p .from-two;
       to-last = p .to-last;

@@ -13,7 +13,7 @@ use Rattle.family.specs.Family.{family-of}
 use Rattle.coefficients.specs.Rows.{coefficients, next}
 use Rattle.workspace.specs.declared.Arguments.{Arguments}
 use Rattle.workspace.specs.Vectors.{Vectors, number, unpack, all-finite, last-derivative, candidate, older-state}
-use Rattle.workspace.specs.Kernel.{turned, radius-of, ended, scaled, with-row, exchanged, with-candidate}
+use Rattle.workspace.specs.Kernel.{turned, radius-of, ended, scaled, with-row, with-row-in, exchanged, with-candidate}
 use Rattle.workspace.proofs.Areas.{unpack-pack}
 use Rattle.driver.specs.declared.Phase.{Phase}
 use Rattle.driver.specs.declared.Phase.the-variants as P
@@ -26,7 +26,7 @@ use Rattle.driver.specs.declared.Answer.the-variants.{Evaluate, Refused}
 use Rattle.driver.specs.Answers.{Says}
 use Rattle.driver.specs.Numbers.{standing-numbers, after-nine, ending-numbers}
 use Rattle.driver.proofs.Ladder.{is-refused, each-passes, by-tests}
-use Rattle.driver.specs.Calls.{Held, Called, Step, step-to, in-phase, whole-area, as-long, Test, admitted, first-failing, guarded, counted}
+use Rattle.driver.specs.Calls.{Held, Called, Step, step-to, in-phase, whole-area, as-long, Test, admitted, first-failing, guarded, counted, setting-of}
 use Rattle.driver.specs.Calls.{start-tests, attempt-tests, reply-tests, accept-tests, callback-tests, abandon-tests}
 use Rattle.driver.specs.Calls.{at-pass, at-stage, take-first, take-callback, ask-pass, ask-stage, stage-need, by-need, begin-stages, take-pass, ask-candidate}
 use Rattle.driver.specs.Calls.{take-stage, take-candidate, replied, going-on, spoiled, settled, attempted, accepted, called-back}
@@ -70,7 +70,7 @@ candidate-high r v w same = go (all-finite (w candidate))
     go true = on r v _ refl
     go false = λ i e. record { beyond = subst (λ (i : ℕ). i ∈ after-nine) (same-number 10 i e) here; record-is = refl; stand = same }
 
-need-high : (need : Need) (r : Record) (v w : Vectors) (radius : Float) → Stand v w → Needed (family-of (r .family)) need → Refuses-high r v (by-need need r w radius)
+need-high : (need : Need) (r : Record) (v w : Vectors) (radius : Float) → Stand v w → Needed (setting-of r) need → Refuses-high r v (by-need need r w radius)
 unfolding by-need ask-stage
 need-high (Met s) r v w radius same ok = on r v _ refl
 need-high (Unmet j) r v w radius same ok = λ i e.
@@ -78,7 +78,7 @@ need-high (Unmet j) r v w radius same ok = λ i e.
 
 pass-high : (t : Bool) (r r′ : Record) (v w : Vectors) (radius : Float) → Stand v w → Refuses-high r v (cond t (begin-stages r w radius) (ask-pass r′ w))
 unfolding begin-stages ask-pass
-pass-high true r r′ v w radius same = need-high (stage-need (family-of (r .family)) radius) r v w radius same (need-holds (family-of (r .family)) radius)
+pass-high true r r′ v w radius same = need-high (stage-need (setting-of r) radius) r v w radius same (need-holds (setting-of r) radius)
 pass-high false r r′ v w radius same = on r v _ refl
 
 stage-high : (t : Bool) (r r′ : Record) (v u w : Vectors) → Stand v w → Refuses-high r v (cond t (ask-stage r′ u) (ask-candidate r w))
@@ -87,15 +87,20 @@ stage-high true r r′ v u w same = on r v _ refl
 stage-high false r r′ v u w same = candidate-high r v w same
 
 pub replied-high : (φ : Phase) (r : Record) (v : Vectors) (d : List Float) → Refuses-high r v (replied φ r v d)
-unfolding replied take-first take-callback take-pass take-stage take-candidate turned with-row with-candidate
+unfolding replied take-first take-callback take-pass take-stage take-candidate turned with-row-in with-candidate
 replied-high P.Empty r v d = on r v _ refl
 replied-high P.First r v d = on r v _ refl
 replied-high P.Ready r v d = on r v _ refl
 replied-high P.Pass r v d = let w = turned (r .n) v d in let i = r .iteration in let radius = radius-of (i .perturbation) w in
     pass-high (ended (i .pass) (i .«previous_radius») radius || eqb (i .pass) 12) r (at-pass (r .arguments) (i .pass + 1) (i .perturbation) radius r) v w (scaled (r .arguments .step) radius) (refl, refl)
-replied-high P.Stage r v d = let f = family-of (r .family) in let s = r .staging .stages in let j = r .staging .stage in
-    let row = coefficients f s j (r .staging .recurrence) in let w = with-row f (r .n) (r .arguments .step) row v d in
-    stage-high (ltb j s) r (at-stage s (j + 1) (next f s (r .staging .recurrence) row) r) v (exchanged w) (with-candidate w) (refl, refl)
+replied-high P.Stage r v d =
+    let m = setting-of r in
+    let s = r .staging .stages in
+    let j = r .staging .stage in
+    let c = r .staging .recurrence in
+    let row = coefficients m s j c in
+    let w = with-row m (r .n) (r .arguments .step) row v d in
+    stage-high (ltb j s) r (at-stage s (j + 1) (next m s c row) r) v (exchanged w) (with-candidate m (r .n) (r .arguments .step) s c row w) (refl, refl)
 replied-high P.Candidate r v d = on r v _ refl
 replied-high P.Finished r v d = on r v _ refl
 replied-high P.Callback r v d = on r v _ refl

@@ -7,27 +7,28 @@ use Prim.Native.Nat.{ℕ, _≤_}
 use lib.Ieee.{Float}
 use lib.Ieee.Bits.{is-true}
 use Rattle.ieee.proofs.Logic.{yes}
-use Rattle.family.specs.Family.{Family, stage-count, permitted}
+use Rattle.family.specs.declared.Setting.{Setting}
+use Rattle.family.specs.Family.{kind, stage-count, permitted}
 use Rattle.family.proofs.Range.{permitted-range}
 use Rattle.family.proofs.Counts.{stage-count-permitted}
 use Rattle.driver.specs.declared.Need.{Need}
 use Rattle.driver.specs.declared.Need.the-variants.{Met, Unmet}
 use Rattle.driver.specs.Numbers.{need-numbers}
-use Rattle.driver.specs.Calls.{stage-need}
+use Rattle.driver.specs.Calls.{permits, stage-need}
 use Rattle.session.specs.Refusals.{_∈_}
 
-abbrev pub Needed : Family → Need → Type 0
-Needed f (Met s) = permitted f s ≡ true
-Needed f (Unmet i) = i ∈ need-numbers
+abbrev pub Needed : Setting → Need → Type 0
+Needed m (Met s) = permits m s ≡ true
+Needed m (Unmet i) = i ∈ need-numbers
 
-pub need-holds : (f : Family) (r : Float) → Needed f (stage-need f r)
+pub need-holds : (m : Setting) (r : Float) → Needed m (stage-need m r)
 unfolding stage-need
-need-holds f r = is-true (permitted f (stage-count f r)) (stage-count-permitted f r)
+need-holds m r = is-true (permitted (kind m) (stage-count (kind m) r)) (stage-count-permitted (kind m) r)
 
-pub two-from : (f : Family) (s : ℕ) → permitted f s ≡ true → 2 ≤ s
-two-from f s h = permitted-range f s (yes h) .0
+pub two-from : (m : Setting) (s : ℕ) → permits m s ≡ true → 2 ≤ s
+two-from m s h = permitted-range (kind m) s (yes h) .0
 
 -- here every need is met, with the family's count
-pub need-is : (f : Family) (r : Float) → stage-need f r ≡ Met (stage-count f r)
+pub need-is : (m : Setting) (r : Float) → stage-need m r ≡ Met (stage-count (kind m) r)
 unfolding stage-need
-need-is f r = refl
+need-is m r = refl

@@ -10,7 +10,7 @@ use Rattle.workspace.specs.Kernel.{with-direction, perturbation-of}
 use Rattle.workspace.proofs.Areas.{long-direction, long-perturbed}
 use Rattle.driver.specs.declared.Phase.{Phase}
 use Rattle.driver.specs.declared.Phase.the-variants as P
-use Rattle.driver.specs.Calls.{Held, Called, at-pass, ask-pass, may-attempt, good-times, good-tolerances, attempted, going-on, attempt-tests, attempt}
+use Rattle.driver.specs.Calls.{Held, Called, at-pass, ask-pass, may-attempt, good-times, good-tolerances, attempted, going-on, attempt-tests, attempt, setting-of}
 use Rattle.driver.specs.Calls.{Attempt, taken}
 use Rattle.driver.proofs.Ladder.{each-passes}
 use Rattle.session.specs.Attempt.{done, stopped, ask, Finished-attempt, attempt-step}
@@ -66,7 +66,7 @@ module _ (h : Held) (σ : Session) (cs : h .counters ≡ σ .counts) (a : Argume
   unfolding doing-now Does tries going-on
   tries-good ρ φ p at same =
       let v = vectors-of ρ in
-      let F = family-of (h .kept .family) in
+      let F = setting-of (h .kept) in
       let alike = attempt-alike (has-history ρ) F (h .kept .n) a (unpack (h .kept .n) (h .area)) v same in
       let g = goes h a p (has-history ρ) (kept-history ρ) (in-one-piece h a) (attempt-step F (h .kept .n) a v) 0 h (attempt h a) (attempt-follows h a p) alike in
       subst (λ (f : ℕ). Good (record { family = f; n = σ .n; doing = within (tries f (σ .n) a v); counts = σ .counts }) (attempt h a)) (at .family-is)

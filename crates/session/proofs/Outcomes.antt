@@ -8,8 +8,9 @@ use lib.Dec.{leb, ltb, eqb}
 use borrow.Author.Tests.{eqb-true, leb-true, ltb-true, ltb-false}
 use lib.ListN.{length}
 use lib.Ieee.{Float}
+use Rattle.family.specs.declared.Setting.{Setting}
 use Rattle.ieee.specs.Double.{_⊕_, nought}
-use Rattle.family.specs.Family.{Family, family-of, permitted, stage-count}
+use Rattle.family.specs.Family.{Family, family-of, permitted, stage-count, setting}
 use Rattle.coefficients.specs.declared.Coefficients.{Coefficients}
 use Rattle.coefficients.specs.declared.Recurrence.{Recurrence}
 use Rattle.coefficients.specs.Rows.{recurrence, coefficients, next}
@@ -23,7 +24,7 @@ use Rattle.driver.specs.declared.Record.{Record}
 use Rattle.driver.specs.declared.Counters.{Counters}
 use Rattle.driver.specs.declared.Answer.{Answer}
 use Rattle.driver.specs.declared.Answer.the-variants.{Evaluate, Finished, Ready, Refused, Empty}
-use Rattle.driver.specs.Calls.{Held, Called, step-to, in-phase, first-at, at-pass, with-radius, at-stage, taken}
+use Rattle.driver.specs.Calls.{Held, Called, step-to, in-phase, first-at, at-pass, with-radius, at-stage, taken, setting-of, permits}
 use Rattle.driver.specs.Calls.{take-first, take-callback, ask-pass, ask-stage, by-need, begin-stages, take-pass, ask-candidate, take-stage, take-candidate}
 use Rattle.driver.specs.Calls.{replied, whole-area, as-long, pending, in-range, awaiting, good-stage, one-more, counted, spoiled, settled, going-on}
 use Rattle.driver.specs.Calls.{start, attempted, attempt, reply, accepted, accept, called-back, accept-with-callback, abandon, made}
@@ -47,14 +48,14 @@ count-after r w = stage-count (family-of (r .family)) (radius-after r w)
 
 -- what is carried into stage 2, and on from stage j
 abbrev pub first-after : Record → Vectors → Recurrence
-first-after r w = recurrence (family-of (r .family)) (count-after r w)
+first-after r w = recurrence (setting-of r) (count-after r w)
 
 abbrev pub carried-on : ℕ → ℕ → ℕ → Recurrence → Recurrence
-carried-on f s j c = next (family-of f) s c (coefficients (family-of f) s j c)
+carried-on f s j c = next (setting f) s c (coefficients (setting f) s j c)
 
 -- the norm of a finished attempt that left the vectors w
 abbrev pub norm-after : Record → Vectors → Float
-norm-after r w = error-norm (family-of (r .family)) (r .n) (r .staging .stages) (r .arguments) w
+norm-after r w = error-norm (setting-of r) (r .n) (r .staging .stages) (r .arguments) w
 
 -- an evaluation more, and a finished attempt
 abbrev pub one-more-each : Counters → Counters
@@ -113,7 +114,7 @@ module _ (h : Held) where
     on-pass : (t : Bool) (w : Vectors) (radius : Float) → r .phase ≡ P.Pass → r .iteration .pass ≤ 12
         → Comes (settled c (cond t (begin-stages r w (radius-after r w)) (ask-pass (again radius) w)))
     unfolding settled going-on counted begin-stages by-need ask-stage ask-pass at-pass
-    on-pass true w radius p twelve = rw (need-is (family-of (r .family)) (radius-after r w)) (begins w _ _ _ p twelve)
+    on-pass true w radius p twelve = rw (need-is (setting-of r) (radius-after r w)) (begins w _ _ _ p twelve)
     on-pass false w radius p twelve = iterates _ radius _ _ p
 
     on-last-stage : (w : Vectors) → r .phase ≡ P.Stage → j ≡ s → Comes (settled c (ask-candidate r w))
@@ -127,28 +128,31 @@ module _ (h : Held) where
         go true = asks-candidate _ _ _ p e
         go false = spoils 10 _
 
-    on-stage : (v : Vectors) → r .phase ≡ P.Stage → good-stage (r .family) s j ≡ true → Comes (settled c (take-stage r v d))
+    on-stage : (v : Vectors) → r .phase ≡ P.Stage → good-stage (setting-of r) s j ≡ true → Comes (settled c (take-stage r v d))
     unfolding settled going-on counted take-stage ask-stage at-stage
     on-stage v p good = go (ltb j s) refl
       where
-        f : Family
-        f = family-of (r .family)
+        m : Setting
+        m = setting-of r
 
         to : j ≤ s
-        to = leb-true j s (and-right (leb 2 j) (leb j s) (and-right (permitted f s) (leb 2 j && leb j s) good))
+        to = leb-true j s (and-right (leb 2 j) (leb j s) (and-right (permits m s) (leb 2 j && leb j s) good))
 
         row : Coefficients
-        row = coefficients f s j (r .staging .recurrence)
+        row = coefficients m s j (r .staging .recurrence)
 
         w : Vectors
-        w = with-row f (r .n) (r .arguments .step) row v d
+        w = with-row m (r .n) (r .arguments .step) row v d
+
+        last : Vectors
+        last = with-candidate m (r .n) (r .arguments .step) s (r .staging .recurrence) row w
 
         on : Record
-        on = at-stage s (j + 1) (next f s (r .staging .recurrence) row) r
+        on = at-stage s (j + 1) (next m s (r .staging .recurrence) row) r
 
-        go : (t : Bool) → ltb j s ≡ t → Comes (settled c (cond t (ask-stage on (exchanged w)) (ask-candidate r (with-candidate w))))
+        go : (t : Bool) → ltb j s ≡ t → Comes (settled c (cond t (ask-stage on (exchanged w)) (ask-candidate r last)))
         go true e = goes-on _ _ _ p (ltb-true j s e)
-        go false e = on-last-stage (with-candidate w) p (let l = ltb-false j s e in omega (arith, to))
+        go false e = on-last-stage last p (let l = ltb-false j s e in omega (arith, to))
 
     by-phase : (φ : Phase) (v : Vectors) → r .phase ≡ φ → pending φ && in-range φ r ≡ true → Long (its-family r) (r .n) v → length d ≡ r .n
         → Comes (settled c (replied φ r v d))
@@ -162,7 +166,7 @@ module _ (h : Held) where
         on-pass (ended (i .pass) (i .«previous_radius») radius || eqb (i .pass) 12) w radius p
         (leb-true (i .pass) 12 (and-right (leb 1 (i .pass)) (leb (i .pass) 12) good))
     by-phase P.Stage v p good lv ld = on-stage v p good
-    by-phase P.Candidate v p good lv ld = let f = family-of (r .family) in
+    by-phase P.Candidate v p good lv ld = let f = setting-of r in
         finishes (with-last f (r .n) (r .arguments) v d) p (long-last (its-family r) (r .n) f (r .arguments) v d lv ld)
     by-phase P.Finished v p good lv ld = readies _
     by-phase P.Callback v p good lv ld = readies _

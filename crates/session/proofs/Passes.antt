@@ -9,7 +9,8 @@ use borrow.Author.Tests.{le-leb, eq-eqb, ne-eqb}
 use lib.ListN.{length}
 use lib.Ieee.{Float, lt}
 use Rattle.ieee.specs.Double.{nought}
-use Rattle.family.specs.Family.{Family, known, family-of}
+use Rattle.family.specs.declared.Setting.{Setting}
+use Rattle.family.specs.Family.{known}
 use Rattle.coefficients.specs.Rows.{recurrence}
 use Rattle.workspace.specs.declared.Arguments.{Arguments}
 use Rattle.workspace.specs.Vectors.{Vectors, unpack, perturbed-state}
@@ -19,7 +20,7 @@ use Rattle.driver.specs.declared.Staging.{Staging}
 use Rattle.driver.specs.declared.Need.{Need}
 use Rattle.driver.specs.declared.Need.the-variants.{Met, Unmet}
 use Rattle.driver.specs.declared.Counters.{Counters}
-use Rattle.driver.specs.Calls.{Held, Called, in-phase, at-pass, with-radius, at-stage, ask-pass, ask-stage, stage-need, by-need, begin-stages, take-pass}
+use Rattle.driver.specs.Calls.{Held, Called, in-phase, at-pass, with-radius, at-stage, ask-pass, ask-stage, stage-need, by-need, begin-stages, take-pass, setting-of}
 use Rattle.driver.specs.Calls.{replied, sized, pending, in-range, awaiting, finishes, attempted, going-on, attempt, counted, settled, first-failing}
 use Rattle.driver.specs.Calls.{decide, guarded, attempt-tests}
 use Rattle.session.specs.Attempt.{closes, Asking, done, _>>=_, evaluate, stages-for, Radius, Finished-attempt, iterate, spectral-radius, stage-loop, run-recurrence, close, attempt-step}
@@ -35,8 +36,8 @@ use Rattle.session.proofs.Asked.{Counted, one-more, counted-on, Intact,
 use Rattle.session.proofs.Stages.{iteration-at, stages-follow}
 
 module _ (h : Held) (a : Arguments) (hk : known (h .kept .family) ≡ true) (hs : sized (h .kept .n) ≡ true) where
-  abbrev F : Family
-  F = family-of (h .kept .family)
+  abbrev F : Setting
+  F = setting-of (h .kept)
 
   -- ---- from the last pass into the stages
 
@@ -47,19 +48,11 @@ module _ (h : Held) (a : Arguments) (hk : known (h .kept .family) ≡ true) (hs 
   abbrev from-radius : Radius → Asking Finished-attempt
   from-radius found = let r = scaled (a .step) (found .radius) in from-need (stage-need F r) (found .passes) r (found .vectors)
 
-  -- the stages begin with an evaluation
-  recurrence-is : (s k : ℕ) (r : Float) (w : Vectors) → 2 ≤ s → let c = recurrence F s in
-      run-recurrence F (h .kept .n) a s w >>= close F (h .kept .n) a s k r
-      ≡ stage-loop F (h .kept .n) a s (suc (s - 2)) 2 c (first-stage (h .kept .n) (a .step) (c .«theta_previous») w) >>= close F (h .kept .n) a s k r
-  unfolding run-recurrence
-  recurrence-is s k r w 2≤s = let e : s - 1 ≡ suc (s - 2) = omega arith in rw e
-
   -- after k passes at the scaled radius r
   need-follows : (need : Need) (k : ℕ) (π ρ r : Float) (g : Staging) (v w : Vectors) (c : Counters) (e : ℕ) → stage-need F r ≡ need → lt r nought ≡ false → Needed F need → k ≤ 12 → k ≡ suc e → Intact h w → Counted h e c
       → Follows h a k (pending-at h a hk hs P.Pass (iteration-at k π ρ nought) g v c) (from-need need k r w) (settled c (by-need need (at h a P.Pass (iteration-at k π ρ nought) g) w r))
-  unfolding stages-for _>>=_ by-need settled going-on counted ask-stage with-radius at-stage in-phase Follows
+  unfolding stages-for run-recurrence _>>=_ by-need settled going-on counted ask-stage with-radius at-stage in-phase Follows
   need-follows (Met s) k π ρ r g v w c e hr hn ok k≤ k≡ hw hc = let 2≤s = two-from F s ok in let c′ = recurrence F s in
-      rw (recurrence-is s k r w 2≤s)
       (stages-follow h a hk hs s k r π ρ ok hr hn (omega arith) k≤ (s - 2) 2 c′
       (first-stage (h .kept .n) (a .step) (c′ .«theta_previous») w) (one-more h c) k (pending-at h a hk hs P.Pass (iteration-at k π ρ nought) g v c) (omega arith) (omega arith) (omega arith)
       (intact-first h (a .step) (c′ .«theta_previous») w hw) (rw k≡ (counted-on h hc)))

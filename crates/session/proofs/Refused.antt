@@ -9,6 +9,7 @@ use native.Mathlib.Omega.{arith}
 use lib.Dec.{ltb, eqb}
 use borrow.Author.Tests.{le-ltb, ltb-false}
 use lib.Ieee.{Float}
+use Rattle.family.specs.declared.Setting.{Setting}
 use Rattle.family.specs.Family.{Family, family-of}
 use Rattle.coefficients.specs.Rows.{coefficients, next}
 use Rattle.workspace.specs.declared.Arguments.{Arguments}
@@ -24,7 +25,7 @@ use Rattle.driver.specs.declared.Answer.{Answer}
 use Rattle.driver.specs.declared.Answer.the-variants.{Evaluate, Finished, Ready, Refused, Empty}
 use Rattle.driver.specs.Answers.{case-number, case-values, Values, Says}
 use Rattle.driver.specs.Numbers.{one-of, need-numbers, after-nine, refusal-numbers}
-use Rattle.driver.specs.Calls.{Held, Called, Verdict, admitted, refused-with, Test, _∶_, first-failing, cause-of, finishes, room, has-room}
+use Rattle.driver.specs.Calls.{Held, Called, Verdict, admitted, refused-with, Test, _∶_, first-failing, cause-of, finishes, room, has-room, setting-of}
 use Rattle.driver.specs.Calls.{start-tests, attempt-tests, reply-tests, accept-tests, callback-tests, abandon-tests}
 use Rattle.driver.specs.Calls.{at-pass, at-stage, take-first, take-callback, ask-pass, ask-stage, stage-need, by-need, begin-stages, take-pass, ask-candidate}
 use Rattle.driver.specs.Calls.{take-stage, take-candidate, replied, going-on, spoiled, settled, attempted, accepted, called-back}
@@ -74,9 +75,9 @@ need-verdict (Met s) r v radius = refl
 need-verdict (Unmet i) r v radius = refl
 
 pass-verdict : (t : Bool) (r r′ : Record) (v v′ : Vectors) (radius : Float)
-    → verdict-of (cond t (begin-stages r v radius) (ask-pass r′ v′) .answer) ≡ first-failing (cond t (need-tests (stage-need (family-of (r .family)) radius)) [])
+    → verdict-of (cond t (begin-stages r v radius) (ask-pass r′ v′) .answer) ≡ first-failing (cond t (need-tests (stage-need (setting-of r) radius)) [])
 unfolding begin-stages ask-pass first-failing
-pass-verdict true r r′ v v′ radius = need-verdict (stage-need (family-of (r .family)) radius) r v radius
+pass-verdict true r r′ v v′ radius = need-verdict (stage-need (setting-of r) radius) r v radius
 pass-verdict false r r′ v v′ radius = refl
 
 stage-verdict : (t : Bool) (r r′ : Record) (v v′ : Vectors) → verdict-of (cond t (ask-stage r v) (ask-candidate r′ v′) .answer) ≡ first-failing (cond t [] (10 ∶ all-finite (v′ candidate) ∷ []))
@@ -85,15 +86,20 @@ stage-verdict true r r′ v v′ = refl
 stage-verdict false r r′ v v′ = candidate-verdict (all-finite (v′ candidate)) r′ v′ refl
 
 pub replied-verdict : (φ : Phase) (r : Record) (v : Vectors) (d : List Float) → verdict-of (replied φ r v d .answer) ≡ first-failing (replied-tests φ r v d)
-unfolding replied take-first take-callback take-pass take-stage take-candidate with-candidate replied-tests pass-tests stage-tests first-failing
+unfolding replied take-first take-callback take-pass take-stage take-candidate replied-tests pass-tests stage-tests first-failing
 replied-verdict P.Empty r v d = refl
 replied-verdict P.First r v d = refl
 replied-verdict P.Ready r v d = refl
 replied-verdict P.Pass r v d = let w = turned (r .n) v d in let i = r .iteration in let radius = radius-of (i .perturbation) w in
     pass-verdict (ended (i .pass) (i .«previous_radius») radius || eqb (i .pass) 12) r (at-pass (r .arguments) (i .pass + 1) (i .perturbation) radius r) w w (scaled (r .arguments .step) radius)
-replied-verdict P.Stage r v d = let f = family-of (r .family) in let s = r .staging .stages in let j = r .staging .stage in
-    let row = coefficients f s j (r .staging .recurrence) in let w = with-row f (r .n) (r .arguments .step) row v d in
-    stage-verdict (ltb j s) (at-stage s (j + 1) (next f s (r .staging .recurrence) row) r) r (exchanged w) (with-candidate w)
+replied-verdict P.Stage r v d =
+    let m = setting-of r in
+    let s = r .staging .stages in
+    let j = r .staging .stage in
+    let c = r .staging .recurrence in
+    let row = coefficients m s j c in
+    let w = with-row m (r .n) (r .arguments .step) row v d in
+    stage-verdict (ltb j s) (at-stage s (j + 1) (next m s c row) r) r (exchanged w) (with-candidate m (r .n) (r .arguments .step) s c row w)
 replied-verdict P.Candidate r v d = refl
 replied-verdict P.Finished r v d = refl
 replied-verdict P.Callback r v d = refl
@@ -182,13 +188,13 @@ stage-within : (t u : Bool) → Within (cond t [] (10 ∶ u ∷ [])) after-nine
 stage-within true u = last after-nine
 stage-within false u = more (10 ∶ u) [] need-numbers (last need-numbers)
 
-need-within : (f : Family) (need : Need) → Needed f need → Within (need-tests need) after-nine
+need-within : (m : Setting) (need : Need) → Needed m need → Within (need-tests need) after-nine
 unfolding need-tests first-failing
-need-within f (Met s) ok = last after-nine
-need-within f (Unmet i) ok = record { among = later ok }
+need-within m (Met s) ok = last after-nine
+need-within m (Unmet i) ok = record { among = later ok }
 
-pass-within : (t : Bool) (r : Record) (radius : Float) → Within (cond t (need-tests (stage-need (family-of (r .family)) radius)) []) after-nine
-pass-within true r radius = let f = family-of (r .family) in need-within f (stage-need f radius) (need-holds f radius)
+pass-within : (t : Bool) (r : Record) (radius : Float) → Within (cond t (need-tests (stage-need (setting-of r) radius)) []) after-nine
+pass-within true r radius = let f = setting-of r in need-within f (stage-need f radius) (need-holds f radius)
 pass-within false r radius = last after-nine
 
 replied-within : (φ : Phase) (r : Record) (v : Vectors) (d : List Float) → Within (replied-tests φ r v d) after-nine
@@ -198,8 +204,7 @@ replied-within P.First r v d = last after-nine
 replied-within P.Ready r v d = last after-nine
 replied-within P.Pass r v d = let i = r .iteration in let radius = radius-of (i .perturbation) (turned (r .n) v d) in
     pass-within (ended (i .pass) (i .«previous_radius») radius || eqb (i .pass) 12) r (scaled (r .arguments .step) radius)
-replied-within P.Stage r v d = let f = family-of (r .family) in let s = r .staging .stages in let j = r .staging .stage in
-    stage-within (ltb j s) (all-finite (with-row f (r .n) (r .arguments .step) (coefficients f s j (r .staging .recurrence)) v d next-stage))
+replied-within P.Stage r v d = stage-within (ltb (r .staging .stage) (r .staging .stages)) _
 replied-within P.Candidate r v d = last after-nine
 replied-within P.Finished r v d = last after-nine
 replied-within P.Callback r v d = last after-nine

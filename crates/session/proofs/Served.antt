@@ -12,7 +12,7 @@ use Rattle.family.proofs.Special.{infinite-count}
 use Rattle.workspace.specs.declared.Arguments.{Arguments}
 use Rattle.driver.specs.declared.Need.{Need}
 use Rattle.driver.specs.declared.Need.the-variants.{Met, Unmet}
-use Rattle.driver.specs.Calls.{Held, Called}
+use Rattle.driver.specs.Calls.{Held, Called, setting-of}
 use Rattle.session.specs.Attempt.{Finished-attempt}
 use Rattle.session.specs.Claim.{Finishes}
 use Rattle.session.proofs.Needs.{need-is}
@@ -26,7 +26,7 @@ met-same s t e = ap count e
 
 module _ (h : Held) (a : Arguments) (o : Finished-attempt) (replies : ℕ) (x : Called) (f : Finishes h a o replies x) where
   pub stages-from : o .stages ≡ stage-count (family-of (h .kept .family)) (o .scaled-radius)
-  stages-from = met-same (o .stages) _ (sym (f .need-met) ∙ need-is (family-of (h .kept .family)) (o .scaled-radius))
+  stages-from = met-same (o .stages) _ (sym (f .need-met) ∙ need-is (setting-of (h .kept)) (o .scaled-radius))
 
   -- what the record then holds as its r and s
   abbrev r : Float

@@ -6,9 +6,11 @@ use Prim.Native.Nat.{ℕ, zero, suc, _+_, _≤_}
 use native.Mathlib.Omega.{arith}
 use lib.Dec.{ltb, eqb}
 use borrow.Author.Tests.{lt-ltb, le-ltb, le-leb}
+use lib.ListN.{length}
 use lib.Ieee.{Float, lt}
 use Rattle.ieee.specs.Double.{_⊕_, _⊗_, nought}
-use Rattle.family.specs.Family.{Family, known, family-of, permitted}
+use Rattle.family.specs.declared.Setting.{Setting}
+use Rattle.family.specs.Family.{known, facts-of, kind}
 use Rattle.coefficients.specs.declared.Recurrence.{Recurrence}
 use Rattle.coefficients.specs.Rows.{coefficients, next}
 use Rattle.workspace.specs.declared.Arguments.{Arguments}
@@ -21,8 +23,8 @@ use Rattle.driver.specs.declared.Staging.{Staging}
 use Rattle.driver.specs.declared.Need.the-variants.{Met}
 use Rattle.driver.specs.declared.Counters.{Counters}
 use Rattle.driver.specs.declared.Answer.the-variants.{Evaluate, Refused}
-use Rattle.driver.specs.Calls.{Held, step-to, in-phase, at-stage, ask-stage, stage-need, ask-candidate, take-stage, take-candidate, replied, sized, pending, in-range, awaiting, finishes, going-on, counted, settled}
-use Rattle.session.specs.Attempt.{for-candidate, closes, Asking, done, stopped, _>>=_, evaluate, stage-loop, finished-attempt, close, evaluated}
+use Rattle.driver.specs.Calls.{Held, step-to, in-phase, setting-of, permits, at-stage, ask-stage, stage-need, ask-candidate, take-stage, take-candidate, replied, sized, pending, in-range, awaiting, finishes, going-on, counted, settled}
+use Rattle.session.specs.Attempt.{for-candidate, closes, Asking, done, stopped, _>>=_, evaluate, Finished-attempt, stage-row, stage-loop, finished-attempt, close, evaluated}
 use Rattle.session.specs.Refusals.{here, later}
 use Rattle.session.proofs.Truth.{differ, both}
 use Rattle.session.proofs.Follows.{Follows}
@@ -35,53 +37,53 @@ abbrev pub iteration-at : ℕ → Float → Float → Float → Iteration
 iteration-at k π ρ r = record { pass = k; perturbation = π; «previous_radius» = ρ; «scaled_radius» = r }
 
 module _ (h : Held) (a : Arguments) (hk : known (h .kept .family) ≡ true) (hs : sized (h .kept .n) ≡ true) where
-  abbrev F : Family
-  F = family-of (h .kept .family)
+  abbrev F : Setting
+  F = setting-of (h .kept)
 
   -- s stages after k passes, at the scaled radius r
-  module _ (s k : ℕ) (r π ρ : Float) (hs′ : permitted F s ≡ true) (hr : stage-need F r ≡ Met s) (hn : lt r nought ≡ false) (1≤k : 1 ≤ k) (k≤ : k ≤ 12) where
+  module _ (s k : ℕ) (r π ρ : Float) (hs′ : permits F s ≡ true) (hr : stage-need F r ≡ Met s) (hn : lt r nought ≡ false) (1≤k : 1 ≤ k) (k≤ : k ≤ 12) where
     abbrev I : Iteration
     I = iteration-at k π ρ r
 
     -- ---- after stage s
 
     candidate-follows : (j : ℕ) (rc : Recurrence) (v w : Vectors) (c : Counters) (e : ℕ) → Intact h w → Counted h e c → e + 2 ≡ k + s
-        → Follows h a (suc e) (pending-at h a hk hs P.Stage I (staging-at s j rc) v c) (close F (h .kept .n) a s k r w) (settled c (ask-candidate (at h a P.Stage I (staging-at s j rc)) (with-candidate w)))
+        → Follows h a (suc e) (pending-at h a hk hs P.Stage I (staging-at s j rc) v c) (close F (h .kept .n) a s k r w) (settled c (ask-candidate (at h a P.Stage I (staging-at s j rc)) w))
     unfolding Follows close finished-attempt evaluate _>>=_ ask-candidate settled going-on counted in-phase pending in-range awaiting finishes replied take-candidate with-last closes evaluated
-    candidate-follows j rc v w c e hw hc e≡ = go (all-finite (with-candidate w candidate)) refl
+    candidate-follows j rc v w c e hw hc e≡ = go (all-finite (w candidate)) refl
       where
-        last-stands : (d : List Float) (b : Vector) → eqb 1 (number b) ≡ false → eqb 2 (number b) ≡ false → with-last F (h .kept .n) a (with-candidate w) d b ≡ with-candidate w b
+        last-stands : (d : List Float) (b : Vector) → eqb 1 (number b) ≡ false → eqb 2 (number b) ≡ false → with-last F (h .kept .n) a w d b ≡ w b
         last-stands d b p q = pick (a .adaptive)
           where
-            pick : (t : Bool) → cond t (with-candidate w with last-derivative ≔ d with derivative ≔ each (h .kept .n) (with-candidate w with last-derivative ≔ d) (error F (a .step))) (with-candidate w with last-derivative ≔ d) b ≡ with-candidate w b
+            pick : (t : Bool) → cond t (w with last-derivative ≔ d with derivative ≔ each (h .kept .n) (w with last-derivative ≔ d) (error F (a .step))) (w with last-derivative ≔ d) b ≡ w b
             pick true = rw (p, q)
             pick false = rw p
 
-        last-taken : (d : List Float) → with-last F (h .kept .n) a (with-candidate w) d last-derivative ≡ d
+        last-taken : (d : List Float) → with-last F (h .kept .n) a w d last-derivative ≡ d
         last-taken d = pick (a .adaptive)
           where
-            pick : (t : Bool) → cond t (with-candidate w with last-derivative ≔ d with derivative ≔ each (h .kept .n) (with-candidate w with last-derivative ≔ d) (error F (a .step))) (with-candidate w with last-derivative ≔ d) last-derivative ≡ d
+            pick : (t : Bool) → cond t (w with last-derivative ≔ d with derivative ≔ each (h .kept .n) (w with last-derivative ≔ d) (error F (a .step))) (w with last-derivative ≔ d) last-derivative ≡ d
             pick true = refl
             pick false = refl
 
-        go : (t : Bool) → all-finite (with-candidate w candidate) ≡ t → Follows h a (suc e) (pending-at h a hk hs P.Stage I (staging-at s j rc) v c)
+        go : (t : Bool) → all-finite (w candidate) ≡ t → Follows h a (suc e) (pending-at h a hk hs P.Stage I (staging-at s j rc) v c)
             (cond t
-            (evaluate for-candidate (with-candidate w) (a .time ⊕ a .step) (with-candidate w candidate) >>= λ d. done (finished-attempt F (h .kept .n) a s k r (with-last F (h .kept .n) a (with-candidate w) d)))
-            (stopped 10 (with-candidate w)))
+            (evaluate for-candidate w (a .time ⊕ a .step) (w candidate) >>= λ d. done (finished-attempt F (h .kept .n) a s k r (with-last F (h .kept .n) a w d)))
+            (stopped 10 w))
             (settled c (cond t
-            (step-to (Evaluate (a .time ⊕ a .step) (number candidate)) (at h a P.Candidate I (staging-at s j rc)) (with-candidate w))
-            (step-to (Refused 10) (at h a P.Empty I (staging-at s j rc)) (with-candidate w))))
+            (step-to (Evaluate (a .time ⊕ a .step) (number candidate)) (at h a P.Candidate I (staging-at s j rc)) w)
+            (step-to (Refused 10) (at h a P.Empty I (staging-at s j rc)) w)))
         go true finite =
-            asked h a hk hs P.Candidate I (staging-at s j rc) (with-candidate w) (one-more h c) (suc e) _ (a .time ⊕ a .step) candidate (pending-at h a hk hs P.Stage I (staging-at s j rc) v c)
-            (λ m. m >>= λ d. done (finished-attempt F (h .kept .n) a s k r (with-last F (h .kept .n) a (with-candidate w) d)))
-            (intact-candidate h w hw) (counted-on h hc) hs′ refl refl (λ c d s j. refl)
+            asked h a hk hs P.Candidate I (staging-at s j rc) w (one-more h c) (suc e) _ (a .time ⊕ a .step) candidate (pending-at h a hk hs P.Stage I (staging-at s j rc) v c)
+            (λ m. m >>= λ d. done (finished-attempt F (h .kept .n) a s k r (with-last F (h .kept .n) a w d)))
+            hw (counted-on h hc) hs′ refl refl (λ c d s j. refl)
             (λ d hd fin. record {
               answer-is = refl;
               area-is = refl;
-              vectors-long = long-last F (h .kept .n) F a (with-candidate w) d (intact-candidate h w hw .long) hd;
-              state-stands = last-stands d state refl refl ∙ intact-candidate h w hw .state-is;
-              first-stands = last-stands d first-derivative refl refl ∙ intact-candidate h w hw .first-is;
-              older-stands = last-stands d older-state refl refl ∙ intact-candidate h w hw .older-is;
+              vectors-long = long-last (kind F) (h .kept .n) F a w d (hw .long) hd;
+              state-stands = last-stands d state refl refl ∙ hw .state-is;
+              first-stands = last-stands d first-derivative refl refl ∙ hw .first-is;
+              older-stands = last-stands d older-state refl refl ∙ hw .older-is;
               candidate-finite = ap all-finite (last-stands d candidate refl refl) ∙ finite;
               last-finite = ap all-finite (last-taken d) ∙ fin;
               phase-is = refl;
@@ -108,7 +110,7 @@ module _ (h : Held) (a : Arguments) (hk : known (h .kept .family) ≡ true) (hs 
           record-is = refl;
           family-is = refl;
           n-is = refl;
-          vectors-long = intact-candidate h w hw .long;
+          vectors-long = hw .long;
           evaluations-are = counted-on h hc .evaluations-are;
           attempts-are = hc .attempts-are;
         }
@@ -118,23 +120,40 @@ module _ (h : Held) (a : Arguments) (hk : known (h .kept .family) ≡ true) (hs 
     abbrev taken : ℕ → Recurrence → Vectors → List Float → Vectors
     taken j rc v d = with-row F (h .kept .n) (a .step) (coefficients F s j rc) v d
 
-    abbrev on-from : ℕ → ℕ → Recurrence → Vectors → List Float → Asking Vectors
-    on-from m j rc v d = cond (ltb j s) (stage-loop F (h .kept .n) a s m (j + 1) (next F s rc (coefficients F s j rc)) (exchanged (taken j rc v d))) (done (taken j rc v d))
+    -- with the candidate
+    abbrev last : ℕ → Recurrence → Vectors → List Float → Vectors
+    last j rc v d = with-candidate F (h .kept .n) (a .step) s rc (coefficients F s j rc) (taken j rc v d)
+
+    -- the row leaves state, first derivative and older state as they were
+    whole : (j : ℕ) (rc : Recurrence) (v : Vectors) (d : List Float) → Intact h v → length d ≡ h .kept .n → Intact h (taken j rc v d)
+    whole j rc v d hv hd = intact-row h (facts-of (kind F) .row) (a .step) (coefficients F s j rc) v d hv hd
+
+    -- what a stage's derivative is taken to, in the attempt in one piece: before stage s, and at it
+    abbrev on-from : ℕ → ℕ → Recurrence → Vectors → Asking Vectors
+    on-from m j rc w = stage-loop F (h .kept .n) a s m (j + 1) (next F s rc (coefficients F s j rc)) (exchanged w)
+
+    abbrev at-last : ℕ → Recurrence → Vectors → Asking Vectors
+    at-last j rc w = done (with-candidate F (h .kept .n) (a .step) s rc (coefficients F s j rc) w)
+
+    abbrev row-then : (Vectors → Asking Vectors) → ℕ → Recurrence → Vectors → Asking (List Float) → Asking Finished-attempt
+    row-then on j rc v x = (x >>= (λ d. done (taken j rc v d))) >>= on >>= close F (h .kept .n) a s k r
 
     pub stages-follow : (m j : ℕ) (rc : Recurrence) (v : Vectors) (c : Counters) (e : ℕ) (x : Held) → j + m ≡ s → 2 ≤ j → e + 2 ≡ k + j → Intact h v → Counted h e c
-        → Follows h a e x (stage-loop F (h .kept .n) a s (suc m) j rc v >>= close F (h .kept .n) a s k r) (going-on c (ask-stage (at h a P.Stage (iteration-at k π ρ r) (staging-at s j rc)) v))
-    unfolding stage-loop evaluate _>>=_ ask-stage pending in-range awaiting finishes replied take-stage at-stage settled counted closes
+        → Follows h a e x (stage-loop F (h .kept .n) a s m j rc v >>= close F (h .kept .n) a s k r) (going-on c (ask-stage (at h a P.Stage (iteration-at k π ρ r) (staging-at s j rc)) v))
+    unfolding stage-loop stage-row evaluate _>>=_ ask-stage pending in-range awaiting finishes replied take-stage at-stage settled counted closes
     stages-follow zero j rc v c e x j≡ 2≤j e≡ hv hc =
         asked h a hk hs P.Stage I (staging-at s j rc) v c e _ (a .time ⊕ a .step ⊗ rc .«theta_previous») previous-one x
-        (λ m. (m >>= on-from zero j rc v) >>= close F (h .kept .n) a s k r)
+        (row-then (at-last j rc) j rc v)
         hv hc (both hs′ (both (le-leb 2 j 2≤j) (le-leb j s (omega arith)))) refl
         refl (λ c. absurd (differ c))
-        (λ d hd fin. rw (le-ltb j s (omega arith)) (candidate-follows j rc v (taken j rc v d) c e (intact-row h F (a .step) (coefficients F s j rc) v d hv hd) hc (omega arith)))
+        (λ d hd fin. rw (le-ltb j s (omega arith))
+        (candidate-follows j rc v (last j rc v d) c e (intact-candidate h F (a .step) s rc (coefficients F s j rc) (taken j rc v d) (whole j rc v d hv hd)) hc (omega arith)))
     stages-follow (suc m) j rc v c e x j≡ 2≤j e≡ hv hc =
         asked h a hk hs P.Stage I (staging-at s j rc) v c e _ (a .time ⊕ a .step ⊗ rc .«theta_previous») previous-one x
-        (λ m′. (m′ >>= on-from (suc m) j rc v) >>= close F (h .kept .n) a s k r)
+        (row-then (on-from m j rc) j rc v)
         hv hc (both hs′ (both (le-leb 2 j 2≤j) (le-leb j s (omega arith)))) refl
         refl (λ c. absurd (differ c))
         (λ d hd fin. rw (lt-ltb j s (omega arith))
-        (stages-follow m (j + 1) (next F s rc (coefficients F s j rc)) (exchanged (taken j rc v d)) (one-more h c) (suc e) (pending-at h a hk hs P.Stage I (staging-at s j rc) v c) (omega arith) (omega arith) (omega arith)
-        (intact-exchanged h (taken j rc v d) (intact-row h F (a .step) (coefficients F s j rc) v d hv hd)) (counted-on h hc)))
+        (stages-follow m (j + 1) (next F s rc (coefficients F s j rc)) (exchanged (taken j rc v d)) (one-more h c) (suc e)
+        (pending-at h a hk hs P.Stage I (staging-at s j rc) v c) (omega arith) (omega arith) (omega arith)
+        (intact-exchanged h (taken j rc v d) (whole j rc v d hv hd)) (counted-on h hc)))

@@ -7,11 +7,11 @@ use Prim.Native.Nat.{ℕ, suc, _+_, _-_, _≤_}
 use native.Mathlib.Omega.{arith}
 use lib.Ieee.{Float, lt}
 use Rattle.ieee.specs.Double.{nought}
-use Rattle.family.specs.Family.{family-of, stage-count}
+use Rattle.family.specs.Family.{family-of, stage-count, setting}
 use Rattle.family.proofs.Range.{permitted-range}
 use Rattle.family.proofs.Counts.{stage-count-permitted}
 use Rattle.coefficients.specs.declared.Recurrence.{Recurrence}
-use Rattle.coefficients.specs.Rows.{carried}
+use Rattle.coefficients.specs.Rows.{carried, carried-of}
 use Rattle.workspace.specs.declared.Arguments.{Arguments}
 use Rattle.workspace.specs.Vectors.{Vectors, unpack}
 use Rattle.workspace.specs.Kernel.{radius-of}
@@ -20,7 +20,7 @@ use Rattle.driver.specs.declared.Phase.{Phase}
 use Rattle.driver.specs.declared.Phase.the-variants as P
 use Rattle.driver.specs.declared.Answer.the-variants.{Finished}
 use Rattle.driver.specs.Answers.{case-number}
-use Rattle.driver.specs.Calls.{Held, Called, in-phase, first-at, at-pass, with-radius, at-stage, pending, Call, Attempt, Reply, taken}
+use Rattle.driver.specs.Calls.{Held, Called, in-phase, first-at, at-pass, with-radius, at-stage, pending, Call, Attempt, Reply, taken, setting-of}
 use Rattle.session.specs.Concluded.{stages-of, passes-of, scaled-radius-of, is-start}
 use Rattle.session.proofs.Truth.{differ}
 use Rattle.session.proofs.Lengths.{its-family}
@@ -72,7 +72,7 @@ pub record In-stages (g : Held) (m to-come finished : ℕ) (x : Held) : Type 0 w
   pub replies-are : m + to-come ≡ stages-of x + passes-of x
   pub from-two : 2 ≤ x .kept .staging .stage
   pub to-last : x .kept .staging .stage ≤ stages-of x
-  pub recurrence-is : x .kept .staging .recurrence ≡ carried (family-of (x .kept .family)) (stages-of x) (x .kept .staging .stage - 2)
+  pub recurrence-is : x .kept .staging .recurrence ≡ carried (setting-of (x .kept)) (stages-of x) (x .kept .staging .stage - 2)
   pub attempts-are : x .counters .«finished_attempts» ≡ g .counters .«finished_attempts» + finished
 
 abbrev pub Position : Held → ℕ → Held → Phase → Type 0
@@ -95,12 +95,12 @@ least-count : (f : ℕ) (r : Float) → 2 ≤ stage-count (family-of f) r
 least-count f r = permitted-range (family-of f) (stage-count (family-of f) r) (stage-count-permitted (family-of f) r) .0
 
 -- what is carried on from stage j is what the recurrence comes to there
-carries-on : (f s j : ℕ) (c : Recurrence) → 2 ≤ j → c ≡ carried (family-of f) s (j - 2) → carried-on f s j c ≡ carried (family-of f) s (j + 1 - 2)
-unfolding carried
+carries-on : (f s j : ℕ) (c : Recurrence) → 2 ≤ j → c ≡ carried (setting f) s (j - 2) → carried-on f s j c ≡ carried (setting f) s (j + 1 - 2)
+unfolding carried-of
 carries-on f s j c from e =
     let before : j - 2 + 2 ≡ j = omega arith in
     let after : j + 1 - 2 ≡ suc (j - 2) = omega arith in
-    ap₂ (λ (i : ℕ) (c : Recurrence). carried-on f s i c) (sym before) e ∙ ap (carried (family-of f) s) (sym after)
+    ap₂ (λ (i : ℕ) (c : Recurrence). carried-on f s i c) (sym before) e ∙ ap (carried (setting f) s) (sym after)
 
 -- a call leaves it so, and answers so
 pub record Goes (g : Held) (a : Arguments) (m : ℕ) (x : Called) : Type 0 where
@@ -127,7 +127,7 @@ module _ (g : Held) (a : Arguments) (m : ℕ) (x : Held) (u : Underway g a m x) 
   at-phase φ p = subst (Position g m x) p (u .position)
 
   pub reply-goes : (d : List Float) (y : Called) → Outcome x (Reply d) y → taken (y .answer) ≡ true → active (y .held .kept .phase) ≡ true → Goes g a (m + 1) y
-  unfolding in-phase at-pass with-radius at-stage active case-number case-at carried
+  unfolding in-phase at-pass with-radius at-stage active case-number case-at carried-of
   reply-goes d y (away i e) q on = absurd (differ (sym e ∙ q))
   reply-goes d y (spoils i area) q on = absurd (differ on)
   reply-goes d y (readies area) q on = absurd (differ on)

@@ -5,10 +5,10 @@
 use Prim.Native.Nat.{ℕ, zero, suc, _+_, _-_}
 use mathlib.Core.Bool.{Bool, true, false, cond, _||_}
 use mathlib.Core.List.{List, [], _∷_}
-use lib.Dec.{ltb, eqb}
+use lib.Dec.{eqb}
 use lib.Ieee.{Float}
 use Rattle.ieee.specs.Double.{_⊕_, _⊗_, nought}
-use Rattle.family.specs.Family.{Family}
+use Rattle.family.specs.declared.Setting.{Setting}
 use Rattle.coefficients.specs.declared.Recurrence.{Recurrence}
 use Rattle.coefficients.specs.Rows.{recurrence, coefficients, next}
 use Rattle.workspace.specs.declared.Arguments.{Arguments}
@@ -67,7 +67,8 @@ pub record Finished-attempt : Type 0 where
   pub scaled-radius : Float
   pub vectors : Vectors
 
-module _ (f : Family) (n : ℕ) (a : Arguments) where
+-- what the attempt runs under, the length of its vectors, and its arguments
+module _ (under : Setting) (n : ℕ) (a : Arguments) where
   -- the loop of `spectral_radius`: passes still allowed, passes made, the radius before
   unfoldable pub iterate : Float → ℕ → ℕ → Float → Vectors → Asking Radius
   iterate perturbation zero k radius v = done (record { radius = radius; passes = k; vectors = v })
@@ -83,39 +84,43 @@ module _ (f : Family) (n : ℕ) (a : Arguments) where
   unfoldable pub spectral-radius : Vectors → Asking Radius
   spectral-radius v = iterate (perturbation-of v) 12 0 nought (with-direction n v)
 
-  -- the loop over the stages from j to s: stages still to come
-  unfoldable pub stage-loop : ℕ → ℕ → ℕ → Recurrence → Vectors → Asking Vectors
-  stage-loop s zero j c v = done v
-  stage-loop s (suc m) j c v = do
-    let row = coefficients f s j c
+  -- a stage's derivative, and the vectors after its row
+  unfoldable pub stage-row : ℕ → ℕ → Recurrence → Vectors → Asking Vectors
+  stage-row s j c v = do
     d ← evaluate for-another v (a .time ⊕ a .step ⊗ c .«theta_previous») (v previous-one)
-    let v = with-row f n (a .step) row v d
-    cond (ltb j s)
-        (stage-loop s m (j + 1) (next f s c row) (exchanged v))
-        (done v)
+    done (with-row under n (a .step) (coefficients under s j c) v d)
+
+  -- the loop over the stages, m of them after stage j; after stage s, which is the last, the candidate
+  unfoldable pub stage-loop : ℕ → ℕ → ℕ → Recurrence → Vectors → Asking Vectors
+  stage-loop s zero j c v = do
+    v ← stage-row s j c v
+    done (with-candidate under n (a .step) s c (coefficients under s j c) v)
+  stage-loop s (suc m) j c v = do
+    v ← stage-row s j c v
+    stage-loop s m (j + 1) (next under s c (coefficients under s j c)) (exchanged v)
 
   unfoldable pub run-recurrence : ℕ → Vectors → Asking Vectors
-  run-recurrence s v = let c = recurrence f s in
-      stage-loop s (s - 1) 2 c (first-stage n (a .step) (c .«theta_previous») v)
+  run-recurrence s v = let c = recurrence under s in
+      stage-loop s (s - 2) 2 c (first-stage n (a .step) (c .«theta_previous») v)
 
   unfoldable pub finished-attempt : ℕ → ℕ → Float → Vectors → Finished-attempt
-  finished-attempt s k r v = record { norm = error-norm f n s a v; stages = s; passes = k; scaled-radius = r; vectors = v }
+  finished-attempt s k r v = record { norm = error-norm under n s a v; stages = s; passes = k; scaled-radius = r; vectors = v }
 
   -- `finite(candidate)?`, then the evaluation at the candidate and the error. (The Rust reports a candidate that is not finite as a derivative; here it has
   -- a number of its own: a listed difference.)
   unfoldable pub close : ℕ → ℕ → Float → Vectors → Asking Finished-attempt
-  close s k r v = let v = with-candidate v in
+  close s k r v =
       cond (all-finite (v candidate))
       (do
         d ← evaluate for-candidate v (a .time ⊕ a .step) (v candidate)
-        done (finished-attempt s k r (with-last f n a v d)))
+        done (finished-attempt s k r (with-last under n a v d)))
       (stopped 10 v)
 
   unfoldable pub attempt-step : Vectors → Asking Finished-attempt
   attempt-step v = do
     found ← spectral-radius v
     let r = scaled (a .step) (found .radius)
-    s ← stages-for (stage-need f r) (found .vectors)
+    s ← stages-for (stage-need under r) (found .vectors)
     v ← run-recurrence s (found .vectors)
     close s (found .passes) r v
 

@@ -6,7 +6,7 @@ use Prim.Native.Nat.{ℕ, zero, suc, _+_, _≤_, _<_, _^_}
 use lib.ListN.{length, take}
 use lib.Ieee.{Float, lt}
 use Rattle.ieee.specs.Double.{nought}
-use Rattle.family.specs.Family.{known, family-of, stage-count, permitted}
+use Rattle.family.specs.Family.{known, family-of, stage-count}
 use Rattle.workspace.specs.declared.Arguments.{Arguments}
 use Rattle.workspace.specs.Vectors.{Vector, Vectors, width, named, unpack, pack, all-finite, state, candidate, older-state, first-derivative, last-derivative}
 use Rattle.driver.specs.declared.Phase.the-variants as P
@@ -15,7 +15,7 @@ use Rattle.driver.specs.declared.Answer.{Answer}
 use Rattle.driver.specs.declared.Answer.the-variants.{Evaluate, Finished, Ready, Refused, Empty}
 use Rattle.driver.specs.Answers.{case-number, Says}
 use Rattle.driver.specs.Numbers.{ending-numbers}
-use Rattle.driver.specs.Calls.{Held, Called, in-phase, stage-need, sized, whole-area, awaiting, has-room, may-attempt, good-times, good-tolerances, attempt, reply, Call, Reply}
+use Rattle.driver.specs.Calls.{Held, Called, in-phase, setting-of, permits, stage-need, sized, whole-area, awaiting, has-room, may-attempt, good-times, good-tolerances, attempt, reply, Call, Reply}
 use Rattle.session.specs.Attempt.{Asking, Finished-attempt, Evaluated, evaluated, reaches-candidate, End, reached, refused, end, attempt-step}
 use Rattle.session.specs.Refusals.{_∈_}
 
@@ -98,9 +98,9 @@ pub record Finishes (h : Held) (a : Arguments) (o : Finished-attempt) (replies :
   pub replies-are : replies ≡ o .stages + o .passes
   pub one-pass : 1 ≤ o .passes
   pub twelve-passes : o .passes ≤ 12
-  pub need-met : stage-need (family-of (h .kept .family)) (o .scaled-radius) ≡ Met (o .stages)
+  pub need-met : stage-need (setting-of (h .kept)) (o .scaled-radius) ≡ Met (o .stages)
   pub not-negative : lt (o .scaled-radius) nought ≡ false
-  pub stages-permitted : permitted (family-of (h .kept .family)) (o .stages) ≡ true
+  pub stages-permitted : permits (setting-of (h .kept)) (o .stages) ≡ true
 
 -- stopped by number i with the vectors v, by a reply that found b: of the record only the phase is changed, and on 9 nothing of the area
 pub record Stops (h : Held) (b : Held) (i : ℕ) (v : Vectors) (replies : ℕ) (x : Called) : Type 0 where
@@ -121,7 +121,7 @@ Ends h a (refused i v) replies b x = Stops h b i v replies x
 
 -- the attempt in one piece from the vectors of the area
 abbrev pub in-one-piece : Held → Arguments → Asking Finished-attempt
-in-one-piece h a = attempt-step (family-of (h .kept .family)) (h .kept .n) a (unpack (h .kept .n) (h .area))
+in-one-piece h a = attempt-step (setting-of (h .kept)) (h .kept .n) a (unpack (h .kept .n) (h .area))
 
 -- room for the next reply
 abbrev pub room-in : Held → Bool

@@ -13,11 +13,11 @@ use lib.Ieee.{Float, inf, lt}
 use lib.Ieee.Scale.{finite}
 use Rattle.ieee.specs.Double.{nought}
 use Rattle.ieee.specs.Close.{Close}
-use Rattle.family.specs.Family.{RKC, Orthogonal, made-of, family-of, permitted, largest-count, stage-count}
+use Rattle.family.specs.Family.{RKC, Orthogonal, made-of, family-of, setting, permitted, largest-count, stage-count}
 use Rattle.family.specs.Reach.{Serves}
 use Rattle.coefficients.specs.declared.Recurrence.{Recurrence}
 use Rattle.coefficients.specs.Paper as Paper
-use Rattle.coefficients.specs.Rows.{recurrence, coefficients, carried}
+use Rattle.coefficients.specs.Rows.{recurrence-of, coefficients-of, carried}
 use Rattle.coefficients.specs.Table as Table
 use Rattle.coefficients.specs.Chebyshev as Chebyshev
 use Rattle.coefficients.specs.Closeness.{Close-row}
@@ -28,7 +28,7 @@ use Rattle.workspace.specs.Kernel.{error-norm}
 use Rattle.driver.specs.declared.Phase.the-variants as P
 use Rattle.driver.specs.declared.Answer.the-variants.{Finished}
 use Rattle.driver.specs.Answers.{case-number}
-use Rattle.driver.specs.Calls.{Held, Called, Call, Start, Attempt, Reply, Accept, Accept-with-callback, Abandon, made, taken}
+use Rattle.driver.specs.Calls.{Held, Called, setting-of, Call, Start, Attempt, Reply, Accept, Accept-with-callback, Abandon, made, taken}
 use Rattle.session.specs.Session.{taken-of, held-after}
 
 -- ---- one call of a list
@@ -94,8 +94,8 @@ scaled-radius-of x = x .kept .iteration .«scaled_radius»
 -- demand 3 of an attempt of s stages for the scaled radius r: RKL1, RKL2, RKG1, RKG2
 pub record Demand-three (g : Orthogonal) (r : Float) (s : ℕ) : Type 0 where
   pub serves : T (finite r) → Serves g r s
-  pub first-close : Close 48 (recurrence (made-of g) s .«theta_previous») (Paper.first-mu-tilde g s)
-  pub rows-close : (j : ℕ) → 2 ≤ j → j ≤ s → (c : Recurrence) → Close-row g s j (coefficients (made-of g) s j c)
+  pub first-close : Close 48 (recurrence-of (made-of g) s .«theta_previous») (Paper.first-mu-tilde g s)
+  pub rows-close : (j : ℕ) → 2 ≤ j → j ≤ s → (c : Recurrence) → Close-row g s j (coefficients-of (made-of g) s j c)
   pub stable : Stable g s
 
 -- The last of these calls from h on is answered "finished"; x is its answer and what it leaves. An attempt was taken, and the calls taken since are s + k
@@ -112,7 +112,7 @@ pub record Concluded (h : Held) (calls : List Call) (x : Called) : Type 0 where
   pub only-replies : taken-since attempt ≡ map Reply replies
   pub replies-are : length replies ≡ stages-of (x .held) + passes-of (x .held)
   pub answers-are : cases-since attempt ≡ replicate (length replies - 1) 1 ++ 2 ∷ []
-  pub norm-is : x .answer ≡ Finished (error-norm (family-of (start .family)) (start .n) (stages-of (x .held)) arguments (unpack (start .n) (x .held .area)))
+  pub norm-is : x .answer ≡ Finished (error-norm (setting (start .family)) (start .n) (stages-of (x .held)) arguments (unpack (start .n) (x .held .area)))
   pub one-pass : 1 ≤ passes-of (x .held)
   pub twelve-passes : passes-of (x .held) ≤ 12
   pub evaluations-are : x .held .counters .evaluations ≡ found attempt .counters .evaluations + (stages-of (x .held) + passes-of (x .held))
@@ -130,6 +130,6 @@ pub record Carries (x : Held) : Type 0 where
   pub stages-permitted : T (permitted (family-of (x .kept .family)) (stages-of x))
   pub from-two : 2 ≤ x .kept .staging .stage
   pub to-last : x .kept .staging .stage ≤ stages-of x
-  pub recurrence-is : x .kept .staging .recurrence ≡ carried (family-of (x .kept .family)) (stages-of x) (x .kept .staging .stage - 2)
+  pub recurrence-is : x .kept .staging .recurrence ≡ carried (setting-of (x .kept)) (stages-of x) (x .kept .staging .stage - 2)
   pub entry-read : family-of (x .kept .family) ≡ RKC → x .kept .staging .recurrence .polynomials .«omega_one» ≡ Table.omega (stages-of x)
   pub entry-close : family-of (x .kept .family) ≡ RKC → Close 36 (x .kept .staging .recurrence .polynomials .«omega_one») (Chebyshev.omega-one (stages-of x))

@@ -7,10 +7,10 @@ use mathlib.Core.List.{List, [], _∷_}
 use lib.Dec.{ltb, eqb}
 use lib.Ieee.{Float}
 use lib.Ieee.Scale.{finite}
-use Rattle.family.specs.Family.{known, family-of}
+use Rattle.family.specs.Family.{known}
 use Rattle.coefficients.specs.Rows.{coefficients}
-use Rattle.workspace.specs.Vectors.{Vectors, unpack, all-finite, last-derivative, next-stage, older-state}
-use Rattle.workspace.specs.Kernel.{turned, radius-of, ended, scaled, with-row}
+use Rattle.workspace.specs.Vectors.{Vectors, unpack, all-finite, last-derivative, candidate, older-state}
+use Rattle.workspace.specs.Kernel.{turned, radius-of, ended, scaled, with-row, with-candidate}
 use Rattle.driver.specs.declared.Phase.{Phase}
 use Rattle.driver.specs.declared.Phase.the-variants as P
 use Rattle.driver.specs.declared.Record.{Record}
@@ -19,7 +19,7 @@ use Rattle.driver.specs.declared.Need.the-variants.{Met, Unmet}
 use Rattle.driver.specs.declared.Answer.{Answer}
 use Rattle.driver.specs.declared.Answer.the-variants.{Evaluate, Finished, Ready, Refused, Empty}
 use Rattle.driver.specs.Numbers.{standing-numbers, ending-numbers}
-use Rattle.driver.specs.Calls.{Held, in-phase, stage-need, Test, _∶_, Verdict, admitted, refused-with}
+use Rattle.driver.specs.Calls.{Held, in-phase, setting-of, stage-need, Test, _∶_, Verdict, admitted, refused-with}
 use Rattle.driver.specs.Calls.{sized, whole-area, as-long, awaiting, may-attempt, may-accept, good-times, good-tolerances, has-room}
 use Rattle.driver.specs.Calls.{Call, Start, Attempt, Reply, Accept, Accept-with-callback, Abandon}
 
@@ -39,18 +39,20 @@ unfoldable pub pass-tests : Record → Vectors → List Float → List Test
 pass-tests r v d = let i = r .iteration in
     let radius = radius-of (i .perturbation) (turned (r .n) v d) in
     cond (ended (i .pass) (i .«previous_radius») radius || eqb (i .pass) 12)
-    (need-tests (stage-need (family-of (r .family)) (scaled (r .arguments .step) radius)))
+    (need-tests (stage-need (setting-of r) (scaled (r .arguments .step) radius)))
     []
 
 -- "the reply that ends stage s also 10"
 unfoldable pub stage-tests : Record → Vectors → List Float → List Test
-stage-tests r v d = let f = family-of (r .family) in
+stage-tests r v d = let m = setting-of r in
     let s = r .staging .stages in
     let j = r .staging .stage in
-    let row = coefficients f s j (r .staging .recurrence) in
+    let c = r .staging .recurrence in
+    let row = coefficients m s j c in
+    let w = with-row m (r .n) (r .arguments .step) row v d in
     cond (ltb j s)
     []
-    (10 ∶ all-finite (with-row f (r .n) (r .arguments .step) row v d next-stage) ∷ [])
+    (10 ∶ all-finite (with-candidate m (r .n) (r .arguments .step) s c row w candidate) ∷ [])
 
 unfoldable pub replied-tests : Phase → Record → Vectors → List Float → List Test
 replied-tests P.Empty r v d = []

@@ -7,7 +7,7 @@ use lib.ListN.{replicate}
 use lib.Ieee.{Float}
 use lib.Ieee.Scale.{finite}
 use Rattle.ieee.specs.Double.{nought}
-use Rattle.family.specs.Family.{known, family-of}
+use Rattle.family.specs.Family.{known, family-of, setting}
 use Rattle.workspace.specs.declared.Arguments.{Arguments}
 use Rattle.workspace.specs.Vectors.{Vectors, _with_≔_, named, vector-count, unpack, all-finite, first-derivative, last-derivative, eigenvector, state, candidate}
 use Rattle.driver.specs.declared.Counters.{Counters}
@@ -93,7 +93,7 @@ initialize n y t = do
 
 unfoldable pub tries : ℕ → ℕ → Arguments → Vectors → Asking Resting
 tries f n a v = do
-  o ← attempt-step (family-of f) n a v
+  o ← attempt-step (setting f) n a v
   done (tried o)
 
 -- `accept_step`, without a callback and with one

@@ -1,6 +1,5 @@
 -- `permits` meets its contract: the counts of the setting's family.
 use borrow.Author.Needs.{needs}
-use Rattle.driver.specs.Calls.{permits}
 use Rattle.driver.proofs.checks.permits.Statement.{statement}
 use Rattle.driver.proofs.checks.permits.Tie as tie
 
@@ -8,7 +7,6 @@ permitted-requires : tie.Need-permitted-requires
 permitted-requires c κs = search needs
 
 returns : tie.Need-returns
-unfolding permits
 returns c = c .permitted .ensures
 
 pub permits-spec : {M : Type 1} → statement M
