@@ -11,8 +11,10 @@ use Rattle.ieee.specs.Double.{one, min-positive}
 use Rattle.family.specs.Family.{Family, RKC, RKL1, RKL2, RKG1, RKG2}
 use Rattle.coefficients.specs.declared.Coefficients.{Coefficients}
 use Rattle.workspace.specs.declared.Arguments.{Arguments}
-use Rattle.workspace.specs.Vectors.{Vector, Vectors, _with_≔_, number, each, vector-norm, first-derivative, last-derivative, derivative, previous-two, previous-one, next-stage, eigenvector, perturbed-state, perturbed-derivative, state, candidate, older-state}
-use Rattle.workspace.specs.Kernel.{with-direction, perturbed-by, perturbed, turned, first-stage, orthogonal-entry, chebyshev-entry, entry, with-row, exchanged, with-candidate, with-last, error, scaled-error, scaled-error-norm, error-norm}
+use Rattle.workspace.specs.Vectors.{Vector, Vectors, _with_≔_, number, each, vector-norm, first-derivative, last-derivative, derivative, previous-two}
+use Rattle.workspace.specs.Vectors.{previous-one, next-stage, eigenvector, perturbed-state, perturbed-derivative, state, candidate, older-state}
+use Rattle.workspace.specs.Kernel.{with-direction, perturbed-by, perturbed, turned, first-stage, orthogonal-entry, chebyshev-entry, entry, with-row}
+use Rattle.workspace.specs.Kernel.{exchanged, with-candidate, with-last, error, scaled-error, scaled-error-norm, error-norm}
 use Rattle.session.specs.Attempt.{all-but-last}
 use Rattle.session.specs.Alike.{compared, Same-vectors}
 
@@ -60,9 +62,12 @@ module _ (history : Bool) where
   module _ (n : ℕ) where
     pub direction-agrees : (v w : Vectors) → Agree three v w → Agree three (with-direction n v) (with-direction n w)
     unfolding with-direction
-    direction-agrees v w p = rw (p eigenvector refl, p first-derivative refl) (go (le (vector-norm (w eigenvector)) min-positive) (le (vector-norm (w first-derivative)) min-positive))
+    direction-agrees v w p = rw (p eigenvector refl, p first-derivative refl)
+        (go (le (vector-norm (w eigenvector)) min-positive) (le (vector-norm (w first-derivative)) min-positive))
       where
-        go : (t u : Bool) → Agree three (cond t (cond u (v with eigenvector ≔ replicate n one) (v with eigenvector ≔ w first-derivative)) v) (cond t (cond u (w with eigenvector ≔ replicate n one) (w with eigenvector ≔ w first-derivative)) w)
+        go : (t u : Bool) → Agree three
+            (cond t (cond u (v with eigenvector ≔ replicate n one) (v with eigenvector ≔ w first-derivative)) v)
+            (cond t (cond u (w with eigenvector ≔ replicate n one) (w with eigenvector ≔ w first-derivative)) w)
         go true true = drop-one three eigenvector _ _ (agree-with three eigenvector v w (replicate n one) (replicate n one) p refl)
         go true false = drop-one three eigenvector _ _ (agree-with three eigenvector v w (w first-derivative) (w first-derivative) p refl)
         go false u = p
@@ -73,7 +78,8 @@ module _ (history : Bool) where
 
     pub turned-agrees : (d : List Float) (v w : Vectors) → Agree (three or perturbed-state) v w → Agree five (turned n v d) (turned n w d)
     unfolding turned each
-    turned-agrees d v w p = agree-with (three or perturbed-state or perturbed-derivative) eigenvector (v with perturbed-derivative ≔ d) (w with perturbed-derivative ≔ d) _ _
+    turned-agrees d v w p =
+        agree-with (three or perturbed-state or perturbed-derivative) eigenvector (v with perturbed-derivative ≔ d) (w with perturbed-derivative ≔ d) _ _
         (agree-with (three or perturbed-state) perturbed-derivative v w d d p refl) (rw (p first-derivative refl))
 
     pub first-agrees : (h mu~ : Float) (v w : Vectors) → Agree five v w → Agree seven (first-stage n h mu~ v) (first-stage n h mu~ w)
@@ -81,7 +87,8 @@ module _ (history : Bool) where
     first-agrees h mu~ v w p = agree-with (five or previous-two) previous-one (v with previous-two ≔ v state) (w with previous-two ≔ w state) _ _
         (agree-with five previous-two v w (v state) (w state) p (p state refl)) (rw (p state refl, p first-derivative refl))
 
-    entry-same : (f : Family) (h : Float) (c : Coefficients) (d : List Float) (v w : Vectors) → Agree seven v w → each n (v with derivative ≔ d) (entry f h c) ≡ each n (w with derivative ≔ d) (entry f h c)
+    entry-same : (f : Family) (h : Float) (c : Coefficients) (d : List Float) (v w : Vectors) → Agree seven v w
+        → each n (v with derivative ≔ d) (entry f h c) ≡ each n (w with derivative ≔ d) (entry f h c)
     unfolding each entry orthogonal-entry chebyshev-entry
     entry-same RKC h c d v w p = rw (p state refl, p first-derivative refl, p previous-one refl, p previous-two refl)
     entry-same RKL1 h c d v w p = rw (p state refl, p first-derivative refl, p previous-one refl, p previous-two refl)
@@ -89,9 +96,12 @@ module _ (history : Bool) where
     entry-same RKG1 h c d v w p = rw (p state refl, p first-derivative refl, p previous-one refl, p previous-two refl)
     entry-same RKG2 h c d v w p = rw (p state refl, p first-derivative refl, p previous-one refl, p previous-two refl)
 
-    pub row-agrees : (f : Family) (h : Float) (c : Coefficients) (d : List Float) (v w : Vectors) → Agree seven v w → Agree nine (with-row f n h c v d) (with-row f n h c w d)
+    pub row-agrees : (f : Family) (h : Float) (c : Coefficients) (d : List Float) (v w : Vectors) → Agree seven v w
+        → Agree nine (with-row f n h c v d) (with-row f n h c w d)
     unfolding with-row
-    row-agrees f h c d v w p = agree-with (seven or derivative) next-stage (v with derivative ≔ d) (w with derivative ≔ d) _ _ (agree-with seven derivative v w d d p refl) (entry-same f h c d v w p)
+    row-agrees f h c d v w p =
+        agree-with (seven or derivative) next-stage (v with derivative ≔ d) (w with derivative ≔ d) _ _ (agree-with seven derivative v w d d p refl)
+        (entry-same f h c d v w p)
 
     pub exchanged-agrees : (v w : Vectors) → Agree nine v w → Agree nine (exchanged v) (exchanged w)
     unfolding exchanged
@@ -149,7 +159,8 @@ module _ (history : Bool) where
         q : Agree eleven x y
         q = agree-with ten last-derivative v w d d p refl
 
-        go : (t : Bool) → Agree eleven (cond t (x with derivative ≔ each n x (error f (a .step))) x) (cond t (y with derivative ≔ each n y (error f (a .step))) y)
+        go : (t : Bool)
+            → Agree eleven (cond t (x with derivative ≔ each n x (error f (a .step))) x) (cond t (y with derivative ≔ each n y (error f (a .step))) y)
         go true = drop-one eleven derivative _ _ (agree-with eleven derivative x y _ _ q (error-same f (a .step) x y q))
         go false = q
 
@@ -177,7 +188,8 @@ module _ (history : Bool) where
     norm-same f s a v w p = rw (p derivative refl, p state refl, p candidate refl)
 
   pub five-three : (v w : Vectors) → Agree five v w → Agree three v w
-  five-three v w p = drop-one three perturbed-state v w (drop-one (three or perturbed-state) perturbed-derivative v w (drop-one (three or perturbed-state or perturbed-derivative) eigenvector v w p))
+  five-three v w p = drop-one three perturbed-state v w
+      (drop-one (three or perturbed-state) perturbed-derivative v w (drop-one (three or perturbed-state or perturbed-derivative) eigenvector v w p))
 
   pub nine-seven : (v w : Vectors) → Agree nine v w → Agree seven v w
   nine-seven v w p = drop-one seven derivative v w (drop-one (seven or derivative) next-stage v w p)

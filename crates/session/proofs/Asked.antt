@@ -13,9 +13,10 @@ use Rattle.ieee.specs.Double.{one, min-positive}
 use Rattle.family.specs.Family.{Family, known}
 use Rattle.coefficients.specs.declared.Coefficients.{Coefficients}
 use Rattle.workspace.specs.declared.Arguments.{Arguments}
-use Rattle.workspace.specs.Vectors.{Vector, Vectors, _with_≔_, number, named, unpack, pack, vector-norm, all-finite, first-derivative, eigenvector, state, older-state}
+use Rattle.workspace.specs.Vectors.{Vector, Vectors, _with_≔_, number, named, unpack, pack, vector-norm, all-finite, first-derivative, eigenvector, state}
+use Rattle.workspace.specs.Vectors.{older-state}
 use Rattle.workspace.specs.Kernel.{with-direction, perturbed-by, perturbed, turned, first-stage, with-row, exchanged, with-candidate}
-use Rattle.workspace.proofs.Areas.{Long, named-number, unpack-pack, long-direction, long-perturbed, long-turned, long-first, long-row, long-exchanged, long-candidate}
+use Rattle.workspace.proofs.Areas.{named-number, unpack-pack, long-direction, long-perturbed, long-turned, long-first, long-row, long-exchanged, long-candidate}
 use Rattle.driver.specs.declared.Phase.{Phase}
 use Rattle.driver.specs.declared.Iteration.{Iteration}
 use Rattle.driver.specs.declared.Staging.{Staging}
@@ -26,11 +27,11 @@ use Rattle.driver.specs.Calls.{Held, Called, step-to, in-phase, replied, sized,
 use Rattle.driver.specs.Calls.{reply, first-failing, decide, guarded, reply-tests}
 use Rattle.session.specs.Attempt.{Purpose, closes, Asking, done, stopped, ask, Finished-attempt, evaluated}
 use Rattle.session.specs.Claim.{called-for}
-use Rattle.session.proofs.Lengths.{its-family, whole-pack}
+use Rattle.session.proofs.Lengths.{its-family, Long-in, whole-pack}
 use Rattle.session.proofs.Follows.{Follows}
 
 -- a reply that is not turned away with 1 to 8
-module _ (r : Record) (c : Counters) (v : Vectors) (hk : known (r .family) ≡ true) (hs : sized (r .n) ≡ true) (hv : Long (its-family r) (r .n) v) where
+module _ (r : Record) (c : Counters) (v : Vectors) (hk : known (r .family) ≡ true) (hs : sized (r .n) ≡ true) (hv : Long-in r v) where
   abbrev pub held-at : Held
   held-at = record { kept = r; counters = c; area = pack v }
 
@@ -53,15 +54,21 @@ module _ (h : Held) where
 
   -- vectors of the area that the attempt began from
   pub record Intact (v : Vectors) : Type 0 where
-    pub long : Long (its-family (h .kept)) (h .kept .n) v
+    pub long : Long-in (h .kept) v
     pub state-is : v state ≡ unpack (h .kept .n) (h .area) state
     pub first-is : v first-derivative ≡ unpack (h .kept .n) (h .area) first-derivative
     pub older-is : v older-state ≡ unpack (h .kept .n) (h .area) older-state
 
+  -- what the attempt reads of them stands
+  still : {v w : Vectors} → Intact v → Long-in (h .kept) w → w state ≡ v state → w first-derivative ≡ v first-derivative
+      → w older-state ≡ v older-state → Intact w
+  still i l s f o = record { long = l; state-is = s ∙ i .state-is; first-is = f ∙ i .first-is; older-is = o ∙ i .older-is }
+
   pub intact-direction : (v : Vectors) → Intact v → Intact (with-direction (h .kept .n) v)
   unfolding with-direction
   intact-direction v i = let small = le (vector-norm (v eigenvector)) min-positive in let flat = le (vector-norm (v first-derivative)) min-positive in
-      record { long = long-direction (its-family (h .kept)) (h .kept .n) v (i .long); state-is = go state small flat refl ∙ i .state-is; first-is = go first-derivative small flat refl ∙ i .first-is; older-is = go older-state small flat refl ∙ i .older-is }
+      still i (long-direction (its-family (h .kept)) (h .kept .n) v (i .long))
+      (go state small flat refl) (go first-derivative small flat refl) (go older-state small flat refl)
     where
       go : (b : Vector) (t u : Bool) → eqb 6 (number b) ≡ false
           → cond t (cond u (v with eigenvector ≔ replicate (h .kept .n) one) (v with eigenvector ≔ v first-derivative)) v b ≡ v b
@@ -71,27 +78,27 @@ module _ (h : Held) where
 
   pub intact-perturbed : (π : Float) (v : Vectors) → Intact v → Intact (perturbed (h .kept .n) π v)
   unfolding perturbed-by perturbed
-  intact-perturbed π v i = record { long = long-perturbed (its-family (h .kept)) (h .kept .n) π v (i .long); state-is = i .state-is; first-is = i .first-is; older-is = i .older-is }
+  intact-perturbed π v i = still i (long-perturbed (its-family (h .kept)) (h .kept .n) π v (i .long)) refl refl refl
 
   pub intact-turned : (v : Vectors) (d : List Float) → Intact v → length d ≡ h .kept .n → Intact (turned (h .kept .n) v d)
   unfolding turned
-  intact-turned v d i hd = record { long = long-turned (its-family (h .kept)) (h .kept .n) v d (i .long) hd; state-is = i .state-is; first-is = i .first-is; older-is = i .older-is }
+  intact-turned v d i hd = still i (long-turned (its-family (h .kept)) (h .kept .n) v d (i .long) hd) refl refl refl
 
   pub intact-first : (step mu~ : Float) (v : Vectors) → Intact v → Intact (first-stage (h .kept .n) step mu~ v)
   unfolding first-stage
-  intact-first step mu~ v i = record { long = long-first (its-family (h .kept)) (h .kept .n) step mu~ v (i .long); state-is = i .state-is; first-is = i .first-is; older-is = i .older-is }
+  intact-first step mu~ v i = still i (long-first (its-family (h .kept)) (h .kept .n) step mu~ v (i .long)) refl refl refl
 
   pub intact-row : (f : Family) (step : Float) (c : Coefficients) (v : Vectors) (d : List Float) → Intact v → length d ≡ h .kept .n → Intact (with-row f (h .kept .n) step c v d)
   unfolding with-row
-  intact-row f step c v d i hd = record { long = long-row (its-family (h .kept)) (h .kept .n) f step c v d (i .long) hd; state-is = i .state-is; first-is = i .first-is; older-is = i .older-is }
+  intact-row f step c v d i hd = still i (long-row (its-family (h .kept)) (h .kept .n) f step c v d (i .long) hd) refl refl refl
 
   pub intact-exchanged : (v : Vectors) → Intact v → Intact (exchanged v)
   unfolding exchanged
-  intact-exchanged v i = record { long = long-exchanged (its-family (h .kept)) (h .kept .n) v (i .long); state-is = i .state-is; first-is = i .first-is; older-is = i .older-is }
+  intact-exchanged v i = still i (long-exchanged (its-family (h .kept)) (h .kept .n) v (i .long)) refl refl refl
 
   pub intact-candidate : (v : Vectors) → Intact v → Intact (with-candidate v)
   unfolding with-candidate
-  intact-candidate v i = record { long = long-candidate (its-family (h .kept)) (h .kept .n) v (i .long); state-is = i .state-is; first-is = i .first-is; older-is = i .older-is }
+  intact-candidate v i = still i (long-candidate (its-family (h .kept)) (h .kept .n) v (i .long)) refl refl refl
 
 module _ (h : Held) (a : Arguments) where
   -- the record within the attempt

@@ -9,7 +9,8 @@ use lib.Ieee.{Float, binary64, toBits, add, sub, mul, div, neg, le, lt, eq, ofIn
 use Rattle.ieee.specs.Double.{double, nearest, square, min-positive, root-epsilon, nought, one}
 use Rattle.ieee.specs.Sqrt.{root-below, root, halves, root-units, sqrt}
 use Rattle.ieee.specs.Whole.{abs, max, floor, ceil}
-use Rattle.family.specs.Family.{known, family-of, keeps-older, smallest-count, largest-count, odd-only, permitted, before-limits, odd-step, limited, stage-count}
+use Rattle.family.specs.Family.{known, family-of, keeps-older, smallest-count, largest-count, odd-only, permitted, before-limits, odd-step, limited}
+use Rattle.family.specs.Family.{stage-count}
 use Rattle.coefficients.specs.Rows.{omega-zero, omega-one-of, b-first, first-mu-tilde, first-polynomials, recurrence, with-theta, legendre-one, coefficients, next-polynomials, next}
 use Rattle.workspace.specs.declared.Arguments.{Arguments}
 use Rattle.workspace.specs.Vectors.{join, vector-count, each, sum-of-squares, root-of-squares, vector-norm, all-finite}

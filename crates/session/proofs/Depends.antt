@@ -13,7 +13,8 @@ use Rattle.family.specs.Family.{Family}
 use Rattle.coefficients.specs.declared.Recurrence.{Recurrence}
 use Rattle.coefficients.specs.Rows.{recurrence, coefficients, next}
 use Rattle.workspace.specs.declared.Arguments.{Arguments}
-use Rattle.workspace.specs.Vectors.{Vector, Vectors, all-finite, first-derivative, last-derivative, derivative, previous-two, previous-one, next-stage, eigenvector, perturbed-state, perturbed-derivative, state, candidate, older-state}
+use Rattle.workspace.specs.Vectors.{Vector, Vectors, all-finite, first-derivative, last-derivative, derivative, previous-two, previous-one, next-stage}
+use Rattle.workspace.specs.Vectors.{eigenvector, perturbed-state, perturbed-derivative, state, candidate, older-state}
 use Rattle.workspace.specs.Kernel.{with-direction, perturbation-of, perturbed, turned, radius-of, ended, scaled, first-stage, with-row, exchanged, with-candidate, with-last}
 use Rattle.driver.specs.declared.Need.{Need}
 use Rattle.driver.specs.declared.Need.the-variants.{Met, Unmet}
@@ -23,7 +24,8 @@ use Rattle.session.specs.Alike.{Alike, Same-end, Same-vectors, Same-star
 use Rattle.session.proofs.Truth.{differ}
 use Rattle.session.proofs.Needs.{Needed, need-holds, two-from}
 use Rattle.session.proofs.Alikes.{bind-alike, evaluate-alike, same-evaluated, same-ending}
-use Rattle.session.proofs.Agree.{Agree, _or_, three, five, seven, nine, ten, direction-agrees, perturbed-agrees, turned-agrees, first-agrees, row-agrees, exchanged-agrees, candidate-agrees, ten-same, last-same, norm-same, five-three, nine-seven}
+use Rattle.session.proofs.Agree.{Agree, _or_, three, five, seven, nine, ten, direction-agrees, perturbed-agrees, turned-agrees, first-agrees}
+use Rattle.session.proofs.Agree.{row-agrees, exchanged-agrees, candidate-agrees, ten-same, last-same, norm-same, five-three, nine-seven}
 
 start-agrees : (history : Bool) (v w : Vectors) → Same-start history v w → Agree (three history) v w
 start-agrees history v w p state e = p .state-same
@@ -76,14 +78,17 @@ module _ (history : Bool) (f : Family) (n : ℕ) (a : Arguments) where
   radius-alike v w p =
       subst (λ (π : Float). Alike Radii (iterate f n a π 12 0 nought (with-direction n v)) (iterate f n a (perturbation-of w) 12 0 nought (with-direction n w)))
       (ap (λ (x : List Float). perturbation-of (λ (b : Vector). x)) (sym (p state refl)))
-      (pass-alike (perturbation-of w) 11 0 nought (with-direction n v) (with-direction n w) (direction-agrees history n v w p) (passes-alike (perturbation-of w) 11 1))
+      (pass-alike (perturbation-of w) 11 0 nought (with-direction n v) (with-direction n w) (direction-agrees history n v w p)
+      (passes-alike (perturbation-of w) 11 1))
 
   row-alike : (s m j : ℕ) (c : Recurrence) (v w : Vectors) → Agree (seven history) v w
-      → ((c : Recurrence) (v w : Vectors) → Agree (nine history) v w → Alike (Agree (nine history)) (stage-loop f n a s m (j + 1) c v) (stage-loop f n a s m (j + 1) c w))
+      → ((c : Recurrence) (v w : Vectors) → Agree (nine history) v w
+      → Alike (Agree (nine history)) (stage-loop f n a s m (j + 1) c v) (stage-loop f n a s m (j + 1) c w))
       → Alike (Agree (nine history)) (stage-loop f n a s (suc m) j c v) (stage-loop f n a s (suc m) j c w)
   unfolding stage-loop
-  row-alike s m j c v w p on = evaluate-alike (Agree (nine history)) _ _ _ v w (a .time ⊕ a .step ⊗ c .«theta_previous») (v previous-one) (w previous-one) (p previous-one refl)
-      (λ d. go (with-row f n (a .step) (coefficients f s j c) v d) (with-row f n (a .step) (coefficients f s j c) w d) (row-agrees history n f (a .step) (coefficients f s j c) d v w p) (ltb j s))
+  row-alike s m j c v w p on = let row = coefficients f s j c in
+      evaluate-alike (Agree (nine history)) _ _ _ v w (a .time ⊕ a .step ⊗ c .«theta_previous») (v previous-one) (w previous-one) (p previous-one refl)
+      (λ d. go (with-row f n (a .step) row v d) (with-row f n (a .step) row w d) (row-agrees history n f (a .step) row d v w p) (ltb j s))
     where
       go : (v w : Vectors) → Agree (nine history) v w → (t : Bool) → Alike (Agree (nine history))
           (cond t (stage-loop f n a s m (j + 1) (next f s c (coefficients f s j c)) (exchanged v)) (done v))
@@ -91,12 +96,14 @@ module _ (history : Bool) (f : Family) (n : ℕ) (a : Arguments) where
       go v w p true = on (next f s c (coefficients f s j c)) (exchanged v) (exchanged w) (exchanged-agrees history n v w p)
       go v w p false = p
 
-  rows-alike : (s m j : ℕ) (c : Recurrence) (v w : Vectors) → Agree (nine history) v w → Alike (Agree (nine history)) (stage-loop f n a s m j c v) (stage-loop f n a s m j c w)
+  rows-alike : (s m j : ℕ) (c : Recurrence) (v w : Vectors) → Agree (nine history) v w
+      → Alike (Agree (nine history)) (stage-loop f n a s m j c v) (stage-loop f n a s m j c w)
   unfolding stage-loop
   rows-alike s zero j c v w p = p
   rows-alike s (suc m) j c v w p = row-alike s m j c v w (nine-seven history v w p) (rows-alike s m (j + 1))
 
-  recurrence-alike : (s : ℕ) (v w : Vectors) → 2 ≤ s → Agree (five history) v w → Alike (Agree (nine history)) (run-recurrence f n a s v) (run-recurrence f n a s w)
+  recurrence-alike : (s : ℕ) (v w : Vectors) → 2 ≤ s → Agree (five history) v w
+      → Alike (Agree (nine history)) (run-recurrence f n a s v) (run-recurrence f n a s w)
   unfolding run-recurrence
   recurrence-alike s v w 2≤ p = let c = recurrence f s in let h = a .step in
       let v′ = first-stage n h (c .«theta_previous») v in let w′ = first-stage n h (c .«theta_previous») w in
@@ -124,16 +131,20 @@ module _ (history : Bool) (f : Family) (n : ℕ) (a : Arguments) where
       }
 
       go : (t : Bool) → Alike (Same-attempt history) (closed t (with-candidate v)) (closed t (with-candidate w))
-      go true = evaluate-alike (Same-attempt history) _ _ _ (with-candidate v) (with-candidate w) (a .time ⊕ a .step) (with-candidate v candidate) (with-candidate w candidate) (q candidate refl)
-          (λ d. finished (with-last f n a (with-candidate v) d) (with-last f n a (with-candidate w) d) (last-same history n f a d (with-candidate v) (with-candidate w) q))
+      go true = let x = with-candidate v in let y = with-candidate w in
+          evaluate-alike (Same-attempt history) _ _ _ x y (a .time ⊕ a .step) (x candidate) (y candidate) (q candidate refl)
+          (λ d. finished (with-last f n a x d) (with-last f n a y d) (last-same history n f a d x y q))
       go false = record { number-same = refl; vectors-same = ten-same history n (with-candidate v) (with-candidate w) q }
 
   from-need : Need → ℕ → Float → Vectors → Asking Finished-attempt
   from-need need k r w = stages-for need w >>= λ s. run-recurrence f n a s w >>= close f n a s k r
 
-  need-alike : (need : Need) (k : ℕ) (r : Float) (v w : Vectors) → Needed f need → Agree (five history) v w → Alike (Same-attempt history) (from-need need k r v) (from-need need k r w)
+  need-alike : (need : Need) (k : ℕ) (r : Float) (v w : Vectors) → Needed f need → Agree (five history) v w
+      → Alike (Same-attempt history) (from-need need k r v) (from-need need k r w)
   unfolding from-need stages-for _>>=_ fixed-at
-  need-alike (Met s) k r v w ok p = bind-alike (Agree (nine history)) (Same-attempt history) (close f n a s k r) (close f n a s k r) (run-recurrence f n a s v) (run-recurrence f n a s w) (recurrence-alike s v w (two-from f s ok) p) (λ v w. close-alike s k r v w)
+  need-alike (Met s) k r v w ok p =
+      bind-alike (Agree (nine history)) (Same-attempt history) (close f n a s k r) (close f n a s k r) (run-recurrence f n a s v) (run-recurrence f n a s w)
+      (recurrence-alike s v w (two-from f s ok) p) (λ v w. close-alike s k r v w)
   need-alike (Unmet i) k r v w ok p = record { number-same = refl; vectors-same = rw (ne-eqb i 10 (let low = ok .0 in omega arith)) refl }
 
   from-radius : Radius → Asking Finished-attempt
@@ -142,14 +153,19 @@ module _ (history : Bool) (f : Family) (n : ℕ) (a : Arguments) where
   from-alike : (x y : Radius) → Radii x y → Alike (Same-attempt history) (from-radius x) (from-radius y)
   unfolding from-radius
   from-alike x y h = let r = scaled (a .step) (y .radius) in
-      let go : Alike (Same-attempt history) (from-need (stage-need f r) (y .passes) r (x .vectors)) (from-radius y) = need-alike (stage-need f r) (y .passes) r (x .vectors) (y .vectors) (need-holds f r) (h .2) in
+      let go : Alike (Same-attempt history) (from-need (stage-need f r) (y .passes) r (x .vectors)) (from-radius y) =
+      need-alike (stage-need f r) (y .passes) r (x .vectors) (y .vectors) (need-holds f r) (h .2) in
       rw (h .0, h .1) go
 
   -- Alike: where they are done, with the same finished attempt, every vector of it that is compared; where they stop with 10, with the same vectors but for
   -- the last derivative and the state before.
   pub attempt-alike : (v w : Vectors) → Same-start history v w → Alike (Same-attempt history) (attempt-step f n a v) (attempt-step f n a w)
   unfolding attempt-step from-radius from-need
-  attempt-alike v w p = bind-alike Radii (Same-attempt history) from-radius from-radius (spectral-radius f n a v) (spectral-radius f n a w) (radius-alike v w (start-agrees history v w p)) from-alike
+  attempt-alike v w p =
+      bind-alike Radii (Same-attempt history) from-radius from-radius (spectral-radius f n a v) (spectral-radius f n a w)
+      (radius-alike v w (start-agrees history v w p)) from-alike
 
-  pub depends : (v w : Vectors) → Same-start history v w → (d : ℕ → List Float) → (evaluated (attempt-step f n a v) d 0 ≡ evaluated (attempt-step f n a w) d 0) × Same-end (Same-attempt history) (end (attempt-step f n a v) d 0) (end (attempt-step f n a w) d 0)
+  pub depends : (v w : Vectors) → Same-start history v w → (d : ℕ → List Float)
+      → (evaluated (attempt-step f n a v) d 0 ≡ evaluated (attempt-step f n a w) d 0)
+      × Same-end (Same-attempt history) (end (attempt-step f n a v) d 0) (end (attempt-step f n a w) d 0)
   depends v w p d = (same-evaluated (Same-attempt history) _ _ d 0 (attempt-alike v w p), same-ending (Same-attempt history) _ _ d 0 (attempt-alike v w p))

@@ -68,7 +68,8 @@ candidate-high r v w same = go (all-finite (w candidate))
     go true = on r v _ refl
     go false = λ i e. record { beyond = omega (arith, same-number 10 i e); record-is = refl; stand = same }
 
-need-high : (need : Need) (r : Record) (v w : Vectors) (radius : Float) → Stand v w → Needed (family-of (r .family)) need → Refuses-high r v (by-need need r w radius)
+need-high : (need : Need) (r : Record) (v w : Vectors) (radius : Float) → Stand v w → Needed (family-of (r .family)) need
+    → Refuses-high r v (by-need need r w radius)
 unfolding by-need ask-stage
 need-high (Met s) r v w radius same ok = on r v _ refl
 need-high (Unmet j) r v w radius same ok = λ i e. record { beyond = (let low = ok .0 in omega (arith, same-number j i e)); record-is = refl; stand = same }
@@ -89,7 +90,8 @@ replied-high P.Empty r v d = on r v _ refl
 replied-high P.First r v d = on r v _ refl
 replied-high P.Ready r v d = on r v _ refl
 replied-high P.Pass r v d = let w = turned (r .n) v d in let i = r .iteration in let radius = radius-of (i .perturbation) w in
-    pass-high (ended (i .pass) (i .«previous_radius») radius || eqb (i .pass) 12) r (at-pass (r .arguments) (i .pass + 1) (i .perturbation) radius r) v w (scaled (r .arguments .step) radius) (refl, refl)
+    pass-high (ended (i .pass) (i .«previous_radius») radius || eqb (i .pass) 12) r (at-pass (r .arguments) (i .pass + 1) (i .perturbation) radius r) v w
+    (scaled (r .arguments .step) radius) (refl, refl)
 replied-high P.Stage r v d = let f = family-of (r .family) in let s = r .staging .stages in let j = r .staging .stage in
     let row = coefficients f s j (r .staging .recurrence) in let w = with-row f (r .n) (r .arguments .step) row v d in
     stage-high (ltb j s) r (at-stage s (j + 1) (next f s (r .staging .recurrence) row) r) v (exchanged w) (with-candidate w) (refl, refl)

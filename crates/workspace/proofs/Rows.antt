@@ -11,7 +11,8 @@ use lib.Ieee.{Float}
 use Rattle.family.specs.Family.{Family, RKC, RKL1, RKL2, RKG1, RKG2, family-of}
 use Rattle.coefficients.specs.declared.Coefficients.{Coefficients}
 use Rattle.coefficients.proofs.Numbers.{orthogonal}
-use Rattle.workspace.specs.Vectors.{Vector, Vectors, number, _with_≔_, each, first-derivative, last-derivative, derivative, previous-two, previous-one, next-stage, eigenvector, perturbed-state, perturbed-derivative, state, candidate, older-state}
+use Rattle.workspace.specs.Vectors.{Vector, Vectors, number, _with_≔_, each, first-derivative, last-derivative, derivative, previous-two}
+use Rattle.workspace.specs.Vectors.{previous-one, next-stage, eigenvector, perturbed-state, perturbed-derivative, state, candidate, older-state}
 use Rattle.workspace.specs.Kernel.{entry, chebyshev-entry, orthogonal-entry, with-row, exchanged}
 use Rattle.workspace.proofs.Lists.{each-same}
 use Rattle.workspace.proofs.Parts.{_beside_}
