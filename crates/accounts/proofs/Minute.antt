@@ -15,7 +15,6 @@ use Rattle.family.specs.Family.{Family, family-of, known}
 use Rattle.workspace.specs.declared.Arguments.{Arguments}
 use Rattle.workspace.specs.Vectors.{Vectors, number, unpack, pack, all-finite, state, candidate}
 use Rattle.workspace.specs.Kernel.{turned, radius-of, ended, scaled, with-row, exchanged, with-candidate}
-use Rattle.workspace.proofs.Areas.{Long}
 use Rattle.coefficients.specs.Rows.{coefficients}
 use Rattle.coefficients.specs.Rows as rows
 use Rattle.driver.specs.declared.Phase.{Phase}
@@ -35,7 +34,7 @@ use Rattle.session.specs.Refusals.{_∈_, here, later}
 use Rattle.session.proofs.Numbers.{is-in, standing-refuses, ending-refuses}
 use Rattle.session.proofs.Needs.{Needed, need-holds}
 use Rattle.session.proofs.Guards.{low, low-fails}
-use Rattle.session.proofs.Lengths.{its-family, whole-pack, long-area, replied-long}
+use Rattle.session.proofs.Lengths.{Long-in, whole-pack, long-area, replied-long}
 use Rattle.heat_sink.specs.declared.Inverter.{Inverter}
 use Rattle.inverter.specs.Day.{time-of, called, begun, go-on, next, driven, most-calls, passed, taken, finished, refusal}
 use Rattle.inverter.specs.Day as day
@@ -123,7 +122,7 @@ Stands n c = Stand n (c .answer) (c .held)
 module _ (n : ℕ) (h : Held) (e : h .counters .«finished_attempts» ≡ n) where
   -- a reply that passed its tests, counted
   counts : (a : Answer) (k : Record) (v : Vectors) → Answer-of (h .kept) a k → known (h .kept .family) ≡ true → calls.sized (h .kept .n) ≡ true
-      → Long (its-family (h .kept)) (h .kept .n) v → Stand n a (holding k (calls.counted a (h .counters)) (pack v))
+      → Long-in (h .kept) v → Stand n a (holding k (calls.counted a (h .counters)) (pack v))
   unfolding Answer-of Stand calls.counted
   counts (Evaluate time vector) k v o f s l = (e, o)
   counts (Finished norm) k v o f s l =

@@ -68,9 +68,12 @@ module _ (history : Bool) where
   module _ (n : ℕ) where
     pub direction-agrees : (v w : Vectors) → Agree three v w → Agree three (with-direction n v) (with-direction n w)
     unfolding with-direction
-    direction-agrees v w p = rw (p eigenvector refl, p first-derivative refl) (go (le (vector-norm (w eigenvector)) min-positive) (le (vector-norm (w first-derivative)) min-positive))
+    direction-agrees v w p = rw (p eigenvector refl, p first-derivative refl)
+        (go (le (vector-norm (w eigenvector)) min-positive) (le (vector-norm (w first-derivative)) min-positive))
       where
-        go : (t u : Bool) → Agree three (cond t (cond u (v with eigenvector ≔ replicate n one) (v with eigenvector ≔ w first-derivative)) v) (cond t (cond u (w with eigenvector ≔ replicate n one) (w with eigenvector ≔ w first-derivative)) w)
+        go : (t u : Bool) → Agree three
+            (cond t (cond u (v with eigenvector ≔ replicate n one) (v with eigenvector ≔ w first-derivative)) v)
+            (cond t (cond u (w with eigenvector ≔ replicate n one) (w with eigenvector ≔ w first-derivative)) w)
         go true true = drop-one three eigenvector _ _ (agree-with three eigenvector v w (replicate n one) (replicate n one) p refl)
         go true false = drop-one three eigenvector _ _ (agree-with three eigenvector v w (w first-derivative) (w first-derivative) p refl)
         go false u = p
@@ -81,7 +84,8 @@ module _ (history : Bool) where
 
     pub turned-agrees : (d : List Float) (v w : Vectors) → Agree (three or perturbed-state) v w → Agree five (turned n v d) (turned n w d)
     unfolding turned each
-    turned-agrees d v w p = agree-with (three or perturbed-state or perturbed-derivative) eigenvector (v with perturbed-derivative ≔ d) (w with perturbed-derivative ≔ d) _ _
+    turned-agrees d v w p =
+        agree-with (three or perturbed-state or perturbed-derivative) eigenvector (v with perturbed-derivative ≔ d) (w with perturbed-derivative ≔ d) _ _
         (agree-with (three or perturbed-state) perturbed-derivative v w d d p refl) (rw (p first-derivative refl))
 
     pub first-agrees : (h mu~ : Float) (v w : Vectors) → Agree five v w → Agree seven (first-stage n h mu~ v) (first-stage n h mu~ w)
@@ -183,7 +187,8 @@ module _ (history : Bool) where
     norm-same m s a v w p = rw (p derivative refl, p state refl, p candidate refl)
 
   pub five-three : (v w : Vectors) → Agree five v w → Agree three v w
-  five-three v w p = drop-one three perturbed-state v w (drop-one (three or perturbed-state) perturbed-derivative v w (drop-one (three or perturbed-state or perturbed-derivative) eigenvector v w p))
+  five-three v w p = drop-one three perturbed-state v w
+      (drop-one (three or perturbed-state) perturbed-derivative v w (drop-one (three or perturbed-state or perturbed-derivative) eigenvector v w p))
 
   pub nine-seven : (v w : Vectors) → Agree nine v w → Agree seven v w
   nine-seven v w p = drop-one seven derivative v w (drop-one (seven or derivative) next-stage v w p)

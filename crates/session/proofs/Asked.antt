@@ -30,7 +30,7 @@ use Rattle.driver.specs.Calls.{reply, first-failing, decide, guarded, reply-tes
 use Rattle.session.specs.Attempt.{Purpose, closes, Asking, done, stopped, ask, Finished-attempt, evaluated}
 use Rattle.session.specs.Refusals.{here}
 use Rattle.session.specs.Claim.{called-for}
-use Rattle.session.proofs.Lengths.{its-family, whole-pack}
+use Rattle.session.proofs.Lengths.{its-family, Long-in, whole-pack}
 use Rattle.session.proofs.Follows.{Follows}
 
 -- a reply that is taken
@@ -57,15 +57,21 @@ module _ (h : Held) where
 
   -- vectors of the area that the attempt began from
   pub record Intact (v : Vectors) : Type 0 where
-    pub long : Long (its-family (h .kept)) (h .kept .n) v
+    pub long : Long-in (h .kept) v
     pub state-is : v state ≡ unpack (h .kept .n) (h .area) state
     pub first-is : v first-derivative ≡ unpack (h .kept .n) (h .area) first-derivative
     pub older-is : v older-state ≡ unpack (h .kept .n) (h .area) older-state
 
+  -- what the attempt reads of them stands
+  still : {v w : Vectors} → Intact v → Long-in (h .kept) w → w state ≡ v state → w first-derivative ≡ v first-derivative
+      → w older-state ≡ v older-state → Intact w
+  still i l s f o = record { long = l; state-is = s ∙ i .state-is; first-is = f ∙ i .first-is; older-is = o ∙ i .older-is }
+
   pub intact-direction : (v : Vectors) → Intact v → Intact (with-direction (h .kept .n) v)
   unfolding with-direction
   intact-direction v i = let small = le (vector-norm (v eigenvector)) min-positive in let flat = le (vector-norm (v first-derivative)) min-positive in
-      record { long = long-direction (its-family (h .kept)) (h .kept .n) v (i .long); state-is = go state small flat refl ∙ i .state-is; first-is = go first-derivative small flat refl ∙ i .first-is; older-is = go older-state small flat refl ∙ i .older-is }
+      still i (long-direction (its-family (h .kept)) (h .kept .n) v (i .long))
+      (go state small flat refl) (go first-derivative small flat refl) (go older-state small flat refl)
     where
       go : (b : Vector) (t u : Bool) → eqb 6 (number b) ≡ false
           → cond t (cond u (v with eigenvector ≔ replicate (h .kept .n) one) (v with eigenvector ≔ v first-derivative)) v b ≡ v b
@@ -75,15 +81,15 @@ module _ (h : Held) where
 
   pub intact-perturbed : (π : Float) (v : Vectors) → Intact v → Intact (perturbed (h .kept .n) π v)
   unfolding perturbed-by perturbed
-  intact-perturbed π v i = record { long = long-perturbed (its-family (h .kept)) (h .kept .n) π v (i .long); state-is = i .state-is; first-is = i .first-is; older-is = i .older-is }
+  intact-perturbed π v i = still i (long-perturbed (its-family (h .kept)) (h .kept .n) π v (i .long)) refl refl refl
 
   pub intact-turned : (v : Vectors) (d : List Float) → Intact v → length d ≡ h .kept .n → Intact (turned (h .kept .n) v d)
   unfolding turned
-  intact-turned v d i hd = record { long = long-turned (its-family (h .kept)) (h .kept .n) v d (i .long) hd; state-is = i .state-is; first-is = i .first-is; older-is = i .older-is }
+  intact-turned v d i hd = still i (long-turned (its-family (h .kept)) (h .kept .n) v d (i .long) hd) refl refl refl
 
   pub intact-first : (step mu~ : Float) (v : Vectors) → Intact v → Intact (first-stage (h .kept .n) step mu~ v)
   unfolding first-stage
-  intact-first step mu~ v i = record { long = long-first (its-family (h .kept)) (h .kept .n) step mu~ v (i .long); state-is = i .state-is; first-is = i .first-is; older-is = i .older-is }
+  intact-first step mu~ v i = still i (long-first (its-family (h .kept)) (h .kept .n) step mu~ v (i .long)) refl refl refl
 
   pub intact-row : (f : RowForm) (step : Float) (c : Coefficients) (v : Vectors) (d : List Float) → Intact v → length d ≡ h .kept .n → Intact (with-row-in f (h .kept .n) step c v d)
   unfolding with-row-in
@@ -91,7 +97,7 @@ module _ (h : Held) where
 
   pub intact-exchanged : (v : Vectors) → Intact v → Intact (exchanged v)
   unfolding exchanged
-  intact-exchanged v i = record { long = long-exchanged (its-family (h .kept)) (h .kept .n) v (i .long); state-is = i .state-is; first-is = i .first-is; older-is = i .older-is }
+  intact-exchanged v i = still i (long-exchanged (its-family (h .kept)) (h .kept .n) v (i .long)) refl refl refl
 
   pub intact-candidate : (m : Setting) (step : Float) (s : ℕ) (c : Recurrence) (row : Coefficients) (v : Vectors) → Intact v
       → Intact (with-candidate m (h .kept .n) step s c row v)

@@ -14,7 +14,8 @@ use Rattle.family.specs.Family.{facts-of, kind}
 use Rattle.coefficients.specs.declared.Recurrence.{Recurrence}
 use Rattle.coefficients.specs.Rows.{recurrence, coefficients, next}
 use Rattle.workspace.specs.declared.Arguments.{Arguments}
-use Rattle.workspace.specs.Vectors.{Vector, Vectors, all-finite, first-derivative, last-derivative, derivative, previous-two, previous-one, next-stage, eigenvector, perturbed-state, perturbed-derivative, state, candidate, older-state}
+use Rattle.workspace.specs.Vectors.{Vector, Vectors, all-finite, first-derivative, last-derivative, derivative, previous-two, previous-one, next-stage}
+use Rattle.workspace.specs.Vectors.{eigenvector, perturbed-state, perturbed-derivative, state, candidate, older-state}
 use Rattle.workspace.specs.Kernel.{with-direction, perturbation-of, perturbed, turned, radius-of, ended, scaled, first-stage, with-row, exchanged, with-candidate, with-last}
 use Rattle.driver.specs.declared.Need.{Need}
 use Rattle.driver.specs.declared.Need.the-variants.{Met, Unmet}
@@ -25,7 +26,8 @@ use Rattle.session.proofs.Truth.{differ}
 use Rattle.session.proofs.Numbers.{not-ten}
 use Rattle.session.proofs.Needs.{Needed, need-holds}
 use Rattle.session.proofs.Alikes.{bind-alike, evaluate-alike, same-evaluated, same-ending}
-use Rattle.session.proofs.Agree.{Agree, _or_, three, five, seven, nine, ten, direction-agrees, perturbed-agrees, turned-agrees, first-agrees, row-agrees, exchanged-agrees, candidate-agrees, ten-same, last-same, norm-same, five-three, nine-seven}
+use Rattle.session.proofs.Agree.{Agree, _or_, three, five, seven, nine, ten, direction-agrees, perturbed-agrees, turned-agrees, first-agrees}
+use Rattle.session.proofs.Agree.{row-agrees, exchanged-agrees, candidate-agrees, ten-same, last-same, norm-same, five-three, nine-seven}
 
 start-agrees : (history : Bool) (v w : Vectors) → Same-start history v w → Agree (three history) v w
 start-agrees history v w p state e = p .state-same
@@ -78,7 +80,8 @@ module _ (history : Bool) (under : Setting) (n : ℕ) (a : Arguments) where
   radius-alike v w p =
       subst (λ (π : Float). Alike Radii (iterate under n a π 12 0 nought (with-direction n v)) (iterate under n a (perturbation-of w) 12 0 nought (with-direction n w)))
       (ap (λ (x : List Float). perturbation-of (λ (b : Vector). x)) (sym (p state refl)))
-      (pass-alike (perturbation-of w) 11 0 nought (with-direction n v) (with-direction n w) (direction-agrees history n v w p) (passes-alike (perturbation-of w) 11 1))
+      (pass-alike (perturbation-of w) 11 0 nought (with-direction n v) (with-direction n w) (direction-agrees history n v w p)
+      (passes-alike (perturbation-of w) 11 1))
 
   -- a stage's row
   row-alike : (s j : ℕ) (c : Recurrence) (v w : Vectors) → Agree (seven history) v w → Alike (Agree (nine history)) (stage-row under n a s j c v) (stage-row under n a s j c w)

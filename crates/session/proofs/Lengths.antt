@@ -12,7 +12,8 @@ use Rattle.family.specs.Family.{Family, family-of, facts-of, kind}
 use Rattle.coefficients.specs.Rows.{recurrence, coefficients, next}
 use Rattle.workspace.specs.Vectors.{Vectors, _with_≔_, number, vector-count, unpack, pack, all-finite, first-derivative, eigenvector, candidate}
 use Rattle.workspace.specs.Kernel.{turned, radius-of, ended, scaled, with-row, exchanged, with-candidate}
-use Rattle.workspace.proofs.Areas.{Long, long-unpack, length-pack, long-with, long-perturbed, long-turned, long-first, long-row, long-exchanged, long-candidate, long-last}
+use Rattle.workspace.proofs.Areas.{Long, long-unpack, length-pack, long-with, long-perturbed, long-turned, long-first, long-row, long-exchanged}
+use Rattle.workspace.proofs.Areas.{long-candidate, long-last}
 use Rattle.driver.specs.declared.Phase.{Phase}
 use Rattle.driver.specs.declared.Phase.the-variants as P
 use Rattle.driver.specs.declared.Record.{Record}
@@ -24,6 +25,10 @@ use Rattle.driver.specs.Calls.{step-to, in-phase, at-pass, at-stage, with-radiu
 -- the family of a record
 abbrev pub its-family : Record → Family
 its-family r = family-of (r .family)
+
+-- every vector is as long as in its area
+abbrev pub Long-in : Record → Vectors → Type 0
+Long-in r v = Long (its-family r) (r .n) v
 
 pub whole-pack : (f n : ℕ) (v : Vectors) → Long (family-of f) n v → whole-area f n (pack v) ≡ true
 unfolding whole-area
@@ -39,22 +44,25 @@ pack-length f n v area lv hw = length-pack (family-of f) n v lv ∙ sym (eqb-tru
 
 -- ---- a reply, by phase
 
-need-long : (need : Need) (r : Record) (w : Vectors) (radius : Float) → Long (its-family r) (r .n) w → Long (its-family r) (r .n) (by-need need r w radius .vectors)
+need-long : (need : Need) (r : Record) (w : Vectors) (radius : Float) → Long-in r w → Long-in r (by-need need r w radius .vectors)
 unfolding by-need ask-stage at-stage with-radius
 need-long (Met s) r w radius lw = long-first (its-family r) (r .n) (r .arguments .step) (recurrence (setting-of r) s .«theta_previous») w lw
 need-long (Unmet i) r w radius lw = lw
 
-pass-long : (t : Bool) (r r′ : Record) (radius : Float) (w : Vectors) → r′ .n ≡ r .n → Long (its-family r) (r .n) w
-    → Long (its-family r) (r .n) (cond t (begin-stages r w radius) (ask-pass r′ w) .vectors)
+pass-long : (t : Bool) (r r′ : Record) (radius : Float) (w : Vectors) → r′ .n ≡ r .n → Long-in r w
+    → Long-in r (cond t (begin-stages r w radius) (ask-pass r′ w) .vectors)
 unfolding begin-stages ask-pass
 pass-long true r r′ radius w e lw = need-long (stage-need (setting-of r) radius) r w radius lw
 pass-long false r r′ radius w e lw = rw e (long-perturbed (its-family r) (r .n) (r′ .iteration .perturbation) w lw)
 
-candidate-long : (r : Record) (w : Vectors) → Long (its-family r) (r .n) w → Long (its-family r) (r .n) (ask-candidate r w .vectors)
+candidate-long : (r : Record) (w : Vectors) → Long-in r w → Long-in r (ask-candidate r w .vectors)
 unfolding ask-candidate
 candidate-long r w lw = go (all-finite (w candidate))
   where
-    go : (t : Bool) → Long (its-family r) (r .n) (cond t (step-to (Evaluate (r .arguments .time ⊕ r .arguments .step) (number candidate)) (in-phase P.Candidate r) w) (step-to (Refused 10) (in-phase P.Empty r) w) .vectors)
+    asked : Step
+    asked = step-to (Evaluate (r .arguments .time ⊕ r .arguments .step) (number candidate)) (in-phase P.Candidate r) w
+
+    go : (t : Bool) → Long-in r (cond t asked (step-to (Refused 10) (in-phase P.Empty r) w) .vectors)
     go true = lw
     go false = lw
 
@@ -64,7 +72,7 @@ unfolding ask-stage
 stage-long true r r′ w x lw lx = long-exchanged (its-family r) (r .n) w lw
 stage-long false r r′ w x lw lx = candidate-long r x lx
 
-pub replied-long : (φ : Phase) (r : Record) (v : Vectors) (d : List Float) → Long (its-family r) (r .n) v → length d ≡ r .n → Long (its-family r) (r .n) (replied φ r v d .vectors)
+pub replied-long : (φ : Phase) (r : Record) (v : Vectors) (d : List Float) → Long-in r v → length d ≡ r .n → Long-in r (replied φ r v d .vectors)
 unfolding replied take-first take-callback take-pass take-stage take-candidate at-pass
 replied-long P.Empty r v d lv hd = long-with (its-family r) (r .n) v first-derivative d lv hd
 replied-long P.First r v d lv hd = long-with (its-family r) (r .n) v first-derivative d lv hd
@@ -86,4 +94,5 @@ replied-long P.Stage r v d lv hd =
 replied-long P.Candidate r v d lv hd = long-last (its-family r) (r .n) (setting-of r) (r .arguments) v d lv hd
 replied-long P.Finished r v d lv hd = long-with (its-family r) (r .n) v first-derivative d lv hd
 replied-long P.Callback r v d lv hd =
-    long-with (its-family r) (r .n) (v with first-derivative ≔ d) eigenvector (replicate (r .n) nought) (long-with (its-family r) (r .n) v first-derivative d lv hd) (length-replicate (r .n) nought)
+    long-with (its-family r) (r .n) (v with first-derivative ≔ d) eigenvector (replicate (r .n) nought)
+    (long-with (its-family r) (r .n) v first-derivative d lv hd) (length-replicate (r .n) nought)

@@ -8,18 +8,21 @@ use lib.ListN.{length, length-replicate, replicate}
 use lib.Ieee.{Float}
 use lib.Ieee.Scale.{finite}
 use Rattle.ieee.specs.Double.{nought}
-use Rattle.workspace.specs.Vectors.{Vectors, _with_≔_, unpack, pack, all-finite, first-derivative, last-derivative, eigenvector, state, candidate, older-state}
-use Rattle.workspace.proofs.Areas.{Long, unpack-pack, long-with}
+use Rattle.family.specs.Family.{Family}
+use Rattle.workspace.specs.Vectors.{Vector, Vectors, _with_≔_, unpack, pack, all-finite, first-derivative, last-derivative, eigenvector, state, candidate}
+use Rattle.workspace.specs.Vectors.{older-state}
+use Rattle.workspace.proofs.Areas.{unpack-pack, long-with}
 use Rattle.driver.specs.declared.Phase.the-variants as P
 use Rattle.driver.specs.Calls.{Held, Called, in-phase, at-time, first-at, take-callback, replied, as-long, pending, in-range, awaiting, may-accept}
 use Rattle.driver.specs.Calls.{finishes, going-on, accepted, accept, called-back, accept-with-callback, Accept, Accept-with-callback, taken, accept-tests}
 use Rattle.driver.specs.Calls.{callback-tests}
 use Rattle.driver.proofs.Ladder.{each-passes, goes-ahead}
 use Rattle.session.specs.Attempt.{_>>=_, evaluate}
-use Rattle.session.specs.Session.{evaluates, ready-at, answer-shown, has-history, accept-step, callback-step, Doing, within, Session, at-rest, after-attempt, doing-now, session-after, doing-shown, has-tried}
+use Rattle.session.specs.Session.{evaluates, ready-at, answer-shown, has-history, accept-step, callback-step, Doing, within, Session, at-rest}
+use Rattle.session.specs.Session.{after-attempt, doing-now, session-after, doing-shown, has-tried}
 use Rattle.ieee.proofs.Logic.{and-left, and-right}
 use Rattle.session.proofs.Truth.{and-none}
-use Rattle.session.proofs.Lengths.{its-family, whole-pack, long-area, pack-length}
+use Rattle.session.proofs.Lengths.{its-family, Long-in, whole-pack, long-area, pack-length}
 use Rattle.session.proofs.Shows.{Shows, Does, Good, once}
 use Rattle.session.proofs.Guards.{taken-exactly, taken-passes}
 use Rattle.session.proofs.Standing.{all-pass, none-pass, K, N, W, standing, Place, inside, outside, place, Finished-at, finished-at, rested}
@@ -77,30 +80,32 @@ module _ (h : Held) (q : taken (accept h .answer) ≡ true) where
   w : Vectors
   w = let v = unpack (h .kept .n) (h .area) in v with first-derivative ≔ v last-derivative with state ≔ v candidate
 
-  long-w : Long (its-family (h .kept)) (h .kept .n) w
+  long-w : Long-in (h .kept) w
   unfolding w
   long-w = let v = unpack (h .kept .n) (h .area) in let lv = long-area (h .kept .family) (h .kept .n) (h .area) (passed .area-whole) in
-      long-with (its-family (h .kept)) (h .kept .n) (v with first-derivative ≔ v last-derivative) state (v candidate) (long-with (its-family (h .kept)) (h .kept .n) v first-derivative (v last-derivative) lv (lv last-derivative)) (lv candidate)
+      let F = its-family (h .kept) in
+      long-with F (h .kept .n) (v with first-derivative ≔ v last-derivative) state (v candidate)
+      (long-with F (h .kept .n) v first-derivative (v last-derivative) lv (lv last-derivative)) (lv candidate)
 
   pub accept-good : (σ : Session) → h .counters ≡ σ .counts → Does (σ .family) (σ .n) (σ .doing) h → Good (session-after σ Accept) (accept h)
   unfolding session-after has-history Does Shows at-rest after-attempt doing-now accept-step answer-shown doing-shown going-on accepted in-phase w
   accept-good σ cs does = subst (λ (x : Called). Good (session-after σ Accept) x) (sym accept-is) (go (σ .doing) (rested h (σ .family) (σ .n) (σ .doing) does (passed .phase-allows)))
     where
-      back : unpack (h .kept .n) (pack w) ≡ w
-      back = unpack-pack (its-family (h .kept)) (h .kept .n) w long-w
+      kept : (b : Vector) → unpack (h .kept .n) (pack w) b ≡ w b
+      kept b = ap (λ (u : Vectors). u b) (unpack-pack (its-family (h .kept)) (h .kept .n) w long-w)
 
       go : (δ : Doing) → Finished-at h (σ .family) (σ .n) δ
           → Good (session-after (doing-now σ δ) Accept) (going-on (h .counters) (accepted (h .kept) (unpack (h .kept .n) (h .area))))
       go δ (finished-at o at same) = record {
-        shown-is = ap₂ ready-at (ap (λ (u : Vectors). u state) back ∙ same candidate refl) (ap (λ (u : Vectors). u first-derivative) back ∙ same last-derivative refl);
+        shown-is = ap₂ ready-at (kept state ∙ same candidate refl) (kept first-derivative ∙ same last-derivative refl);
         counts-are = cs;
         does = (
           record { family-is = at .family-is; n-is = at .n-is; phase-is = refl; family-known = at .family-known; n-sized = at .n-sized; area-whole = whole-pack (h .kept .family) (h .kept .n) w long-w },
           record {
-            state-same = ap (λ (u : Vectors). u state) back ∙ same candidate refl;
-            first-same = ap (λ (u : Vectors). u first-derivative) back ∙ same last-derivative refl;
-            eigenvector-same = ap (λ (u : Vectors). u eigenvector) back ∙ same eigenvector refl;
-            older-same = λ e. ap (λ (u : Vectors). u older-state) back ∙ same older-state e;
+            state-same = kept state ∙ same candidate refl;
+            first-same = kept first-derivative ∙ same last-derivative refl;
+            eigenvector-same = kept eigenvector ∙ same eigenvector refl;
+            older-same = λ e. kept older-state ∙ same older-state e;
           },
         );
       }
@@ -142,9 +147,11 @@ module _ (h : Held) (y : List Float) (t : Float) (q : taken (accept-with-callbac
   u : Vectors
   u = unpack (h .kept .n) (h .area) with state ≔ y
 
-  long-u : Long (its-family (h .kept)) (h .kept .n) u
+  long-u : Long-in (h .kept) u
   unfolding u as-long
-  long-u = long-with (its-family (h .kept)) (h .kept .n) (unpack (h .kept .n) (h .area)) state y (long-area (h .kept .family) (h .kept .n) (h .area) whole) (eqb-true (length y) (h .kept .n) (and-right (W h) (as-long (h .kept .n) y) (passed-both .lengths-good)))
+  long-u =
+      let long = eqb-true (length y) (h .kept .n) (and-right (W h) (as-long (h .kept .n) y) (passed-both .lengths-good)) in
+      long-with (its-family (h .kept)) (h .kept .n) (unpack (h .kept .n) (h .area)) state y (long-area (h .kept .family) (h .kept .n) (h .area) whole) long
 
   pub callback-good : (σ : Session) → h .counters ≡ σ .counts → Does (σ .family) (σ .n) (σ .doing) h → Good (session-after σ (Accept-with-callback y t)) (accept-with-callback h y t)
   unfolding session-after has-history Does at-rest after-attempt doing-now callback-step answer-shown doing-shown going-on called-back in-phase first-at at-time pending in-range awaiting finishes evaluate _>>=_ replied take-callback u
@@ -152,6 +159,9 @@ module _ (h : Held) (y : List Float) (t : Float) (q : taken (accept-with-callbac
     where
       n : ℕ
       n = h .kept .n
+
+      F : Family
+      F = its-family (h .kept)
 
       x : Called
       x = going-on (h .counters) (called-back (h .kept) y t (unpack (h .kept .n) (h .area)))
@@ -165,7 +175,9 @@ module _ (h : Held) (y : List Float) (t : Float) (q : taken (accept-with-callbac
             counts-are = cs;
             does = once (first-at P.Callback (h .kept .family) n t (h .kept)) (h .counters) u (passed-both .family-known) (passed-both .n-sized) long-u (o .vectors with state ≔ y) t y
                 (λ d. o .vectors with state ≔ y with first-derivative ≔ d with eigenvector ≔ replicate n nought) (λ d. u with first-derivative ≔ d with eigenvector ≔ replicate n nought)
-                refl refl (λ d hd. long-with (its-family (h .kept)) n (u with first-derivative ≔ d) eigenvector (replicate n nought) (long-with (its-family (h .kept)) n u first-derivative d long-u hd) (length-replicate n nought))
+                refl refl
+                (λ d hd. long-with F n (u with first-derivative ≔ d) eigenvector (replicate n nought)
+                (long-with F n u first-derivative d long-u hd) (length-replicate n nought))
                 (λ d. refl) (λ d. record { state-same = refl; first-same = refl; eigenvector-same = refl; older-same = same older-state });
           }))
 

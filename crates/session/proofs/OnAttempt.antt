@@ -16,7 +16,8 @@ use Rattle.driver.proofs.Ladder.{each-passes}
 use Rattle.session.specs.Attempt.{done, stopped, ask, Finished-attempt, attempt-step}
 use Rattle.session.specs.Claim.{Allowed, in-one-piece}
 use Rattle.session.specs.Alike.{Same-start}
-use Rattle.session.specs.Session.{Resting, ready-with, tried, vectors-of, has-history, tries, Doing, none, within, Session, at-rest, doing-now, session-after, rests}
+use Rattle.session.specs.Session.{Resting, ready-with, tried, vectors-of, has-history, tries, Doing, none, within, Session, at-rest, doing-now}
+use Rattle.session.specs.Session.{session-after, rests}
 use Rattle.session.proofs.Truth.{differ}
 use Rattle.session.proofs.Lengths.{its-family, long-area, pack-length}
 use Rattle.session.proofs.Passes.{attempt-is, attempt-follows}
@@ -68,7 +69,8 @@ module _ (h : Held) (σ : Session) (cs : h .counters ≡ σ .counts) (a : Argume
       let v = vectors-of ρ in
       let F = setting-of (h .kept) in
       let alike = attempt-alike (has-history ρ) F (h .kept .n) a (unpack (h .kept .n) (h .area)) v same in
-      let g = goes h a p (has-history ρ) (kept-history ρ) (in-one-piece h a) (attempt-step F (h .kept .n) a v) 0 h (attempt h a) (attempt-follows h a p) alike in
+      let follows = attempt-follows h a p in
+      let g = goes h a p (has-history ρ) (kept-history ρ) (in-one-piece h a) (attempt-step F (h .kept .n) a v) 0 h (attempt h a) follows alike in
       subst (λ (f : ℕ). Good (record { family = f; n = σ .n; doing = within (tries f (σ .n) a v); counts = σ .counts }) (attempt h a)) (at .family-is)
       (subst (λ (n : ℕ). Good (record { family = h .kept .family; n = n; doing = within (tries (h .kept .family) n a v); counts = σ .counts }) (attempt h a)) (at .n-is)
       (record { shown-is = g .shown-is; counts-are = ap (λ (x : Called). x .held .counters) (attempt-is h a p) ∙ cs; does = g .shows }))
@@ -83,7 +85,12 @@ module _ (h : Held) (σ : Session) (cs : h .counters ≡ σ .counts) (a : Argume
       go p (within (done (tried o))) e =
           let same = e .1 in
           tries-good (tried o) P.Finished p (e .0)
-          (record { state-same = same state refl; first-same = same first-derivative refl; eigenvector-same = same eigenvector refl; older-same = same older-state })
+          (record {
+            state-same = same state refl;
+            first-same = same first-derivative refl;
+            eigenvector-same = same eigenvector refl;
+            older-same = same older-state;
+          })
       go p (within (stopped i v)) e = absurd (differ (sym (ap may-attempt e) ∙ p .phase-allows))
       go p (within (ask why t q k)) e = absurd (differ (sym (waits-alone (h .kept) (e .1) .0) ∙ p .phase-allows))
 
@@ -92,6 +99,8 @@ unfolding going-on attempted ask-pass at-pass
 attempt-area h a q =
     let p = allowed h a q in
     let v = unpack (h .kept .n) (h .area) in
+    let F = its-family (h .kept) in
+    let lv = long-direction F (h .kept .n) v (long-area (h .kept .family) (h .kept .n) (h .area) (p .area-whole)) in
     ap (λ (x : Called). length (x .held .area)) (attempt-is h a p)
     ∙ pack-length (h .kept .family) (h .kept .n) _ (h .area)
-    (long-perturbed (its-family (h .kept)) (h .kept .n) (perturbation-of v) (with-direction (h .kept .n) v) (long-direction (its-family (h .kept)) (h .kept .n) v (long-area (h .kept .family) (h .kept .n) (h .area) (p .area-whole)))) (p .area-whole)
+    (long-perturbed F (h .kept .n) (perturbation-of v) (with-direction (h .kept .n) v) lv) (p .area-whole)

@@ -61,7 +61,8 @@ module _ (h : Held) (f n : ℕ) (y : List Float) (t : Float) (q : taken (start h
     counts-are = cs;
     does = once (first-at P.First f n t (h .kept)) (h .counters) v (passed .family-known) (passed .n-sized) long-v
         ((λ b. replicate n nought) with state ≔ y) t y (λ d. (λ b. replicate n nought) with state ≔ y with first-derivative ≔ d) (λ d. v with first-derivative ≔ d)
-        refl refl (λ d hd. long-with (family-of f) n v first-derivative d long-v hd) (λ d. refl) (λ d. record { state-same = refl; first-same = refl; eigenvector-same = refl; older-same = λ e. absurd (differ e) });
+        refl refl (λ d hd. long-with (family-of f) n v first-derivative d long-v hd) (λ d. refl)
+        (λ d. record { state-same = refl; first-same = refl; eigenvector-same = refl; older-same = λ e. absurd (differ e) });
   })
 
   pub start-area : length (start h f n y t .held .area) ≡ length (h .area)

@@ -17,7 +17,7 @@ use Rattle.coefficients.specs.Rows.{recurrence, coefficients, next}
 use Rattle.workspace.specs.declared.Arguments.{Arguments}
 use Rattle.workspace.specs.Vectors.{Vectors, number, unpack, pack, all-finite, state, candidate}
 use Rattle.workspace.specs.Kernel.{perturbation-of, turned, radius-of, ended, scaled, with-row, exchanged, with-candidate, with-last, error-norm}
-use Rattle.workspace.proofs.Areas.{Long, long-last}
+use Rattle.workspace.proofs.Areas.{long-last}
 use Rattle.driver.specs.declared.Phase.{Phase}
 use Rattle.driver.specs.declared.Phase.the-variants as P
 use Rattle.driver.specs.declared.Record.{Record}
@@ -33,7 +33,7 @@ use Rattle.driver.specs.Calls.{Call, Start, Attempt, Reply, Accept, Accept-with
 use Rattle.driver.proofs.Ladder.{Passing, each-passes, by-tests}
 use Rattle.ieee.proofs.Logic.{and-left, and-right}
 use Rattle.session.proofs.Needs.{need-is}
-use Rattle.session.proofs.Lengths.{its-family, long-area}
+use Rattle.session.proofs.Lengths.{its-family, Long-in, long-area}
 use Rattle.session.proofs.Guards.{low, low-fails, not-taken}
 
 abbrev pub leaving : Answer → Record → Counters → List Float → Called
@@ -90,7 +90,7 @@ module _ (h : Held) where
         → Outcome (Reply d) (leaving (Evaluate t b) (at-stage s (j + 1) (carried-on (r .family) s j (r .staging .recurrence)) r) (one-more c) area)
     asks-candidate : {d : List Float} (t : Float) (b : ℕ) (area : List Float) → r .phase ≡ P.Stage → j ≡ s
         → Outcome (Reply d) (leaving (Evaluate t b) (in-phase P.Candidate r) (one-more c) area)
-    finishes : {d : List Float} (w : Vectors) → r .phase ≡ P.Candidate → Long (its-family r) (r .n) w
+    finishes : {d : List Float} (w : Vectors) → r .phase ≡ P.Candidate → Long-in r w
         → Outcome (Reply d) (leaving (Finished (norm-after r w)) (in-phase P.Finished r) (one-more-each c) (pack w))
     accepts : (area : List Float) → Outcome Accept (leaving Ready (in-phase P.Ready r) c area)
     calls-back : {y : List Float} {t : Float} (area : List Float)
@@ -154,7 +154,7 @@ module _ (h : Held) where
         go true e = goes-on _ _ _ p (ltb-true j s e)
         go false e = on-last-stage last p (let l = ltb-false j s e in omega (arith, to))
 
-    by-phase : (φ : Phase) (v : Vectors) → r .phase ≡ φ → pending φ && in-range φ r ≡ true → Long (its-family r) (r .n) v → length d ≡ r .n
+    by-phase : (φ : Phase) (v : Vectors) → r .phase ≡ φ → pending φ && in-range φ r ≡ true → Long-in r v → length d ≡ r .n
         → Comes (settled c (replied φ r v d))
     unfolding replied pending in-range take-first take-callback take-pass take-candidate settled going-on counted
     by-phase P.Empty v p good lv ld = readies _

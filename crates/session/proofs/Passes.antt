@@ -156,5 +156,6 @@ attempt-follows h a p =
     let v = unpack (h .kept .n) (h .area) in
     subst (λ (x : Called). Follows h a 0 h (in-one-piece h a) x) (sym (attempt-is h a p))
     (passes-follow h a (p .family-known) (p .n-sized) (perturbation-of v) (perturbation-plus v) (h .kept .staging) _ 0 nought (with-direction (h .kept .n) v) (h .counters) h refl
-    (intact-direction h v (record { long = long-area (h .kept .family) (h .kept .n) (h .area) (p .area-whole); state-is = refl; first-is = refl; older-is = refl }))
+    (intact-direction h v
+    (record { long = long-area (h .kept .family) (h .kept .n) (h .area) (p .area-whole); state-is = refl; first-is = refl; older-is = refl }))
     (record { evaluations-are = omega arith; attempts-are = refl }))

@@ -9,7 +9,7 @@ use lib.Ieee.{Float}
 use Rattle.family.specs.Family.{known}
 use Rattle.workspace.specs.declared.Arguments.{Arguments}
 use Rattle.workspace.specs.Vectors.{Vectors, unpack, pack, all-finite, first-derivative, state, candidate}
-use Rattle.workspace.proofs.Areas.{Long, unpack-pack}
+use Rattle.workspace.proofs.Areas.{unpack-pack}
 use Rattle.driver.specs.declared.Phase.{Phase}
 use Rattle.driver.specs.declared.Phase.the-variants as P
 use Rattle.driver.specs.declared.Record.{Record}
@@ -20,8 +20,9 @@ use Rattle.driver.specs.Calls.{Held, Called, step-to, in-phase, replied, sized,
 use Rattle.session.specs.Attempt.{for-another, closes, Asking, done, stopped, ask, _>>=_, evaluate, Finished-attempt, Evaluated, fixed-at}
 use Rattle.session.specs.Claim.{called-for, Allowed, room-in}
 use Rattle.session.specs.Alike.{Alike, Same-vectors, Same-start, Same-attempt}
-use Rattle.session.specs.Session.{Shown, evaluates, finished-with, ready-at, stops, nothing, Seen, answer-shown, call-seen, Resting, ready-with, tried, has-history, Doing, none, within, Session, finished-by, counts-on, doing-shown, session-seen}
-use Rattle.session.proofs.Lengths.{its-family, whole-pack}
+use Rattle.session.specs.Session.{Shown, evaluates, finished-with, ready-at, stops, nothing, Seen, answer-shown, call-seen, Resting, ready-with}
+use Rattle.session.specs.Session.{tried, has-history, Doing, none, within, Session, finished-by, counts-on, doing-shown, session-seen}
+use Rattle.session.proofs.Lengths.{its-family, Long-in, whole-pack}
 use Rattle.session.proofs.Follows.{some-empty, Follows}
 use Rattle.session.proofs.Asked.{reply-is}
 use Rattle.session.proofs.Room.{pends}
@@ -64,10 +65,10 @@ same-counters c e p q = ap₂ {C = Counters} (λ (x y : ℕ). record { evaluatio
 
 -- ---- one evaluation: of the kept state, at the start and after a callback
 
-module _ (r : Record) (c : Counters) (v : Vectors) (hk : known (r .family) ≡ true) (hs : sized (r .n) ≡ true) (hv : Long (its-family r) (r .n) v) where
+module _ (r : Record) (c : Counters) (v : Vectors) (hk : known (r .family) ≡ true) (hs : sized (r .n) ≡ true) (hv : Long-in r v) where
   pub once : (u : Vectors) (t : Float) (y : List Float) (from to : List Float → Vectors)
       → awaiting r ≡ true → finishes (r .phase) ≡ false
-      → ((d : List Float) → length d ≡ r .n → Long (its-family r) (r .n) (to d))
+      → ((d : List Float) → length d ≡ r .n → Long-in r (to d))
       → ((d : List Float) → replied (r .phase) r v d ≡ step-to Ready (in-phase P.Ready r) (to d))
       → ((d : List Float) → Same-start (has-history (ready-with (from d))) (to d) (from d))
       → Shows (r .family) (r .n) (evaluate for-another u t y >>= λ d. done (ready-with (from d))) (record { kept = r; counters = c; area = pack v })
@@ -133,8 +134,9 @@ module _ (h : Held) (a : Arguments) (ok : Allowed h a) where
       → Follows h a e b m x → Alike (Same-attempt history) m m′ → Goes e (on m′) x
   unfolding Follows Shows _>>=_ answer-shown doing-shown finished-by counts-on in-phase
   goes η left (done o) (done o′) e b x f s = record {
-    shown-is = rw (f .answer-is, f .stages-are, f .passes-are, f .radius-is, f .n-is, f .area-is, back, s .norm-same, s .stages-same, s .passes-same, s .radius-same)
-        (ap (finished-with (o′ .norm) (o′ .stages) (o′ .passes) (o′ .scaled-radius)) (s .vectors-same candidate refl));
+    shown-is = rw (f .answer-is, f .stages-are, f .passes-are, f .radius-is, f .n-is, f .area-is)
+        (rw (back, s .norm-same, s .stages-same, s .passes-same, s .radius-same)
+        (ap (finished-with (o′ .norm) (o′ .stages) (o′ .passes) (o′ .scaled-radius)) (s .vectors-same candidate refl)));
     counts-are = λ c w. same-counters (x .held .counters) _ (let q = f .evaluations-are in let q′ = w .evaluations-were in omega arith) (let q = f .attempts-are in let q′ = w .attempts-were in omega arith);
     shows = (
       record {
@@ -155,7 +157,8 @@ module _ (h : Held) (a : Arguments) (ok : Allowed h a) where
   goes η left (done o) (ask why′ u q l) e b x f s = absurd s
   goes η left (stopped i v) (done o′) e b x f s = absurd s
   goes η left (stopped i v) (stopped j w) e b x f s = record {
-    shown-is = rw (f .answer-is, f .n-is, f .area-is, unpack-pack (its-family (h .kept)) (h .kept .n) v (f .vectors-long)) (ap₂ stops (s .number-same) (s .vectors-same));
+    shown-is = rw (f .answer-is, f .n-is, f .area-is, unpack-pack (its-family (h .kept)) (h .kept .n) v (f .vectors-long))
+        (ap₂ stops (s .number-same) (s .vectors-same));
     counts-are = λ c w. same-counters (x .held .counters) _ (let q = f .evaluations-are in let q′ = w .evaluations-were in omega arith) (let q = f .attempts-are in let q′ = w .attempts-were in omega arith);
     shows = ap (λ (r : Record). r .phase) (f .record-is);
   }

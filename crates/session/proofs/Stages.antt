@@ -14,7 +14,8 @@ use Rattle.family.specs.Family.{known, facts-of, kind}
 use Rattle.coefficients.specs.declared.Recurrence.{Recurrence}
 use Rattle.coefficients.specs.Rows.{coefficients, next}
 use Rattle.workspace.specs.declared.Arguments.{Arguments}
-use Rattle.workspace.specs.Vectors.{Vector, Vectors, _with_≔_, number, each, all-finite, first-derivative, last-derivative, derivative, previous-one, state, candidate, older-state}
+use Rattle.workspace.specs.Vectors.{Vector, Vectors, _with_≔_, number, each, all-finite, first-derivative, last-derivative}
+use Rattle.workspace.specs.Vectors.{derivative, previous-one, state, candidate, older-state}
 use Rattle.workspace.specs.Kernel.{with-row, exchanged, with-candidate, with-last, error}
 use Rattle.workspace.proofs.Areas.{long-last}
 use Rattle.driver.specs.declared.Phase.the-variants as P

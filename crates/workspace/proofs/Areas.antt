@@ -192,7 +192,8 @@ short false n = omega arith
 all : (f : Family) (n : ℕ) (v : Vectors) → Long f n v → All n (in-order v)
 all f n v h =
     more (h first-derivative) (more (h last-derivative) (more (h derivative) (more (h previous-two) (more (h previous-one) (more (h next-stage)
-    (more (h eigenvector) (more (h perturbed-state) (more (h perturbed-derivative) (more (h state) (more (h candidate) (last {x = v older-state} (omega (arith, h older-state, short (keeps-older f) n)))))))))))))
+    (more (h eigenvector) (more (h perturbed-state) (more (h perturbed-derivative) (more (h state) (more (h candidate)
+    (last {x = v older-state} (omega (arith, h older-state, short (keeps-older f) n)))))))))))))
 
 pub unpack-pack : (f : Family) (n : ℕ) (v : Vectors) → Long f n v → unpack n (pack v) ≡ v
 unfolding unpack pack
@@ -226,7 +227,8 @@ pub length-pack : (f : Family) (n : ℕ) (v : Vectors) → Long f n v → length
 unfolding pack vector-count total
 length-pack f n v h =
     length-join (in-order v)
-    ∙ rw (h first-derivative, h last-derivative, h derivative, h previous-two, h previous-one, h next-stage, h eigenvector, h perturbed-state, h perturbed-derivative, h state, h candidate, h older-state) (go (keeps-older f))
+    ∙ rw (h first-derivative, h last-derivative, h derivative, h previous-two, h previous-one, h next-stage)
+    (rw (h eigenvector, h perturbed-state, h perturbed-derivative, h state, h candidate, h older-state) (go (keeps-older f)))
   where
     go : (t : Bool) → n + (n + (n + (n + (n + (n + (n + (n + (n + (n + (n + (cond t n 0 + 0))))))))))) ≡ cond t 12 11 * n
     go true = omega arith

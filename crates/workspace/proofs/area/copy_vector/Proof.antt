@@ -25,7 +25,8 @@ turned {n} {from} {to} {i} {a} {area} p q W h =
     (turn (_ ∷ []) W h (refl, tt)))
 
 abbrev Inv-loop : tie.InvT-loop
-Inv-loop area₀ n from to a b i₀ area i = Working n (rules from to) area₀ area i × (from < 12) × (to < 12) × (from * n + n ≤ length area₀) × (to * n + n ≤ length area₀)
+Inv-loop area₀ n from to a b i₀ area i =
+    Working n (rules from to) area₀ area i × (from < 12) × (to < 12) × (from * n + n ≤ length area₀) × (to * n + n ≤ length area₀)
 
 abbrev μ-loop : tie.MeasureT-loop
 μ-loop area₀ n from to a b i₀ area i = n - i
@@ -84,8 +85,10 @@ returns c =
     let n = c .before .before .args .n in
     let v = unpack n a in
     let from = named (c .before .before .args .from) in
+    let p = c .before .before .pre in
     becomes-as (finish (c .before .loop .inv .0) (c .loop-test .left))
-    (ap (λ (x : List Float). v with named (c .before .before .args .to) ≔ x) (each-same n v from (long-at n a from (rw (number-named _ (c .before .before .pre .1 .0 .0)) (c .before .before .pre .1 .1 .0)))))
+    (ap (λ (x : List Float). v with named (c .before .before .args .to) ≔ x)
+    (each-same n v from (long-at n a from (rw (number-named _ (p .1 .0 .0)) (p .1 .1 .0)))))
 
 pub copy-vector-spec : {M : Type 1} → statement M
 copy-vector-spec =
