@@ -26,15 +26,15 @@ lent w x =
     let a : Arguments = record { time = getD x 0 nan; step = getD x 1 nan; «absolute_tolerance» = getD x 2 nan; «relative_tolerance» = getD x 3 nan; adaptive = getD w 3 0 } in
     let i : Iteration = record { pass = getD w 4 0; perturbation = getD x 4 nan; «previous_radius» = getD x 5 nan; «scaled_radius» = getD x 6 nan } in
     let p : Polynomials = record {
-      «omega_one» = getD x 9 nan;
-      «b_previous» = getD x 10 nan;
-      «b_previous_two» = getD x 11 nan;
-      «value_previous» = getD x 12 nan;
-      «value_previous_two» = getD x 13 nan;
-      «first_previous» = getD x 14 nan;
-      «first_previous_two» = getD x 15 nan;
-      «second_previous» = getD x 16 nan;
-      «second_previous_two» = getD x 17 nan;
+      «omega_one» = getD x 17 nan;
+      «b_previous» = getD x 9 nan;
+      «b_previous_two» = getD x 10 nan;
+      «value_previous» = getD x 11 nan;
+      «value_previous_two» = getD x 12 nan;
+      «first_previous» = getD x 13 nan;
+      «first_previous_two» = getD x 14 nan;
+      «second_previous» = getD x 15 nan;
+      «second_previous_two» = getD x 16 nan;
     } in
     let c : Recurrence = record { «theta_previous» = getD x 7 nan; «theta_previous_two» = getD x 8 nan; polynomials = p } in
     let g : Staging = record { stages = getD w 5 0; stage = getD w 6 0; recurrence = c } in

@@ -243,15 +243,15 @@ fn read(wholes: &[u64; WHOLES], doubles: &[f64; DOUBLES]) -> Record
                 theta_previous: doubles[7],
                 theta_previous_two: doubles[8],
                 polynomials: Polynomials {
-                    omega_one: doubles[9],
-                    b_previous: doubles[10],
-                    b_previous_two: doubles[11],
-                    value_previous: doubles[12],
-                    value_previous_two: doubles[13],
-                    first_previous: doubles[14],
-                    first_previous_two: doubles[15],
-                    second_previous: doubles[16],
-                    second_previous_two: doubles[17],
+                    omega_one: doubles[17],
+                    b_previous: doubles[9],
+                    b_previous_two: doubles[10],
+                    value_previous: doubles[11],
+                    value_previous_two: doubles[12],
+                    first_previous: doubles[13],
+                    first_previous_two: doubles[14],
+                    second_previous: doubles[15],
+                    second_previous_two: doubles[16],
                 },
             },
         },
@@ -284,7 +284,6 @@ fn leave(wholes: &mut [u64; WHOLES], doubles: &mut [f64; DOUBLES], outcome: Outc
         r.iteration.scaled_radius,
         c.theta_previous,
         c.theta_previous_two,
-        p.omega_one,
         p.b_previous,
         p.b_previous_two,
         p.value_previous,
@@ -293,6 +292,7 @@ fn leave(wholes: &mut [u64; WHOLES], doubles: &mut [f64; DOUBLES], outcome: Outc
         p.first_previous_two,
         p.second_previous,
         p.second_previous_two,
+        p.omega_one,
     ];
     let answer = outcome.answer;
     answer
@@ -312,15 +312,15 @@ fn ask_stage(wholes: &mut [u64], doubles: &mut [f64], time: f64, staging: Stagin
     wholes[6] = staging.stage;
     doubles[7] = c.theta_previous;
     doubles[8] = c.theta_previous_two;
-    doubles[9] = p.omega_one;
-    doubles[10] = p.b_previous;
-    doubles[11] = p.b_previous_two;
-    doubles[12] = p.value_previous;
-    doubles[13] = p.value_previous_two;
-    doubles[14] = p.first_previous;
-    doubles[15] = p.first_previous_two;
-    doubles[16] = p.second_previous;
-    doubles[17] = p.second_previous_two;
+    doubles[9] = p.b_previous;
+    doubles[10] = p.b_previous_two;
+    doubles[11] = p.value_previous;
+    doubles[12] = p.value_previous_two;
+    doubles[13] = p.first_previous;
+    doubles[14] = p.first_previous_two;
+    doubles[15] = p.second_previous;
+    doubles[16] = p.second_previous_two;
+    doubles[17] = p.omega_one;
     Answer {
         code: 1,
         number: 4,
