@@ -8,12 +8,13 @@ use Rattle.coefficients.specs.declared.Recurrence.{Recurrence}
 use Rattle.driver.specs.declared.Iteration.{Iteration}
 use Rattle.driver.specs.declared.Staging.{Staging}
 use Rattle.driver.specs.declared.Staged.{Staged}
-use Rattle.driver.specs.Promises.{outcome-of}
+use Rattle.driver.specs.declared.Record.{Record as Kept}
+use Rattle.driver.specs.Promises.{outcome-of, new-record, no-recurrence}
 use Rattle.capi.specs.declared.Arguments.{Arguments}
 use Rattle.capi.specs.declared.Record.{Record}
 use Rattle.capi.specs.declared.Answer.{Answer}
 use Rattle.capi.specs.declared.Outcome.{Outcome}
-use Rattle.capi.specs.Numbers.{meaning, in-numbers, handed-back}
+use Rattle.capi.specs.Numbers.{phase-of, meaning, in-numbers, handed-back}
 
 abbrev pub wholes-long : ℕ
 wholes-long = 7
@@ -39,6 +40,12 @@ lent w x =
     let c : Recurrence = record { «theta_previous» = getD x 7 nan; «theta_previous_two» = getD x 8 nan; polynomials = p } in
     let g : Staging = record { stages = getD w 5 0; stage = getD w 6 0; recurrence = c } in
     record { family = getD w 0 0; n = getD w 1 0; phase = getD w 2 0; arguments = a; iteration = i; staging = g }
+
+-- of the record that it means, what the tests of a reply ask for; all else is 0
+abbrev pub place-of : List ℕ → Kept
+place-of w =
+    let g : Staging = record { stages = getD w 5 0; stage = getD w 6 0; recurrence = no-recurrence } in
+    record { family = getD w 0 0; n = getD w 1 0; phase = phase-of (getD w 2 0); arguments = new-record .arguments; iteration = new-record .iteration; staging = g }
 
 -- what a call answers, and what it leaves of the record
 abbrev pub leaves : Answer → List ℕ → List Float → Outcome

@@ -6,7 +6,7 @@ ghost use Rattle.driver.specs.declared.Staged.the-variants.{On, Ended, NotFinit
 ghost use Rattle.driver.specs.Calls as calls;
 ghost use Rattle.driver.specs.Promises.{holding};
 ghost use Rattle.capi.specs.Numbers as numbers;
-ghost use Rattle.capi.specs.Lent.{wholes-long, doubles-long, lent, leaves, in-stages};
+ghost use Rattle.capi.specs.Lent.{wholes-long, doubles-long, lent, place-of, leaves, in-stages};
 ghost use Rattle.capi.specs.Told.{Told, Tells, Tells-on, counting};
 use coefficients::Polynomials;
 use coefficients::Recurrence;
@@ -258,6 +258,21 @@ fn read(wholes: &[u64; WHOLES], doubles: &[f64; DOUBLES]) -> Record
     }
 }
 
+// What a reply's tests ask of the record: its place. The rest is not read, so that a stage's reply and any other read it each
+// for itself: where they share a read, the compiler reads two doubles at once that are stored one by one, and waits for them.
+fn place(wholes: &[u64; WHOLES]) -> driver::Record
+    ensures { λ r. ⌜ r ≡ place-of (now (wholes .entry)) ⌝ }
+{
+    let phase = phase_of(wholes[2]);
+    let mut record = driver::new_record();
+    record.family = wholes[0];
+    record.n = wholes[1] as usize;
+    record.phase = phase;
+    record.staging.stages = wholes[5];
+    record.staging.stage = wholes[6];
+    record
+}
+
 // Leaves the whole record, and answers.
 fn leave(wholes: &mut [u64; WHOLES], doubles: &mut [f64; DOUBLES], outcome: Outcome) -> Answer
     ensures { λ r. ⌜ leaves r (now (wholes .exit)) (now (doubles .exit)) ≡ outcome ⌝ }
@@ -409,38 +424,30 @@ pub extern "C" fn stabilized_reply(
 ) -> Answer
     ensures { λ r. ⌜ Told (lent (now (wholes .entry)) (now (doubles .entry))) (lent (now (wholes .entry)) (now (doubles .entry)) .arguments .adaptive) (calls.reply (holding (numbers.meaning (lent (now (wholes .entry)) (now (doubles .entry)))) (counting (now (evaluations .entry)) (now («finished_attempts» .entry))) (now (area .entry))) (now (derivative .entry))) (leaves r (now (wholes .exit)) (now (doubles .exit))) (counting (now (evaluations .exit)) (now («finished_attempts» .exit))) (now (area .exit)) ⌝ }
 {
-    let record = read(wholes, doubles);
-    let kept = meaning(record);
     let counters = Counters {
         evaluations: *evaluations,
         finished_attempts: *finished_attempts,
     };
+    let found = place(wholes);
+    if !driver::stage_taken(found, counters, area, derivative) {
+        let record = read(wholes, doubles);
+        let kept = meaning(record);
+        let replied = driver::reply_elsewhere(kept, counters, area, derivative);
+        *evaluations = replied.counters.evaluations;
+        *finished_attempts = replied.counters.finished_attempts;
+        let answer = replied.answer;
+        let after = replied.record;
+        let outcome = handed_back(record, record.arguments.adaptive, answer, after);
+        return leave(wholes, doubles, outcome);
+    }
+    let record = read(wholes, doubles);
+    let kept = meaning(record);
     let staged = driver::reply_in_stages(kept, counters, area, derivative);
+    *evaluations = counters.evaluations + 1;
     match staged {
-        Staged::On { time, staging } => {
-            *evaluations = counters.evaluations + 1;
-            ask_stage(wholes, doubles, time, staging)
-        }
-        Staged::Ended { time } => {
-            *evaluations = counters.evaluations + 1;
-            ask_candidate(wholes, doubles, time)
-        }
-        Staged::NotFinite => {
-            *evaluations = counters.evaluations + 1;
-            refuse_candidate(wholes, doubles)
-        }
-        Staged::Elsewhere => {
-            // a record of its own, so that a stage's need not be set down in memory
-            let before = read(wholes, doubles);
-            let again = meaning(before);
-            let replied = driver::reply_elsewhere(again, counters, area, derivative);
-            *evaluations = replied.counters.evaluations;
-            *finished_attempts = replied.counters.finished_attempts;
-            let answer = replied.answer;
-            let after = replied.record;
-            let outcome = handed_back(before, before.arguments.adaptive, answer, after);
-            leave(wholes, doubles, outcome)
-        }
+        Staged::On { time, staging } => ask_stage(wholes, doubles, time, staging),
+        Staged::Ended { time } => ask_candidate(wholes, doubles, time),
+        Staged::NotFinite => refuse_candidate(wholes, doubles),
     }
 }
 
