@@ -264,13 +264,22 @@ fn place(wholes: &[u64; WHOLES]) -> driver::Record
     ensures { λ r. ⌜ r ≡ place-of (now (wholes .entry)) ⌝ }
 {
     let phase = phase_of(wholes[2]);
-    let mut record = driver::new_record();
-    record.family = wholes[0];
-    record.n = wholes[1] as usize;
-    record.phase = phase;
-    record.staging.stages = wholes[5];
-    record.staging.stage = wholes[6];
-    record
+    let none = driver::new_record();
+    let arguments = none.arguments;
+    let iteration = none.iteration;
+    let recurrence = none.staging.recurrence;
+    driver::Record {
+        family: wholes[0],
+        n: wholes[1] as usize,
+        phase,
+        arguments,
+        iteration,
+        staging: Staging {
+            stages: wholes[5],
+            stage: wholes[6],
+            recurrence,
+        },
+    }
 }
 
 // Leaves the whole record, and answers.
