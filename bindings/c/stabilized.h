@@ -105,8 +105,7 @@ typedef struct {
   double scaled_radius;
   double theta_previous; /* what the stages carry on */
   double theta_previous_two;
-  double omega_one; /* from here on RKC's alone */
-  double b_previous;
+  double b_previous; /* from here on RKC's alone */
   double b_previous_two;
   double value_previous;
   double value_previous_two;
@@ -114,6 +113,7 @@ typedef struct {
   double first_previous_two;
   double second_previous;
   double second_previous_two;
+  double omega_one;
 } stabilized_doubles;
 
 typedef struct {

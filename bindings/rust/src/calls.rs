@@ -30,7 +30,7 @@ pub struct Wholes {
 }
 
 /// What it keeps in doubles: the attempt's arguments, the power iteration's position, and what the stages carry on, from
-/// `omega_one` on for RKC alone.
+/// `b_previous` on for RKC alone.
 #[repr(C)]
 #[derive(Clone, Copy, Debug, Default, PartialEq)]
 pub struct Doubles {
@@ -43,7 +43,6 @@ pub struct Doubles {
     pub scaled_radius: f64,
     pub theta_previous: f64,
     pub theta_previous_two: f64,
-    pub omega_one: f64,
     pub b_previous: f64,
     pub b_previous_two: f64,
     pub value_previous: f64,
@@ -52,6 +51,7 @@ pub struct Doubles {
     pub first_previous_two: f64,
     pub second_previous: f64,
     pub second_previous_two: f64,
+    pub omega_one: f64,
 }
 
 /// All that the engine keeps beside the area. The default one is in the empty phase.

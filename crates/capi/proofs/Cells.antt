@@ -41,10 +41,11 @@ module _ (t : Float) (g : Staging) where
       let c = g .recurrence in
       let p = c .polynomials in
       let thetas = set (set x 7 (c .«theta_previous»)) 8 (c .«theta_previous_two») in
-      let bs = set (set (set thetas 9 (p .«omega_one»)) 10 (p .«b_previous»)) 11 (p .«b_previous_two») in
-      let values = set (set bs 12 (p .«value_previous»)) 13 (p .«value_previous_two») in
-      let firsts = set (set values 14 (p .«first_previous»)) 15 (p .«first_previous_two») in
-      set (set firsts 16 (p .«second_previous»)) 17 (p .«second_previous_two»)
+      let bs = set (set thetas 9 (p .«b_previous»)) 10 (p .«b_previous_two») in
+      let values = set (set bs 11 (p .«value_previous»)) 12 (p .«value_previous_two») in
+      let firsts = set (set values 13 (p .«first_previous»)) 14 (p .«first_previous_two») in
+      let seconds = set (set firsts 15 (p .«second_previous»)) 16 (p .«second_previous_two») in
+      set seconds 17 (p .«omega_one»)
 
   abbrev Placed : List ℕ → List Float → Type 0
   Placed w x = leaves asked (wholes-on w) (doubles-on x) ≡ in-stages (lent w x) (On t g)

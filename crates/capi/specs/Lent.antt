@@ -8,12 +8,13 @@ use Rattle.coefficients.specs.declared.Recurrence.{Recurrence}
 use Rattle.driver.specs.declared.Iteration.{Iteration}
 use Rattle.driver.specs.declared.Staging.{Staging}
 use Rattle.driver.specs.declared.Staged.{Staged}
-use Rattle.driver.specs.Promises.{outcome-of}
+use Rattle.driver.specs.declared.Record.{Record as Kept}
+use Rattle.driver.specs.Promises.{outcome-of, new-record, no-recurrence}
 use Rattle.capi.specs.declared.Arguments.{Arguments}
 use Rattle.capi.specs.declared.Record.{Record}
 use Rattle.capi.specs.declared.Answer.{Answer}
 use Rattle.capi.specs.declared.Outcome.{Outcome}
-use Rattle.capi.specs.Numbers.{meaning, in-numbers, handed-back}
+use Rattle.capi.specs.Numbers.{phase-of, meaning, in-numbers, handed-back}
 
 abbrev pub wholes-long : ℕ
 wholes-long = 7
@@ -26,19 +27,25 @@ lent w x =
     let a : Arguments = record { time = getD x 0 nan; step = getD x 1 nan; «absolute_tolerance» = getD x 2 nan; «relative_tolerance» = getD x 3 nan; adaptive = getD w 3 0 } in
     let i : Iteration = record { pass = getD w 4 0; perturbation = getD x 4 nan; «previous_radius» = getD x 5 nan; «scaled_radius» = getD x 6 nan } in
     let p : Polynomials = record {
-      «omega_one» = getD x 9 nan;
-      «b_previous» = getD x 10 nan;
-      «b_previous_two» = getD x 11 nan;
-      «value_previous» = getD x 12 nan;
-      «value_previous_two» = getD x 13 nan;
-      «first_previous» = getD x 14 nan;
-      «first_previous_two» = getD x 15 nan;
-      «second_previous» = getD x 16 nan;
-      «second_previous_two» = getD x 17 nan;
+      «omega_one» = getD x 17 nan;
+      «b_previous» = getD x 9 nan;
+      «b_previous_two» = getD x 10 nan;
+      «value_previous» = getD x 11 nan;
+      «value_previous_two» = getD x 12 nan;
+      «first_previous» = getD x 13 nan;
+      «first_previous_two» = getD x 14 nan;
+      «second_previous» = getD x 15 nan;
+      «second_previous_two» = getD x 16 nan;
     } in
     let c : Recurrence = record { «theta_previous» = getD x 7 nan; «theta_previous_two» = getD x 8 nan; polynomials = p } in
     let g : Staging = record { stages = getD w 5 0; stage = getD w 6 0; recurrence = c } in
     record { family = getD w 0 0; n = getD w 1 0; phase = getD w 2 0; arguments = a; iteration = i; staging = g }
+
+-- of the record that it means, what the tests of a reply ask for; all else is 0
+abbrev pub place-of : List ℕ → Kept
+place-of w =
+    let g : Staging = record { stages = getD w 5 0; stage = getD w 6 0; recurrence = no-recurrence } in
+    record { family = getD w 0 0; n = getD w 1 0; phase = phase-of (getD w 2 0); arguments = new-record .arguments; iteration = new-record .iteration; staging = g }
 
 -- what a call answers, and what it leaves of the record
 abbrev pub leaves : Answer → List ℕ → List Float → Outcome

@@ -6,7 +6,7 @@ ghost use Rattle.driver.specs.declared.Staged.the-variants.{On, Ended, NotFinit
 ghost use Rattle.driver.specs.Calls as calls;
 ghost use Rattle.driver.specs.Promises.{holding};
 ghost use Rattle.capi.specs.Numbers as numbers;
-ghost use Rattle.capi.specs.Lent.{wholes-long, doubles-long, lent, leaves, in-stages};
+ghost use Rattle.capi.specs.Lent.{wholes-long, doubles-long, lent, place-of, leaves, in-stages};
 ghost use Rattle.capi.specs.Told.{Told, Tells, Tells-on, counting};
 use coefficients::Polynomials;
 use coefficients::Recurrence;
@@ -243,17 +243,41 @@ fn read(wholes: &[u64; WHOLES], doubles: &[f64; DOUBLES]) -> Record
                 theta_previous: doubles[7],
                 theta_previous_two: doubles[8],
                 polynomials: Polynomials {
-                    omega_one: doubles[9],
-                    b_previous: doubles[10],
-                    b_previous_two: doubles[11],
-                    value_previous: doubles[12],
-                    value_previous_two: doubles[13],
-                    first_previous: doubles[14],
-                    first_previous_two: doubles[15],
-                    second_previous: doubles[16],
-                    second_previous_two: doubles[17],
+                    omega_one: doubles[17],
+                    b_previous: doubles[9],
+                    b_previous_two: doubles[10],
+                    value_previous: doubles[11],
+                    value_previous_two: doubles[12],
+                    first_previous: doubles[13],
+                    first_previous_two: doubles[14],
+                    second_previous: doubles[15],
+                    second_previous_two: doubles[16],
                 },
             },
+        },
+    }
+}
+
+// What a reply's tests ask of the record: its place. The rest is not read, so that a stage's reply and any other read it each
+// for itself: where they share a read, the compiler reads two doubles at once that are stored one by one, and waits for them.
+fn place(wholes: &[u64; WHOLES]) -> driver::Record
+    ensures { λ r. ⌜ r ≡ place-of (now (wholes .entry)) ⌝ }
+{
+    let phase = phase_of(wholes[2]);
+    let none = driver::new_record();
+    let arguments = none.arguments;
+    let iteration = none.iteration;
+    let recurrence = none.staging.recurrence;
+    driver::Record {
+        family: wholes[0],
+        n: wholes[1] as usize,
+        phase,
+        arguments,
+        iteration,
+        staging: Staging {
+            stages: wholes[5],
+            stage: wholes[6],
+            recurrence,
         },
     }
 }
@@ -284,7 +308,6 @@ fn leave(wholes: &mut [u64; WHOLES], doubles: &mut [f64; DOUBLES], outcome: Outc
         r.iteration.scaled_radius,
         c.theta_previous,
         c.theta_previous_two,
-        p.omega_one,
         p.b_previous,
         p.b_previous_two,
         p.value_previous,
@@ -293,6 +316,7 @@ fn leave(wholes: &mut [u64; WHOLES], doubles: &mut [f64; DOUBLES], outcome: Outc
         p.first_previous_two,
         p.second_previous,
         p.second_previous_two,
+        p.omega_one,
     ];
     let answer = outcome.answer;
     answer
@@ -312,15 +336,15 @@ fn ask_stage(wholes: &mut [u64], doubles: &mut [f64], time: f64, staging: Stagin
     wholes[6] = staging.stage;
     doubles[7] = c.theta_previous;
     doubles[8] = c.theta_previous_two;
-    doubles[9] = p.omega_one;
-    doubles[10] = p.b_previous;
-    doubles[11] = p.b_previous_two;
-    doubles[12] = p.value_previous;
-    doubles[13] = p.value_previous_two;
-    doubles[14] = p.first_previous;
-    doubles[15] = p.first_previous_two;
-    doubles[16] = p.second_previous;
-    doubles[17] = p.second_previous_two;
+    doubles[9] = p.b_previous;
+    doubles[10] = p.b_previous_two;
+    doubles[11] = p.value_previous;
+    doubles[12] = p.value_previous_two;
+    doubles[13] = p.first_previous;
+    doubles[14] = p.first_previous_two;
+    doubles[15] = p.second_previous;
+    doubles[16] = p.second_previous_two;
+    doubles[17] = p.omega_one;
     Answer {
         code: 1,
         number: 4,
@@ -409,38 +433,30 @@ pub extern "C" fn stabilized_reply(
 ) -> Answer
     ensures { λ r. ⌜ Told (lent (now (wholes .entry)) (now (doubles .entry))) (lent (now (wholes .entry)) (now (doubles .entry)) .arguments .adaptive) (calls.reply (holding (numbers.meaning (lent (now (wholes .entry)) (now (doubles .entry)))) (counting (now (evaluations .entry)) (now («finished_attempts» .entry))) (now (area .entry))) (now (derivative .entry))) (leaves r (now (wholes .exit)) (now (doubles .exit))) (counting (now (evaluations .exit)) (now («finished_attempts» .exit))) (now (area .exit)) ⌝ }
 {
-    let record = read(wholes, doubles);
-    let kept = meaning(record);
     let counters = Counters {
         evaluations: *evaluations,
         finished_attempts: *finished_attempts,
     };
+    let found = place(wholes);
+    if !driver::stage_taken(found, counters, area, derivative) {
+        let record = read(wholes, doubles);
+        let kept = meaning(record);
+        let replied = driver::reply_elsewhere(kept, counters, area, derivative);
+        *evaluations = replied.counters.evaluations;
+        *finished_attempts = replied.counters.finished_attempts;
+        let answer = replied.answer;
+        let after = replied.record;
+        let outcome = handed_back(record, record.arguments.adaptive, answer, after);
+        return leave(wholes, doubles, outcome);
+    }
+    let record = read(wholes, doubles);
+    let kept = meaning(record);
     let staged = driver::reply_in_stages(kept, counters, area, derivative);
+    *evaluations = counters.evaluations + 1;
     match staged {
-        Staged::On { time, staging } => {
-            *evaluations = counters.evaluations + 1;
-            ask_stage(wholes, doubles, time, staging)
-        }
-        Staged::Ended { time } => {
-            *evaluations = counters.evaluations + 1;
-            ask_candidate(wholes, doubles, time)
-        }
-        Staged::NotFinite => {
-            *evaluations = counters.evaluations + 1;
-            refuse_candidate(wholes, doubles)
-        }
-        Staged::Elsewhere => {
-            // a record of its own, so that a stage's need not be set down in memory
-            let before = read(wholes, doubles);
-            let again = meaning(before);
-            let replied = driver::reply_elsewhere(again, counters, area, derivative);
-            *evaluations = replied.counters.evaluations;
-            *finished_attempts = replied.counters.finished_attempts;
-            let answer = replied.answer;
-            let after = replied.record;
-            let outcome = handed_back(before, before.arguments.adaptive, answer, after);
-            leave(wholes, doubles, outcome)
-        }
+        Staged::On { time, staging } => ask_stage(wholes, doubles, time, staging),
+        Staged::Ended { time } => ask_candidate(wholes, doubles, time),
+        Staged::NotFinite => refuse_candidate(wholes, doubles),
     }
 }
 

@@ -15,10 +15,10 @@ use Rattle.driver.specs.declared.Record.{Record}
 use Rattle.driver.specs.declared.Counters.{Counters}
 use Rattle.driver.specs.declared.Replied.{Replied}
 use Rattle.driver.specs.declared.Staged.{Staged}
-use Rattle.driver.specs.declared.Staged.the-variants.{Elsewhere, On, Ended, NotFinite}
+use Rattle.driver.specs.declared.Staged.the-variants.{On, Ended, NotFinite}
 use Rattle.driver.specs.Calls.{Called, sized, whole-area, as-long, pending, in-range, good-stage, awaiting, finishes, room, has-room, setting-of}
 use Rattle.driver.specs.Calls.{reply-tests, reply, replied, take-stage, one-more, counted}
-use Rattle.driver.specs.Promises.{Meets, Steps, Within, holding, in-stages, stage-taken, of-stages, outcome-of}
+use Rattle.driver.specs.Promises.{Meets, Steps, Stands-for, holding, in-stages, stage-taken, outcome-of}
 use Rattle.driver.proofs.Ladder.{Passing, admits, admitted-meets}
 use Rattle.driver.proofs.Sizes.{both, three, four}
 use Rattle.driver.proofs.Steps.{as-step}
@@ -79,45 +79,32 @@ roomy p c e h = ap (λ (p : Phase). has-room p c) e ∙ ap (λ (b : Bool). b && 
 -- whatever it comes to, it counts as one evaluation
 counts-as : (x : Staged) (r : Record) (c : Counters) → one-more c ≡ counted (outcome-of x r .answer) c
 unfolding outcome-of counted
-counts-as Elsewhere r c = refl
 counts-as (On t g) r c = refl
 counts-as (Ended t) r c = refl
 counts-as NotFinite r c = refl
 
 pub goes : (r : Record) (c : Counters) (area d : List Float) (x : Staged) (left : List Float) → Passed r c area d
     → length left ≡ vector-count (family-of (r .family)) * r .n → Steps (take-stage r (unpack (r .n) area) d) (outcome-of x r) (unpack (r .n) left)
-    → Meets (reply (holding r c area) d) (outcome-of x r .answer) (outcome-of x r .«record») (one-more c) left
+    → Stands-for (reply (holding r c area) d) r c x left
 unfolding reply reply-tests replied
 goes r c area d x left p h t =
     let ts = reply-tests r c area d in
     let each : Passing ts = (p .family, (p .size, (p .lengths, (awaits r (p .phase) (p .place), (roomy (r .phase) c (p .phase) (p .more), tt))))) in
     let step = as-step (sym (ap (λ (q : Phase). replied q r (unpack (r .n) area) d) (p .phase))) t in
-    admitted-meets _ _ (admits ts each) (settles _ (family-of (r .family)) (r .n) left (p .finite) h step (counts-as x r c))
+    record { meets = admitted-meets _ _ (admits ts each) (settles _ (family-of (r .family)) (r .n) left (p .finite) h step (counts-as x r c)) }
 
--- ---- for the call over both
+-- such a reply has room to be counted
+pub has-one : (r : Record) (c : Counters) (area d : List Float) → stage-taken r c area d ≡ true → c .evaluations < 2 ^ 64 - 1
+has-one r c area d e = counts-one _ (passed r c area d e .more)
 
-module _ {promised : Called} {r : Record} {c : Counters} {area d left : List Float} {x : Staged} (w : Within promised r c area d x left) where
-  -- such a reply has room to be counted
-  pub has-one : of-stages x ≡ true → c .evaluations < 2 ^ 64 - 1
-  has-one e = counts-one _ (passed r c area d (sym (w .exactly) ∙ e) .more)
-
-  -- its outcome, written out
-  pub comes : (y : Staged) {z : Replied} {made : Record} → x ≡ y → of-stages y ≡ true
-      → z ≡ record { answer = outcome-of y r .answer; «record» = made; counters = one-more c } → made ≡ outcome-of y r .«record»
-      → Meets promised (z .answer) (z .«record») (z .counters) left
-  comes y {z} {made} e g q m =
-      let with-made : Record → Replied = λ u. record { answer = outcome-of y r .answer; «record» = u; counters = one-more c } in
-      subst (λ (u : Replied). Meets promised (u .answer) (u .«record») (u .counters) left) (sym (q ∙ ap with-made m))
-      (subst (λ (v : Staged). Within promised r c area d v left) e w .went g)
-
-  -- any other is not taken, of the area as it stands
-  pub left-over : of-stages x ≡ false → stage-taken r c left d ≡ false
-  left-over e = subst (λ (a : List Float). stage-taken r c a d ≡ false) (sym (w .stood e)) (sym (w .exactly) ∙ e)
-
--- of an area that has been lent before, and stood
-pub still : (r : Record) (c : Counters) (d : List Float) {area lent left : List Float} {x : Replied} → lent ≡ area
-    → Meets (reply (holding r c lent) d) (x .answer) (x .«record») (x .counters) left → Meets (reply (holding r c area) d) (x .answer) (x .«record») (x .counters) left
-still r c d {left = left} {x} e m = subst (λ (a : List Float). Meets (reply (holding r c a) d) (x .answer) (x .«record») (x .counters) left) e m
+-- what it stands for, written out
+pub comes : {promised : Called} {r : Record} {c : Counters} {left : List Float} {x : Staged} (y : Staged) {z : Replied} {made : Record}
+    → Stands-for promised r c x left → x ≡ y → z ≡ record { answer = outcome-of y r .answer; «record» = made; counters = one-more c }
+    → made ≡ outcome-of y r .«record» → Meets promised (z .answer) (z .«record») (z .counters) left
+comes {promised} {r} {c} {left} y {z} {made} w e q m =
+    let with-made : Record → Replied = λ u. record { answer = outcome-of y r .answer; «record» = u; counters = one-more c } in
+    subst (λ (u : Replied). Meets promised (u .answer) (u .«record») (u .counters) left) (sym (q ∙ ap with-made m))
+    (subst (λ (v : Staged). Stands-for promised r c v left) e w .meets)
 
 -- ---- a reply that is not taken within the stages, and that the call's own tests pass
 

@@ -17,11 +17,11 @@ use Rattle.driver.specs.declared.Staging.{Staging}
 use Rattle.driver.specs.declared.Record.{Record}
 use Rattle.driver.specs.declared.Counters.{Counters}
 use Rattle.driver.specs.declared.Answer.{Answer}
-use Rattle.driver.specs.declared.Answer.the-variants.{Evaluate, Refused, Empty}
+use Rattle.driver.specs.declared.Answer.the-variants.{Evaluate, Refused}
 use Rattle.driver.specs.declared.Next.{Next}
 use Rattle.driver.specs.declared.Replied.{Replied}
 use Rattle.driver.specs.declared.Staged.{Staged}
-use Rattle.driver.specs.declared.Staged.the-variants.{Elsewhere, On, Ended, NotFinite}
+use Rattle.driver.specs.declared.Staged.the-variants.{On, Ended, NotFinite}
 use Rattle.driver.specs.Answers.{Says}
 use Rattle.driver.specs.Calls.{Held, Called, Step, in-phase, at-stage, sized, whole-area, as-long, good-stage, room, one-more, setting-of}
 
@@ -70,25 +70,14 @@ stage-taken r c area d =
     (((known (r .family) && sized (r .n)) && in-stages (r .phase)) && room (c .evaluations))
     && (((whole-area (r .family) (r .n) area && as-long (r .n) d) && good-stage (setting-of r) (r .staging .stages) (r .staging .stage)) && all-finite d)
 
--- whether what is handed back is of such a reply
-unfoldable pub of-stages : Staged → Bool
-of-stages Elsewhere = false
-of-stages (On t g) = true
-of-stages (Ended t) = true
-of-stages NotFinite = true
-
--- the answer that it stands for, and the record (of Elsewhere nothing is said)
+-- what such a reply hands back stands for this answer and record
 unfoldable pub outcome-of : Staged → Record → Next
-outcome-of Elsewhere r = record { answer = Empty; «record» = r }
 outcome-of (On t g) r = record { answer = Evaluate t (number previous-one); «record» = at-stage (g .stages) (g .stage) (g .recurrence) r }
 outcome-of (Ended t) r = record { answer = Evaluate t (number candidate); «record» = in-phase P.Candidate r }
 outcome-of NotFinite r = record { answer = Refused 10; «record» = in-phase P.Empty r }
 
--- where it is such a reply, what is handed back stands for the call's own outcome; else nothing is written
-pub record Within (promised : Called) (r : Record) (c : Counters) (area d : List Float) (x : Staged) (left : List Float) : Type 0 where
-  pub exactly : of-stages x ≡ stage-taken r c area d
-  pub went : of-stages x ≡ true → Meets promised (outcome-of x r .answer) (outcome-of x r .«record») (one-more c) left
-  pub stood : of-stages x ≡ false → left ≡ area
+pub record Stands-for (promised : Called) (r : Record) (c : Counters) (x : Staged) (left : List Float) : Type 0 where
+  pub meets : Meets promised (outcome-of x r .answer) (outcome-of x r .«record») (one-more c) left
 
 -- ---- a record that was never started: it is refused by every call but start (its family is none)
 

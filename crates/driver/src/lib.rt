@@ -1,13 +1,13 @@
 // driver.rs: the six calls. A record goes in by value and comes back by value; the area and the inputs
 // are slices; no call requires anything of its caller.
 ghost use mathlib.Core.Path.{_≡_};
-ghost use mathlib.Core.Bool.{false};
+ghost use mathlib.Core.Bool.{true, false};
 ghost use Prim.Native.Nat.{_<_, _-_, _^_};
 ghost use Rattle.driver.specs.declared.Phase.the-variants as P;
 ghost use Rattle.driver.specs.declared.Answer.the-variants.{Refused};
 ghost use Rattle.driver.specs.Answers.{case-number};
 ghost use Rattle.driver.specs.Calls as calls;
-ghost use Rattle.driver.specs.Promises.{Meets, Keeps, Within, holding, stage-taken, refusal, turned-away, new-record, no-recurrence};
+ghost use Rattle.driver.specs.Promises.{Meets, Keeps, Stands-for, holding, stage-taken, refusal, turned-away, new-record, no-recurrence};
 use coefficients::Polynomials;
 use coefficients::Recurrence;
 use workspace::Arguments;
@@ -18,6 +18,7 @@ mod position;
 mod replies;
 
 pub use checks::may_accept;
+pub use checks::stage_taken;
 
 // Where a record is between two calls.
 pub enum Phase {
@@ -86,9 +87,8 @@ pub struct Replied {
 }
 
 // What a reply to a stage's evaluation comes to: the next stage's evaluation at this time and position; after stage s the
-// candidate's at this time, or a candidate that is not finite. Elsewhere: the reply is none to a stage, or a test refuses it.
+// candidate's at this time, or a candidate that is not finite.
 pub enum Staged {
-    Elsewhere,
     On { time: f64, staging: Staging },
     Ended { time: f64 },
     NotFinite,
@@ -267,18 +267,16 @@ fn spoiled(record: Record, counters: Counters) -> Replied
 }
 
 // A reply to a stage's evaluation that passes every test, for a caller that keeps the record where it is: what is handed
-// back is what changes. Elsewhere nothing is written.
+// back is what changes.
 pub fn reply_in_stages(
     record: Record,
     counters: Counters,
     area: &mut [f64],
     derivative: &[f64],
 ) -> Staged
-    ensures { λ r. ⌜ Within (calls.reply (holding «record» counters (now (area .entry))) (now (derivative .entry))) «record» counters (now (area .entry)) (now (derivative .entry)) r (now (area .exit)) ⌝ }
+    requires { ⌜ stage-taken «record» counters (now area) (now derivative) ≡ true ⌝ }
+    ensures { λ r. ⌜ Stands-for (calls.reply (holding «record» counters (now (area .entry))) (now (derivative .entry))) «record» counters r (now (area .exit)) ⌝ }
 {
-    if !checks::stage_taken(record, counters, area, derivative) {
-        return Staged::Elsewhere;
-    }
     replies::take_stage(record, area, derivative)
 }
 
@@ -314,9 +312,11 @@ pub fn reply_elsewhere(
 pub fn reply(record: Record, counters: Counters, area: &mut [f64], derivative: &[f64]) -> Replied
     ensures { λ r. ⌜ Meets (calls.reply (holding «record» counters (now (area .entry))) (now (derivative .entry))) (r .answer) (r .«record») (r .counters) (now (area .exit)) ⌝ }
 {
+    if !stage_taken(record, counters, area, derivative) {
+        return reply_elsewhere(record, counters, area, derivative);
+    }
     let staged = reply_in_stages(record, counters, area, derivative);
     match staged {
-        Staged::Elsewhere => reply_elsewhere(record, counters, area, derivative),
         Staged::On { time, staging } => {
             let recurrence = staging.recurrence;
             let on = position::at_stage(record, staging.stages, staging.stage, recurrence);

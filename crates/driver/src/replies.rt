@@ -8,7 +8,7 @@ ghost use Rattle.workspace.specs.Vectors.{Vectors, unpack, eigenvector, vector-
 ghost use Rattle.workspace.specs.Kernel.{ended};
 ghost use Rattle.driver.specs.declared.Need as need;
 ghost use Rattle.driver.specs.Calls as calls;
-ghost use Rattle.driver.specs.Promises.{Steps, in-stages, of-stages, outcome-of};
+ghost use Rattle.driver.specs.Promises.{Steps, in-stages, outcome-of};
 use crate::Answer;
 use crate::Need;
 use crate::Next;
@@ -155,7 +155,6 @@ pub fn take_stage(record: Record, area: &mut [f64], derivative: &[f64]) -> Stage
     requires { ⌜ 11 * «record» .n ≤ length (now area) ⌝ }
     requires { ⌜ length (now derivative) ≡ «record» .n ⌝ }
     requires { ⌜ (2 ≤ «record» .staging .stage) × («record» .staging .stage + 1 < 2 ^ 32) ⌝ }
-    ensures { λ r. ⌜ of-stages r ≡ true ⌝ }
     ensures { λ r. ⌜ Steps (calls.take-stage «record» (unpack («record» .n) (now (area .entry))) (now (derivative .entry))) (outcome-of r «record») (unpack («record» .n) (now (area .exit))) ⌝ }
 {
     let n = record.n;

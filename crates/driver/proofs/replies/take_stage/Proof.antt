@@ -3,7 +3,7 @@ use mathlib.Core.Path.{refl}
 use borrow.Author.Needs.{needs}
 use Rattle.workspace.specs.Vectors.{unpack}
 use Rattle.driver.specs.Calls.{at-stage, ask-stage}
-use Rattle.driver.specs.Promises.{of-stages, outcome-of}
+use Rattle.driver.specs.Promises.{outcome-of}
 use Rattle.driver.proofs.Ladder.{says}
 use Rattle.driver.proofs.Steps.{stages-on, stages-end, candidate-asked, candidate-refused}
 use Rattle.driver.proofs.replies.take_stage.Statement.{statement}
@@ -25,14 +25,14 @@ same-length : tie.Need-same-length
 same-length c = search needs
 
 returns : tie.Need-returns
-unfolding of-stages outcome-of ask-stage at-stage
+unfolding outcome-of ask-stage at-stage
 returns c =
     let a = c .before .before .before .before .before .before .before .before .before .before .before .before .before .before .args in
     let r = a .«record» in
     let both = c .before .before .before .before .before .before .before .before .before .row-and-recurrence .ensures in
     let exchanged = c .before .before .before .before .before .row-and-exchange .ensures .vectors in
-    (refl, stages-on r (unpack (r .n) (a .area .now)) (a .derivative .now) (c .before .before .before .before .before .before .before .before .before .before .before .setting-of .ensures) (both .0) (c .before .before .before .before .before .before .before .if1 .taken) exchanged (both .1) refl
-    (record { answer = says refl; kept = refl; vectors = refl }))
+    stages-on r (unpack (r .n) (a .area .now)) (a .derivative .now) (c .before .before .before .before .before .before .before .before .before .before .before .setting-of .ensures) (both .0) (c .before .before .before .before .before .before .before .if1 .taken) exchanged (both .1) refl
+    (record { answer = says refl; kept = refl; vectors = refl })
 
 row-requires : tie.Need-row-requires
 row-requires c κs = search needs
@@ -47,25 +47,23 @@ same-length-2 : tie.Need-same-length-2
 same-length-2 c = search needs
 
 returns-2 : tie.Need-returns-2
-unfolding of-stages
 returns-2 c =
     let a = c .before .before .before .before .before .before .before .before .before .before .before .before .before .before .before .before .before .before .before .args in
     let r = a .«record» in
     let row = c .before .before .before .before .before .before .before .before .before .before .before .before .before .before .row-and-recurrence .ensures .0 in
     let asked = candidate-asked r _ (c .before .before .finite-vector .ensures) (c .before .if2 .taken) in
-    (refl, stages-end r (unpack (r .n) (a .area .now)) (a .derivative .now) (c .before .before .before .before .before .before .before .before .before .before .before .before .before .before .before .before .setting-of .ensures) row (c .before .before .before .before .before .before .before .before .before .before .before .before .if1 .left) (c .before .before .before .before .before .before .before .before .before .before .row2 .ensures .vectors) (c .before .before .before .before .before .before .keep-candidate .ensures .vectors) asked)
+    stages-end r (unpack (r .n) (a .area .now)) (a .derivative .now) (c .before .before .before .before .before .before .before .before .before .before .before .before .before .before .before .before .setting-of .ensures) row (c .before .before .before .before .before .before .before .before .before .before .before .before .if1 .left) (c .before .before .before .before .before .before .before .before .before .before .row2 .ensures .vectors) (c .before .before .before .before .before .before .keep-candidate .ensures .vectors) asked
 
 same-length-3 : tie.Need-same-length-3
 same-length-3 c = search needs
 
 returns-3 : tie.Need-returns-3
-unfolding of-stages
 returns-3 c =
     let a = c .before .before .before .before .before .before .before .before .before .before .before .before .before .before .before .before .before .before .args in
     let r = a .«record» in
     let row = c .before .before .before .before .before .before .before .before .before .before .before .before .before .row-and-recurrence .ensures .0 in
     let refused = candidate-refused r _ (c .before .finite-vector .ensures) (c .if2 .left) in
-    (refl, stages-end r (unpack (r .n) (a .area .now)) (a .derivative .now) (c .before .before .before .before .before .before .before .before .before .before .before .before .before .before .before .setting-of .ensures) row (c .before .before .before .before .before .before .before .before .before .before .before .if1 .left) (c .before .before .before .before .before .before .before .before .before .row2 .ensures .vectors) (c .before .before .before .before .before .keep-candidate .ensures .vectors) refused)
+    stages-end r (unpack (r .n) (a .area .now)) (a .derivative .now) (c .before .before .before .before .before .before .before .before .before .before .before .before .before .before .before .setting-of .ensures) row (c .before .before .before .before .before .before .before .before .before .before .before .if1 .left) (c .before .before .before .before .before .before .before .before .before .row2 .ensures .vectors) (c .before .before .before .before .before .keep-candidate .ensures .vectors) refused
 
 pub take-stage-spec : {M : Type 1} → statement M
 take-stage-spec =
