@@ -96,10 +96,10 @@ refuses : (k i : ℕ) (r : Record) (v : Vectors) → Goes k (calls.step-to (Refu
 unfolding Goes Follow
 refuses k i r v = tt
 
-staged : (k : ℕ) (r : Record) (n : Need) (radius : Float) (v : Vectors) → n ≡ calls.stage-need (family-of (r .family)) radius → 200 ≤ k → Goes k (calls.by-need n r v radius)
+staged : (k : ℕ) (r : Record) (n : Need) (radius : Float) (v : Vectors) → n ≡ calls.stage-need (calls.setting-of r) radius → 200 ≤ k → Goes k (calls.by-need n r v radius)
 unfolding calls.by-need
 staged k r (Met s) radius v e h =
-    let m : s ≤ 200 = need-most (family-of (r .family)) radius s e in
+    let m : s ≤ 200 = need-most (calls.setting-of r) radius s e in
     asks-stage k (calls.with-radius radius r) s 2 _ _ (omega arith)
 staged k r (Unmet i) radius v e h = refuses k i (calls.in-phase P.Empty r) v
 
@@ -116,24 +116,26 @@ module _ (k : ℕ) (r : Record) (v : Vectors) (d : List Float) where
       either k (ended (i .pass) (i .«previous_radius») radius || eqb (i .pass) 12)
       (calls.begin-stages r w big)
       (calls.ask-pass (calls.at-pass (r .arguments) (i .pass + 1) (i .perturbation) radius r) w)
-      (λ e. staged k r (calls.stage-need (family-of (r .family)) big) big w refl enough)
+      (λ e. staged k r (calls.stage-need (calls.setting-of r) big) big w refl enough)
       (λ e. asks-pass k r (r .arguments) (i .pass + 1) (i .perturbation) radius w less)
 
   after-stage : r .staging .stages - r .staging .stage + 2 ≤ suc k → Goes k (calls.take-stage r v d)
   unfolding calls.take-stage
   after-stage h =
-      let f = family-of (r .family) in
+      let m = calls.setting-of r in
       let s = r .staging .stages in
       let j = r .staging .stage in
-      let row = coefficients f s j (r .staging .recurrence) in
-      let w = with-row f (r .n) (r .arguments .step) row v d in
+      let c = r .staging .recurrence in
+      let row = coefficients m s j c in
+      let w = with-row m (r .n) (r .arguments .step) row v d in
+      let last = with-candidate m (r .n) (r .arguments .step) s c row w in
       let less : j < s → s - (j + 1) + 2 ≤ k = λ l. omega arith in
       let one : 1 ≤ k = omega arith in
       either k (ltb j s)
-      (calls.ask-stage (calls.at-stage s (j + 1) (rows.next f s (r .staging .recurrence) row) r) (exchanged w))
-      (calls.ask-candidate r (with-candidate w))
-      (λ e. asks-stage k r s (j + 1) (rows.next f s (r .staging .recurrence) row) (exchanged w) (less (ltb-true j s e)))
-      (λ e. asks-candidate k r (with-candidate w) one)
+      (calls.ask-stage (calls.at-stage s (j + 1) (rows.next m s c row) r) (exchanged w))
+      (calls.ask-candidate r last)
+      (λ e. asks-stage k r s (j + 1) (rows.next m s c row) (exchanged w) (less (ltb-true j s e)))
+      (λ e. asks-candidate k r last one)
 
   replied-goes : (p : Phase) → calls.pending p ≡ true → calls.in-range p r ≡ true → calls-left p r ≤ suc k → Goes k (calls.replied p r v d)
   unfolding Goes Follow calls-left calls.pending calls.replied calls.take-first calls.take-callback calls.take-candidate

@@ -2,6 +2,7 @@
 // The file stdout beside this was written by the Rust (bindings/oracle/src/bin/digests.rs).
 ghost use mathlib.Core.Path.{_≡_};
 ghost use Prim.Native.Nat.{_*_, _%_, _^_, _≤_, _<_};
+use family::Setting;
 use coefficients::Coefficients;
 use libc::STDOUT_FILENO;
 
@@ -46,12 +47,12 @@ fn digest(family: u64, s: u64) -> u64
 {
     let mut h = double_in(0xcbf2_9ce4_8422_2325, coefficients::omega_one(family, s));
     h = double_in(h, coefficients::first_mu_tilde(family, s));
-    let mut c = coefficients::first_recurrence(family, s);
+    let mut c = coefficients::first_recurrence(Setting { family }, s);
     let mut j: u64 = 2;
     while j <= s {
-        let row = coefficients::row_coefficients(family, s, j, c);
+        let row = coefficients::row_coefficients(Setting { family }, s, j, c);
         h = row_in(h, row);
-        c = coefficients::next_recurrence(family, s, c, row);
+        c = coefficients::next_recurrence(Setting { family }, s, c, row);
         j += 1;
     }
     h
@@ -109,12 +110,12 @@ fn print_row(family: u64, s: u64, j: u64, row: Coefficients) {
 fn print_rows(family: u64, s: u64)
     requires { ⌜ (2 ≤ s) × (s < 2 ^ 16) ⌝ }
 {
-    let mut c = coefficients::first_recurrence(family, s);
+    let mut c = coefficients::first_recurrence(Setting { family }, s);
     let mut j: u64 = 2;
     while j <= s {
-        let row = coefficients::row_coefficients(family, s, j, c);
+        let row = coefficients::row_coefficients(Setting { family }, s, j, c);
         print_row(family, s, j, row);
-        c = coefficients::next_recurrence(family, s, c, row);
+        c = coefficients::next_recurrence(Setting { family }, s, c, row);
         j += 1;
     }
 }

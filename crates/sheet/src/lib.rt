@@ -49,8 +49,7 @@ fn finite_constants(m: Inverter) -> bool
 fn sound(m: Inverter) -> bool
     ensures { λ r. ⌜ r ≡ spec.sound m ⌝ }
 {
-    (1 <= m.family)
-        & (m.family <= 5)
+    family::known(m.family)
         & (1 <= m.n)
         & (m.n <= MOST_TEMPERATURES)
         & finite_constants(m)

@@ -1,10 +1,11 @@
 // The loops of `workspace`, each behind the tests that its lengths want.
 ghost use mathlib.Core.Path.{_≡_};
 ghost use Rattle.ieee.specs.Sqrt.{sqrt};
-ghost use Rattle.family.specs.Family.{family-of};
+ghost use Rattle.family.specs.Family.{setting};
 ghost use Rattle.workspace.specs.Vectors.{vector-norm, all-finite};
 ghost use Rattle.workspace.specs.Kernel.{perturbed, perturbed-by, turned, with-row, exchanged};
 ghost use Rattle.timed.specs.Left.{weights, Holds, Takes, Steps};
+use family::Setting;
 use coefficients::Coefficients;
 
 // The row with the exchange after it.
@@ -20,7 +21,7 @@ pub extern "C" fn timed_row(
     step: f64,
     derivative: &[f64],
 )
-    ensures { λ _. ⌜ Steps (Takes n (now (area .entry)) (now (derivative .entry))) n (now (area .entry)) (now (area .exit)) (λ v. exchanged (with-row (family-of family) n step (weights mu nu «mu_tilde» «gamma_tilde») v (now (derivative .entry)))) ⌝ }
+    ensures { λ _. ⌜ Steps (Takes n (now (area .entry)) (now (derivative .entry))) n (now (area .entry)) (now (area .exit)) (λ v. exchanged (with-row (setting family) n step (weights mu nu «mu_tilde» «gamma_tilde») v (now (derivative .entry)))) ⌝ }
 {
     let c = Coefficients {
         mu: mu,
@@ -32,7 +33,7 @@ pub extern "C" fn timed_row(
     if n <= 512 {
         if 11 * n <= area.len() {
             if derivative.len() == n {
-                workspace::row_and_exchange(area, n, family, c, step, derivative);
+                workspace::row_and_exchange(area, n, Setting { family }, c, step, derivative);
             }
         }
     }
