@@ -84,7 +84,9 @@ enum {
 };
 
 /* The record: what the engine keeps beside the area, its whole numbers and its doubles. All zeros is one to begin with. A
- * call that is turned away with 1 to 8 leaves it as it was. */
+ * call that is turned away with 1 to 8 leaves it as it was. The doubles are the attempt's arguments, the power iteration's
+ * (perturbation, previous_radius, scaled_radius) and what the stages carry on, theta and, for RKC alone, the others; they
+ * stand in the order in which the engine reads them fastest. */
 typedef struct {
   uint64_t family;
   uint64_t n;
@@ -96,24 +98,24 @@ typedef struct {
 } stabilized_wholes;
 
 typedef struct {
-  double time; /* the attempt's arguments */
+  double time;
   double step;
-  double absolute_tolerance;
-  double relative_tolerance;
-  double perturbation; /* the power iteration */
-  double previous_radius;
-  double scaled_radius;
-  double theta_previous; /* what the stages carry on */
-  double theta_previous_two;
-  double b_previous; /* from here on RKC's alone */
-  double b_previous_two;
   double value_previous;
-  double value_previous_two;
+  double absolute_tolerance;
   double first_previous;
-  double first_previous_two;
+  double relative_tolerance;
   double second_previous;
+  double perturbation;
+  double value_previous_two;
+  double previous_radius;
+  double first_previous_two;
+  double scaled_radius;
   double second_previous_two;
+  double b_previous;
   double omega_one;
+  double theta_previous;
+  double b_previous_two;
+  double theta_previous_two;
 } stabilized_doubles;
 
 typedef struct {

@@ -29,29 +29,29 @@ pub struct Wholes {
     pub stage: u64,
 }
 
-/// What it keeps in doubles: the attempt's arguments, the power iteration's position, and what the stages carry on, from
-/// `b_previous` on for RKC alone.
+/// What it keeps in doubles: the attempt's arguments, the power iteration's position, and what the stages carry on, `theta`
+/// and for RKC alone the others. They stand in the order in which the engine reads them fastest.
 #[repr(C)]
 #[derive(Clone, Copy, Debug, Default, PartialEq)]
 pub struct Doubles {
     pub time: f64,
     pub step: f64,
-    pub absolute_tolerance: f64,
-    pub relative_tolerance: f64,
-    pub perturbation: f64,
-    pub previous_radius: f64,
-    pub scaled_radius: f64,
-    pub theta_previous: f64,
-    pub theta_previous_two: f64,
-    pub b_previous: f64,
-    pub b_previous_two: f64,
     pub value_previous: f64,
-    pub value_previous_two: f64,
+    pub absolute_tolerance: f64,
     pub first_previous: f64,
-    pub first_previous_two: f64,
+    pub relative_tolerance: f64,
     pub second_previous: f64,
+    pub perturbation: f64,
+    pub value_previous_two: f64,
+    pub previous_radius: f64,
+    pub first_previous_two: f64,
+    pub scaled_radius: f64,
     pub second_previous_two: f64,
+    pub b_previous: f64,
     pub omega_one: f64,
+    pub theta_previous: f64,
+    pub b_previous_two: f64,
+    pub theta_previous_two: f64,
 }
 
 /// All that the engine keeps beside the area. The default one is in the empty phase.

@@ -40,12 +40,10 @@ module _ (t : Float) (g : Staging) where
   doubles-on x =
       let c = g .recurrence in
       let p = c .polynomials in
-      let thetas = set (set x 7 (c .«theta_previous»)) 8 (c .«theta_previous_two») in
-      let bs = set (set thetas 9 (p .«b_previous»)) 10 (p .«b_previous_two») in
-      let values = set (set bs 11 (p .«value_previous»)) 12 (p .«value_previous_two») in
-      let firsts = set (set values 13 (p .«first_previous»)) 14 (p .«first_previous_two») in
-      let seconds = set (set firsts 15 (p .«second_previous»)) 16 (p .«second_previous_two») in
-      set seconds 17 (p .«omega_one»)
+      let after-one = set (set (set x 2 (p .«value_previous»)) 4 (p .«first_previous»)) 6 (p .«second_previous») in
+      let after-two = set (set (set after-one 8 (p .«value_previous_two»)) 10 (p .«first_previous_two»)) 12 (p .«second_previous_two») in
+      let after-three = set (set (set after-two 13 (p .«b_previous»)) 14 (p .«omega_one»)) 15 (c .«theta_previous») in
+      set (set after-three 16 (p .«b_previous_two»)) 17 (c .«theta_previous_two»)
 
   abbrev Placed : List ℕ → List Float → Type 0
   Placed w x = leaves asked (wholes-on w) (doubles-on x) ≡ in-stages (lent w x) (On t g)
@@ -70,6 +68,7 @@ ended t w x e = subst Ends (in-cells 0 w wholes-long e) (ends-in-cells (λ i. ge
   where
     Ends : List ℕ → Type 0
     Ends u = leaves (record { code = 1; number = 10; value = t }) (set u 2 5) x ≡ in-stages (lent u x) (Ended t)
+
     ends-in-cells : (f : ℕ → ℕ) → Ends (cells f wholes-long)
     ends-in-cells f = refl
 
@@ -80,5 +79,6 @@ emptied w x e = subst Empties (in-cells 0 w wholes-long e) (empties-in-cells (λ
   where
     Empties : List ℕ → Type 0
     Empties u = leaves (record { code = 4; number = 10; value = nought }) (set u 2 0) x ≡ in-stages (lent u x) NotFinite
+
     empties-in-cells : (f : ℕ → ℕ) → Empties (cells f wholes-long)
     empties-in-cells f = refl

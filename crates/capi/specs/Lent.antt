@@ -1,4 +1,5 @@
--- The record as it is lent: its whole numbers w and its doubles x, each in the order of the record's fields.
+-- The record as it is lent: its whole numbers w, in the order of the record's fields, and its doubles x. Of these no two that a row takes together stand side by
+-- side. The compiler would read them at once, and such a read waits until the reply before has stored them one by one, which RKC's next coefficients wait for.
 use Prim.Native.Nat.{ℕ}
 use mathlib.Core.List.{List}
 use lib.ListN.{getD}
@@ -24,20 +25,20 @@ doubles-long = 18
 
 abbrev pub lent : List ℕ → List Float → Record
 lent w x =
-    let a : Arguments = record { time = getD x 0 nan; step = getD x 1 nan; «absolute_tolerance» = getD x 2 nan; «relative_tolerance» = getD x 3 nan; adaptive = getD w 3 0 } in
-    let i : Iteration = record { pass = getD w 4 0; perturbation = getD x 4 nan; «previous_radius» = getD x 5 nan; «scaled_radius» = getD x 6 nan } in
+    let a : Arguments = record { time = getD x 0 nan; step = getD x 1 nan; «absolute_tolerance» = getD x 3 nan; «relative_tolerance» = getD x 5 nan; adaptive = getD w 3 0 } in
+    let i : Iteration = record { pass = getD w 4 0; perturbation = getD x 7 nan; «previous_radius» = getD x 9 nan; «scaled_radius» = getD x 11 nan } in
     let p : Polynomials = record {
-      «omega_one» = getD x 17 nan;
-      «b_previous» = getD x 9 nan;
-      «b_previous_two» = getD x 10 nan;
-      «value_previous» = getD x 11 nan;
-      «value_previous_two» = getD x 12 nan;
-      «first_previous» = getD x 13 nan;
-      «first_previous_two» = getD x 14 nan;
-      «second_previous» = getD x 15 nan;
-      «second_previous_two» = getD x 16 nan;
+      «omega_one» = getD x 14 nan;
+      «b_previous» = getD x 13 nan;
+      «b_previous_two» = getD x 16 nan;
+      «value_previous» = getD x 2 nan;
+      «value_previous_two» = getD x 8 nan;
+      «first_previous» = getD x 4 nan;
+      «first_previous_two» = getD x 10 nan;
+      «second_previous» = getD x 6 nan;
+      «second_previous_two» = getD x 12 nan;
     } in
-    let c : Recurrence = record { «theta_previous» = getD x 7 nan; «theta_previous_two» = getD x 8 nan; polynomials = p } in
+    let c : Recurrence = record { «theta_previous» = getD x 15 nan; «theta_previous_two» = getD x 17 nan; polynomials = p } in
     let g : Staging = record { stages = getD w 5 0; stage = getD w 6 0; recurrence = c } in
     record { family = getD w 0 0; n = getD w 1 0; phase = getD w 2 0; arguments = a; iteration = i; staging = g }
 

@@ -18,6 +18,7 @@ use driver::Staging;
 
 // How many whole numbers and how many doubles the record is lent as.
 const WHOLES: usize = 7;
+
 const DOUBLES: usize = 18;
 
 // What an attempt was given. `adaptive` is a no at 0, else a yes.
@@ -215,7 +216,7 @@ fn handed_back(
     }
 }
 
-// The record as it is lent: the whole numbers are those of specs/Lent, and so are the doubles.
+// The record as it is lent, in the order of specs/Lent.
 fn read(wholes: &[u64; WHOLES], doubles: &[f64; DOUBLES]) -> Record
     ensures { λ r. ⌜ r ≡ lent (now (wholes .entry)) (now (doubles .entry)) ⌝ }
 {
@@ -226,40 +227,40 @@ fn read(wholes: &[u64; WHOLES], doubles: &[f64; DOUBLES]) -> Record
         arguments: Arguments {
             time: doubles[0],
             step: doubles[1],
-            absolute_tolerance: doubles[2],
-            relative_tolerance: doubles[3],
+            absolute_tolerance: doubles[3],
+            relative_tolerance: doubles[5],
             adaptive: wholes[3],
         },
         iteration: Iteration {
             pass: wholes[4],
-            perturbation: doubles[4],
-            previous_radius: doubles[5],
-            scaled_radius: doubles[6],
+            perturbation: doubles[7],
+            previous_radius: doubles[9],
+            scaled_radius: doubles[11],
         },
         staging: Staging {
             stages: wholes[5],
             stage: wholes[6],
             recurrence: Recurrence {
-                theta_previous: doubles[7],
-                theta_previous_two: doubles[8],
+                theta_previous: doubles[15],
+                theta_previous_two: doubles[17],
                 polynomials: Polynomials {
-                    omega_one: doubles[17],
-                    b_previous: doubles[9],
-                    b_previous_two: doubles[10],
-                    value_previous: doubles[11],
-                    value_previous_two: doubles[12],
-                    first_previous: doubles[13],
-                    first_previous_two: doubles[14],
-                    second_previous: doubles[15],
-                    second_previous_two: doubles[16],
+                    omega_one: doubles[14],
+                    b_previous: doubles[13],
+                    b_previous_two: doubles[16],
+                    value_previous: doubles[2],
+                    value_previous_two: doubles[8],
+                    first_previous: doubles[4],
+                    first_previous_two: doubles[10],
+                    second_previous: doubles[6],
+                    second_previous_two: doubles[12],
                 },
             },
         },
     }
 }
 
-// What a reply's tests ask of the record: its place. The rest is not read, so that a stage's reply and any other read it each
-// for itself: where they share a read, the compiler reads two doubles at once that are stored one by one, and waits for them.
+// What a reply's tests ask of the record; the rest of it is not read. So a stage's reply and any other read it each for
+// itself, and what the one needs side by side the other does not have to take so.
 fn place(wholes: &[u64; WHOLES]) -> driver::Record
     ensures { λ r. ⌜ r ≡ place-of (now (wholes .entry)) ⌝ }
 {
@@ -301,29 +302,29 @@ fn leave(wholes: &mut [u64; WHOLES], doubles: &mut [f64; DOUBLES], outcome: Outc
     *doubles = [
         r.arguments.time,
         r.arguments.step,
-        r.arguments.absolute_tolerance,
-        r.arguments.relative_tolerance,
-        r.iteration.perturbation,
-        r.iteration.previous_radius,
-        r.iteration.scaled_radius,
-        c.theta_previous,
-        c.theta_previous_two,
-        p.b_previous,
-        p.b_previous_two,
         p.value_previous,
-        p.value_previous_two,
+        r.arguments.absolute_tolerance,
         p.first_previous,
-        p.first_previous_two,
+        r.arguments.relative_tolerance,
         p.second_previous,
+        r.iteration.perturbation,
+        p.value_previous_two,
+        r.iteration.previous_radius,
+        p.first_previous_two,
+        r.iteration.scaled_radius,
         p.second_previous_two,
+        p.b_previous,
         p.omega_one,
+        c.theta_previous,
+        p.b_previous_two,
+        c.theta_previous_two,
     ];
     let answer = outcome.answer;
     answer
 }
 
-// The next stage's evaluation at this time and position. All else of the record stands and is not written: that it is
-// written back too costs an evaluation 4 to 8 ns.
+// The next stage's evaluation at this time and position. All else of the record stands, and is not written: to write it
+// back costs 4 to 8 ns.
 fn ask_stage(wholes: &mut [u64], doubles: &mut [f64], time: f64, staging: Staging) -> Answer
     requires { ⌜ length (now wholes) ≡ wholes-long ⌝ }
     requires { ⌜ length (now doubles) ≡ doubles-long ⌝ }
@@ -334,17 +335,17 @@ fn ask_stage(wholes: &mut [u64], doubles: &mut [f64], time: f64, staging: Stagin
     wholes[2] = 4;
     wholes[5] = staging.stages;
     wholes[6] = staging.stage;
-    doubles[7] = c.theta_previous;
-    doubles[8] = c.theta_previous_two;
-    doubles[9] = p.b_previous;
-    doubles[10] = p.b_previous_two;
-    doubles[11] = p.value_previous;
-    doubles[12] = p.value_previous_two;
-    doubles[13] = p.first_previous;
-    doubles[14] = p.first_previous_two;
-    doubles[15] = p.second_previous;
-    doubles[16] = p.second_previous_two;
-    doubles[17] = p.omega_one;
+    doubles[2] = p.value_previous;
+    doubles[4] = p.first_previous;
+    doubles[6] = p.second_previous;
+    doubles[8] = p.value_previous_two;
+    doubles[10] = p.first_previous_two;
+    doubles[12] = p.second_previous_two;
+    doubles[13] = p.b_previous;
+    doubles[14] = p.omega_one;
+    doubles[15] = c.theta_previous;
+    doubles[16] = p.b_previous_two;
+    doubles[17] = c.theta_previous_two;
     Answer {
         code: 1,
         number: 4,

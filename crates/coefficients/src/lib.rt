@@ -21,7 +21,6 @@ pub struct Coefficients {
 // What RKC carries from stage to stage: omega_one as the attempt read it, b, and the Chebyshev polynomial at omega_zero
 // with its first and second derivative, each of the two stages before. The other families leave it as it is and never
 // read it.
-#[repr(C)]
 pub struct Polynomials {
     pub omega_one: f64,
     pub b_previous: f64,
@@ -35,7 +34,6 @@ pub struct Polynomials {
 }
 
 // What the loop over the stages carries on.
-#[repr(C)]
 pub struct Recurrence {
     pub theta_previous: f64,
     pub theta_previous_two: f64,

@@ -33,7 +33,6 @@ pub enum Phase {
 }
 
 // The position among the passes of the power iteration. The scaled radius is known once they end.
-#[repr(C)]
 pub struct Iteration {
     pub pass: u64,
     pub perturbation: f64,
@@ -42,7 +41,6 @@ pub struct Iteration {
 }
 
 // The position among the stages, and what they carry on.
-#[repr(C)]
 pub struct Staging {
     pub stages: u64,
     pub stage: u64,
