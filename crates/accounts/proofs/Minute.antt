@@ -11,7 +11,8 @@ use lib.ListN.{length}
 use lib.Ieee.{Float}
 use lib.Ieee.Scale.{finite}
 use Rattle.ieee.specs.Double.{_⊕_}
-use Rattle.family.specs.Family.{Family, family-of, known}
+use Rattle.family.specs.declared.Setting.{Setting}
+use Rattle.family.specs.Family.{known}
 use Rattle.workspace.specs.declared.Arguments.{Arguments}
 use Rattle.workspace.specs.Vectors.{Vectors, number, unpack, pack, all-finite, state, candidate}
 use Rattle.workspace.specs.Kernel.{turned, radius-of, ended, scaled, with-row, exchanged, with-candidate}
@@ -54,10 +55,10 @@ module _ (r : Record) where
   abbrev Answers : Step → Type 0
   Answers x = Answer-of (x .answer) (x .kept)
 
-  needed : (f : Family) (n : Need) (v : Vectors) (radius : Float) → Needed f n → Answers (calls.by-need n r v radius)
+  needed : (m : Setting) (n : Need) (v : Vectors) (radius : Float) → Needed m n → Answers (calls.by-need n r v radius)
   unfolding Answer-of calls.by-need calls.ask-stage calls.at-stage calls.in-phase calls.may-accept
-  needed f (Met s) v radius h = refl
-  needed f (Unmet i) v radius h = (ending-refuses (later (later h)), refl)
+  needed m (Met s) v radius h = refl
+  needed m (Unmet i) v radius h = (ending-refuses (later (later h)), refl)
 
   at-candidate : (v : Vectors) → Answers (calls.ask-candidate r v)
   unfolding Answer-of calls.ask-candidate calls.in-phase calls.may-accept
@@ -70,8 +71,8 @@ module _ (r : Record) where
   after-pass : (t : Bool) (k : Record) (v : Vectors) (radius : Float) → calls.may-accept (k .phase) ≡ false
       → Answers (cond t (calls.begin-stages r v radius) (calls.ask-pass k v))
   unfolding Answer-of calls.begin-stages calls.ask-pass
-  after-pass true k v radius e = let f = family-of (r .family) in
-      needed f (calls.stage-need f radius) v radius (need-holds f radius)
+  after-pass true k v radius e = let m = calls.setting-of r in
+      needed m (calls.stage-need m radius) v radius (need-holds m radius)
   after-pass false k v radius e = e
 
   after-stage : (t : Bool) (k : Record) (v w : Vectors) → calls.may-accept (k .phase) ≡ false → Answers (cond t (calls.ask-stage k w) (calls.ask-candidate r v))
@@ -91,12 +92,14 @@ module _ (r : Record) where
       let k = calls.at-pass (r .arguments) (i .pass + 1) (i .perturbation) radius r in
       after-pass (ended (i .pass) (i .«previous_radius») radius || eqb (i .pass) 12) k w (scaled (r .arguments .step) radius) refl
   replied-answers P.Stage v d =
-      let f = family-of (r .family) in
+      let m = calls.setting-of r in
       let s = r .staging .stages in
       let j = r .staging .stage in
-      let row = coefficients f s j (r .staging .recurrence) in
-      let w = with-row f (r .n) (r .arguments .step) row v d in
-      after-stage (ltb j s) (calls.at-stage s (j + 1) (rows.next f s (r .staging .recurrence) row) r) (with-candidate w) (exchanged w) refl
+      let c = r .staging .recurrence in
+      let row = coefficients m s j c in
+      let w = with-row m (r .n) (r .arguments .step) row v d in
+      let last = with-candidate m (r .n) (r .arguments .step) s c row w in
+      after-stage (ltb j s) (calls.at-stage s (j + 1) (rows.next m s c row) r) last (exchanged w) refl
   replied-answers P.Candidate v d = (refl, refl, refl)
   replied-answers P.Finished v d = refl
   replied-answers P.Callback v d = refl

@@ -238,7 +238,11 @@ pub fn stage_taken(record: Record, counters: Counters, area: &[f64], derivative:
         return false;
     }
     let lengths = both_long(record.family, n, area, derivative);
-    let place = good_stage(setting_of(record), record.staging.stages, record.staging.stage);
+    let place = good_stage(
+        setting_of(record),
+        record.staging.stages,
+        record.staging.stage,
+    );
     let second = lengths & place;
     if !second {
         return false;

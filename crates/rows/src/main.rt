@@ -2,8 +2,8 @@
 // The file stdout beside this was written by the Rust (bindings/oracle/src/bin/digests.rs).
 ghost use mathlib.Core.Path.{_≡_};
 ghost use Prim.Native.Nat.{_*_, _%_, _^_, _≤_, _<_};
-use family::Setting;
 use coefficients::Coefficients;
+use family::Setting;
 use libc::STDOUT_FILENO;
 
 // FNV-1a's product, to 64 bits: by 2 ^ 40 + 0x1b3.

@@ -49,10 +49,7 @@ fn finite_constants(m: Inverter) -> bool
 fn sound(m: Inverter) -> bool
     ensures { λ r. ⌜ r ≡ spec.sound m ⌝ }
 {
-    family::known(m.family)
-        & (1 <= m.n)
-        & (m.n <= MOST_TEMPERATURES)
-        & finite_constants(m)
+    family::known(m.family) & (1 <= m.n) & (m.n <= MOST_TEMPERATURES) & finite_constants(m)
 }
 
 fn if_sound(inverter: Inverter, next: usize) -> Head

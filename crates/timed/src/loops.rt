@@ -5,8 +5,8 @@ ghost use Rattle.family.specs.Family.{setting};
 ghost use Rattle.workspace.specs.Vectors.{vector-norm, all-finite};
 ghost use Rattle.workspace.specs.Kernel.{perturbed, perturbed-by, turned, with-row, exchanged};
 ghost use Rattle.timed.specs.Left.{weights, Holds, Takes, Steps};
-use family::Setting;
 use coefficients::Coefficients;
+use family::Setting;
 
 // The row with the exchange after it.
 #[no_mangle]

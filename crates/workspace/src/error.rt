@@ -107,7 +107,13 @@ fn divisor(form: ErrorForm, stages: u64) -> f64
 }
 
 // The scaled error norm; 0 without `adaptive`.
-pub fn error_norm(area: &[f64], n: usize, setting: Setting, stages: u64, arguments: Arguments) -> f64
+pub fn error_norm(
+    area: &[f64],
+    n: usize,
+    setting: Setting,
+    stages: u64,
+    arguments: Arguments,
+) -> f64
     requires { ⌜ 11 * n ≤ length (now area) ⌝ }
     ensures { λ r. ⌜ r ≡ error-norm setting n stages arguments (unpack n (now (area .entry))) ⌝ }
 {

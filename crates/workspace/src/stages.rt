@@ -243,7 +243,14 @@ fn fours_within(n: usize) -> usize
 }
 
 // The derivative taken, the row and the exchange in one pass over the columns.
-fn move_all(ten: &mut [f64], n: usize, form: RowForm, c: Coefficients, step: f64, derivative: &[f64])
+fn move_all(
+    ten: &mut [f64],
+    n: usize,
+    form: RowForm,
+    c: Coefficients,
+    step: f64,
+    derivative: &[f64],
+)
     requires { ⌜ length (now ten) ≡ 10 * n ⌝ }
     requires { ⌜ length (now derivative) ≡ n ⌝ }
     ensures { λ _. ⌜ unpack n (now (ten .exit)) ≡ exchanged (with-row-in form n step c (unpack n (now (ten .entry))) (now (derivative .entry))) ⌝ }
@@ -285,7 +292,14 @@ fn row_form(setting: Setting) -> RowForm
 }
 
 // A stage's derivative taken: the row. So it stands after the last stage.
-pub fn row(area: &mut [f64], n: usize, setting: Setting, c: Coefficients, step: f64, derivative: &[f64])
+pub fn row(
+    area: &mut [f64],
+    n: usize,
+    setting: Setting,
+    c: Coefficients,
+    step: f64,
+    derivative: &[f64],
+)
     requires { ⌜ 11 * n ≤ length (now area) ⌝ }
     requires { ⌜ length (now derivative) ≡ n ⌝ }
     ensures { λ _. ⌜ Becomes n (now (area .entry)) (now (area .exit)) (λ w. with-row setting n step c w (now (derivative .entry))) ⌝ }

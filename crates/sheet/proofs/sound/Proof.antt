@@ -12,7 +12,7 @@ finite-constants-requires c κs = search needs
 
 returns : tie.Need-returns
 unfolding sound
-returns c = rw (c .finite-constants .ensures, c .before .known .ensures)
+returns c = rw (c .finite-constants .ensures, c .before .before .before .known .ensures)
 
 pub sound-spec : {M : Type 1} → statement M
 sound-spec = tie.close (tie.spec known-requires finite-constants-requires returns)

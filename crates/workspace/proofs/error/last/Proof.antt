@@ -40,7 +40,7 @@ returns c =
     let x = c .before .before .before .before .before .before .before .before .before .before .before .before .args in
     let e = c .before .before .before .before .error-form .ensures in
     let g : Vectors → Vectors = λ w. w with derivative ≔ each (x .n) w (error (x .setting) (x .arguments .step)) in
-    becomes-as (becomes-then {g = g} (c .before .before .before .before .before .before .before .before .put-vector .ensures) 
+    becomes-as (becomes-then {g = g} (c .before .before .before .before .before .before .before .before .put-vector .ensures)
     (of-form (x .arguments .step) e (c .before .before .put-error .ensures)))
     (taken (x .setting) (x .n) (x .arguments) (unpack (x .n) (x .area .now)) (x .derivative .now) (c .before .before .before .before .before .if1 .taken))
 
