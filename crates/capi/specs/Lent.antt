@@ -1,5 +1,6 @@
--- The record as it is lent: its whole numbers w, in the order of the record's fields, and its doubles x. Of these no two that a row takes together stand side by
--- side. The compiler would read them at once, and such a read waits until the reply before has stored them one by one, which RKC's next coefficients wait for.
+-- The record as it is lent: its whole numbers w, in the order of the record's fields, and its doubles x. Of these a value and its predecessor (`b_previous` and
+-- `b_previous_two`, ..) do not stand side by side. The compiler would read such two at once, and that read waits until the reply before has stored them one by
+-- one, which RKC's next coefficients wait for.
 use Prim.Native.Nat.{ℕ}
 use mathlib.Core.List.{List}
 use lib.ListN.{getD}
@@ -42,7 +43,7 @@ lent w x =
     let g : Staging = record { stages = getD w 5 0; stage = getD w 6 0; recurrence = c } in
     record { family = getD w 0 0; n = getD w 1 0; phase = getD w 2 0; arguments = a; iteration = i; staging = g }
 
--- of the record that it means, what the tests of a reply ask for; all else is 0
+-- of the record that it means, what `stage-taken` asks for; all else is 0
 abbrev pub place-of : List ℕ → Kept
 place-of w =
     let g : Staging = record { stages = getD w 5 0; stage = getD w 6 0; recurrence = no-recurrence } in

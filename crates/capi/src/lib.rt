@@ -259,8 +259,8 @@ fn read(wholes: &[u64; WHOLES], doubles: &[f64; DOUBLES]) -> Record
     }
 }
 
-// What a reply's tests ask of the record; the rest of it is not read. So a stage's reply and any other read it each for
-// itself, and what the one needs side by side the other does not have to take so.
+// What `stage_taken` asks of the record. The rest is read after that test, by the stage's reply and by any other each for
+// itself, so that neither waits for what only the other needs.
 fn place(wholes: &[u64; WHOLES]) -> driver::Record
     ensures { λ r. ⌜ r ≡ place-of (now (wholes .entry)) ⌝ }
 {
@@ -323,8 +323,7 @@ fn leave(wholes: &mut [u64; WHOLES], doubles: &mut [f64; DOUBLES], outcome: Outc
     answer
 }
 
-// The next stage's evaluation at this time and position. All else of the record stands, and is not written: to write it
-// back costs 4 to 8 ns.
+// The next stage's evaluation at this time and position. All else of the record stands, and is not written back.
 fn ask_stage(wholes: &mut [u64], doubles: &mut [f64], time: f64, staging: Staging) -> Answer
     requires { ⌜ length (now wholes) ≡ wholes-long ⌝ }
     requires { ⌜ length (now doubles) ≡ doubles-long ⌝ }

@@ -39,7 +39,7 @@ pub record Called : Type 0 where
 
 -- ---- the record in another phase, and further on
 
--- with another phase and position: family and n stand
+-- with another phase, arguments and position: family and n stand
 abbrev pub moved-to : Phase → Arguments → Iteration → Staging → Record → Record
 moved-to p a i g r = record { family = r .family; n = r .n; phase = p; arguments = a; iteration = i; staging = g }
 

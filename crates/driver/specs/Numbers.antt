@@ -1,5 +1,5 @@
 -- The numbers that the six calls are turned away with, sorted by what a call then leaves. Document 01, "When a call is turned away". A new number comes in here
--- and in the list of its call (`numbers-of` in session/specs/Refusals): statements and proofs go by the lists and never by a range.
+-- and in the list of its call (`numbers-of` in session/specs/Refusals): the statements of driver, session and accounts go by the lists and not by a range.
 use Prim.Native.Nat.{ℕ}
 use mathlib.Core.Bool.{Bool, false, _||_}
 use mathlib.Core.List.{List, [], _∷_, _++_}
@@ -17,7 +17,7 @@ standing-numbers = 1 ∷ 2 ∷ 3 ∷ 4 ∷ 5 ∷ 6 ∷ 7 ∷ 8 ∷ []
 abbrev pub need-numbers : List ℕ
 need-numbers = []
 
--- of a reply whose derivative is finite: the candidate is not, or a need
+-- of a reply whose derivative is finite: 10, its candidate is not finite; or a need is refused
 abbrev pub after-nine : List ℕ
 after-nine = 10 ∷ need-numbers
 

@@ -53,7 +53,7 @@ pub record Steps (promised : Step) (x : Next) (left : Vectors) : Type 0 where
   pub kept : x .«record» ≡ promised .kept
   pub vectors : left ≡ promised .vectors
 
--- ---- a reply to a stage's evaluation: does it pass every test and bring the derivative of a stage?
+-- ---- a reply to a stage's evaluation: does it pass tests 1 to 9 and bring the derivative of a stage?
 
 unfoldable pub in-stages : Phase → Bool
 in-stages P.Empty = false

@@ -222,7 +222,7 @@ fn in_stages(phase: Phase) -> bool
     }
 }
 
-// Whether a reply passes every test and brings the derivative of a stage. Two rounds of tests without branches between
+// Whether a reply passes tests 1 to 9 and brings the derivative of a stage. Two rounds of tests without branches between
 // them: after one branch a test the compiler takes what follows to be rare, and calls it instead of compiling it in place.
 pub fn stage_taken(record: Record, counters: Counters, area: &[f64], derivative: &[f64]) -> bool
     ensures { λ r. ⌜ r ≡ stage-taken «record» counters (now (area .entry)) (now (derivative .entry)) ⌝ }

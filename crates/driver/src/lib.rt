@@ -1,5 +1,6 @@
 // driver.rs: the six calls. A record goes in by value and comes back by value; the area and the inputs
-// are slices; no call requires anything of its caller.
+// are slices; none of the six requires anything of its caller. `reply_in_stages` and `reply_elsewhere` are the two halves of
+// `reply`, for a caller that has asked `stage_taken`.
 ghost use mathlib.Core.Path.{_≡_};
 ghost use mathlib.Core.Bool.{true, false};
 ghost use Prim.Native.Nat.{_<_, _-_, _^_};
@@ -264,7 +265,7 @@ fn spoiled(record: Record, counters: Counters) -> Replied
     evaluated_with(Answer::Refused(9), empty, counters)
 }
 
-// A reply to a stage's evaluation that passes every test, for a caller that keeps the record where it is: what is handed
+// A reply to a stage's evaluation that passes tests 1 to 9, for a caller that keeps the record where it is: what is handed
 // back is what changes.
 pub fn reply_in_stages(
     record: Record,

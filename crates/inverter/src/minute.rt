@@ -156,7 +156,7 @@ fn settled(answer: Answer) -> bool
     }
 }
 
-// How many calls follow the first, at most: the state's evaluation, the attempt, 12 passes and 200 replies of the stages.
+// How many calls follow the first, at most: the state's evaluation, the attempt, 12 passes, 199 stages and the candidate.
 const MOST_CALLS: u64 = 2 + 12 + 200;
 
 // From the minute's start to its last answer.

@@ -1,5 +1,5 @@
 -- The stages and the candidate: from stage j on the calls follow the loop of the rows, and after stage s the candidate's evaluation and the end.
-use mathlib.Core.Path.{_≡_, refl, ap, _∙_}
+use mathlib.Core.Path.{_≡_, refl, sym, ap, _∙_}
 use mathlib.Core.Bool.{Bool, true, false, cond}
 use mathlib.Core.List.{List}
 use Prim.Native.Nat.{ℕ, zero, suc, _+_, _≤_}
@@ -15,9 +15,10 @@ use Rattle.coefficients.specs.declared.Recurrence.{Recurrence}
 use Rattle.coefficients.specs.Rows.{coefficients, next}
 use Rattle.workspace.specs.declared.Arguments.{Arguments}
 use Rattle.workspace.specs.Vectors.{Vector, Vectors, _with_≔_, number, each, all-finite, first-derivative, last-derivative}
-use Rattle.workspace.specs.Vectors.{derivative, previous-one, state, candidate, older-state}
+use Rattle.workspace.specs.Vectors.{derivative, previous-one, next-stage, state, candidate, older-state}
 use Rattle.workspace.specs.Kernel.{with-row, exchanged, with-candidate, with-last, error}
 use Rattle.workspace.proofs.Areas.{long-last}
+use Rattle.workspace.proofs.Candidate.{candidate-is}
 use Rattle.driver.specs.declared.Phase.the-variants as P
 use Rattle.driver.specs.declared.Iteration.{Iteration}
 use Rattle.driver.specs.declared.Staging.{Staging}
@@ -48,10 +49,10 @@ module _ (h : Held) (a : Arguments) (hk : known (h .kept .family) ≡ true) (hs 
 
     -- ---- after stage s
 
-    candidate-follows : (j : ℕ) (rc : Recurrence) (v w : Vectors) (c : Counters) (e : ℕ) → Intact h w → Counted h e c → e + 2 ≡ k + s
+    candidate-follows : (j : ℕ) (rc : Recurrence) (v w : Vectors) (c : Counters) (e : ℕ) → w candidate ≡ w next-stage → Intact h w → Counted h e c → e + 2 ≡ k + s
         → Follows h a (suc e) (pending-at h a hk hs P.Stage I (staging-at s j rc) v c) (close F (h .kept .n) a s k r w) (settled c (ask-candidate (at h a P.Stage I (staging-at s j rc)) w))
     unfolding Follows close finished-attempt evaluate _>>=_ ask-candidate settled going-on counted in-phase pending in-range awaiting finishes replied take-candidate with-last closes evaluated
-    candidate-follows j rc v w c e hw hc e≡ = go (all-finite (w candidate)) refl
+    candidate-follows j rc v w c e copied hw hc e≡ = go (all-finite (w candidate)) refl
       where
         last-stands : (d : List Float) (b : Vector) → eqb 1 (number b) ≡ false → eqb 2 (number b) ≡ false → with-last F (h .kept .n) a w d b ≡ w b
         last-stands d b p q = pick (a .adaptive)
@@ -86,6 +87,7 @@ module _ (h : Held) (a : Arguments) (hk : known (h .kept .family) ≡ true) (hs 
               first-stands = last-stands d first-derivative refl refl ∙ hw .first-is;
               older-stands = last-stands d older-state refl refl ∙ hw .older-is;
               candidate-finite = ap all-finite (last-stands d candidate refl refl) ∙ finite;
+              candidate-is = last-stands d candidate refl refl ∙ copied ∙ sym (last-stands d next-stage refl refl);
               last-finite = ap all-finite (last-taken d) ∙ fin;
               phase-is = refl;
               family-is = refl;
@@ -148,7 +150,7 @@ module _ (h : Held) (a : Arguments) (hk : known (h .kept .family) ≡ true) (hs 
         hv hc (both hs′ (both (le-leb 2 j 2≤j) (le-leb j s (omega arith)))) refl
         refl (λ c. absurd (differ c))
         (λ d hd fin. rw (le-ltb j s (omega arith))
-        (candidate-follows j rc v (last j rc v d) c e (intact-candidate h F (a .step) s rc (coefficients F s j rc) (taken j rc v d) (whole j rc v d hv hd)) hc (omega arith)))
+        (candidate-follows j rc v (last j rc v d) c e (candidate-is F (h .kept .n) (a .step) s rc (coefficients F s j rc) (taken j rc v d)) (intact-candidate h F (a .step) s rc (coefficients F s j rc) (taken j rc v d) (whole j rc v d hv hd)) hc (omega arith)))
     stages-follow (suc m) j rc v c e x j≡ 2≤j e≡ hv hc =
         asked h a hk hs P.Stage I (staging-at s j rc) v c e _ (a .time ⊕ a .step ⊗ rc .«theta_previous») previous-one x
         (row-then (on-from m j rc) j rc v)

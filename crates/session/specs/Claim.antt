@@ -8,7 +8,7 @@ use lib.Ieee.{Float, lt}
 use Rattle.ieee.specs.Double.{nought}
 use Rattle.family.specs.Family.{known, family-of, stage-count}
 use Rattle.workspace.specs.declared.Arguments.{Arguments}
-use Rattle.workspace.specs.Vectors.{Vector, Vectors, width, named, unpack, pack, all-finite, state, candidate, older-state, first-derivative, last-derivative}
+use Rattle.workspace.specs.Vectors.{Vector, Vectors, width, named, unpack, pack, all-finite, next-stage, state, candidate, older-state, first-derivative, last-derivative}
 use Rattle.driver.specs.declared.Phase.the-variants as P
 use Rattle.driver.specs.declared.Need.the-variants.{Met}
 use Rattle.driver.specs.declared.Answer.{Answer}
@@ -85,6 +85,7 @@ pub record Finishes (h : Held) (a : Arguments) (o : Finished-attempt) (replies :
   pub first-stands : o .vectors first-derivative ≡ unpack (h .kept .n) (h .area) first-derivative
   pub older-stands : o .vectors older-state ≡ unpack (h .kept .n) (h .area) older-state
   pub candidate-finite : all-finite (o .vectors candidate) ≡ true
+  pub candidate-is : o .vectors candidate ≡ o .vectors next-stage
   pub last-finite : all-finite (o .vectors last-derivative) ≡ true
   pub phase-is : x .held .kept .phase ≡ P.Finished
   pub family-is : x .held .kept .family ≡ h .kept .family

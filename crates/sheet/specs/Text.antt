@@ -26,7 +26,7 @@ minutes-a-day = 1440
 abbrev pub most-temperatures : ℕ
 most-temperatures = 512
 
--- the decimal digits that a field of line 1 has at most
+-- the decimal digits that a whole number of line 1 has at most
 abbrev pub number-places : ℕ
 number-places = 3
 

@@ -1,4 +1,5 @@
 pub mod Areas
+pub mod Candidate
 pub mod Lists
 pub mod Parts
 pub mod Front
