@@ -25,7 +25,7 @@ use Rattle.driver.specs.declared.Replied.{Replied}
 use Rattle.driver.specs.declared.Answer.{Answer}
 use Rattle.driver.specs.declared.Answer.the-variants.{Evaluate, Finished, Ready, Refused, Empty}
 use Rattle.driver.specs.Answers.{case-number, Values, case-values, Says}
-use Rattle.driver.specs.Calls.{Held, Called, Step, step-to, in-phase, at-pass, at-stage, stage-need, ask-pass, ask-stage, by-need, begin-stages, take-first, take-callback, take-pass, ask-candidate, take-stage, replied, finishes, room, has-room, one-more, counted, going-on, spoiled, settled, setting-of}
+use Rattle.driver.specs.Calls.{Held, Called, Step, step-to, in-phase, at-pass, at-stage, stage-need, ask-pass, ask-stage, by-need, begin-stages, take-first, take-callback, take-pass, ask-candidate, take-stage, figures-of, replied, finishes, room, has-room, one-more, counted, going-on, spoiled, settled, setting-of}
 use Rattle.driver.specs.Promises.{Meets, Steps}
 use Rattle.driver.proofs.Ladder.{says}
 use Rattle.driver.proofs.Sizes.{both}
@@ -35,7 +35,7 @@ use Rattle.driver.proofs.Sizes.{both}
 answer-of : ℕ → Values → Answer
 answer-of zero x = Empty
 answer-of (suc zero) x = Evaluate (getD (x .doubles) 0 nan) (getD (x .numbers) 0 0)
-answer-of (suc (suc zero)) x = Finished (getD (x .doubles) 0 nan)
+answer-of (suc (suc zero)) x = Finished (figures-of (getD (x .doubles) 0 nan))
 answer-of (suc (suc (suc zero))) x = Ready
 answer-of (suc (suc (suc (suc zero)))) x = Refused (getD (x .numbers) 0 0)
 answer-of (suc (suc (suc (suc (suc k))))) x = Empty
@@ -43,7 +43,7 @@ answer-of (suc (suc (suc (suc (suc k))))) x = Empty
 same-answer : (a : Answer) → answer-of (case-number a) (case-values a) ≡ a
 unfolding answer-of case-number case-values
 same-answer (Evaluate t b) = refl
-same-answer (Finished e) = refl
+same-answer (Finished figures) = refl
 same-answer Ready = refl
 same-answer (Refused i) = refl
 same-answer Empty = refl

@@ -8,7 +8,7 @@ use Rattle.driver.specs.declared.Answer.the-variants.{Evaluate, Finished
 
 unfoldable pub case-number : Answer → ℕ
 case-number (Evaluate time vector) = 1
-case-number (Finished norm) = 2
+case-number (Finished figures) = 2
 case-number Ready = 3
 case-number (Refused number) = 4
 case-number Empty = 5
@@ -23,7 +23,7 @@ values doubles numbers = record { doubles = doubles; numbers = numbers }
 
 unfoldable pub case-values : Answer → Values
 case-values (Evaluate time vector) = values (time ∷ []) (vector ∷ [])
-case-values (Finished norm) = values (norm ∷ []) []
+case-values (Finished figures) = values (figures .norm ∷ []) []
 case-values Ready = values [] []
 case-values (Refused number) = values [] (number ∷ [])
 case-values Empty = values [] []

@@ -22,6 +22,7 @@ use Rattle.driver.specs.declared.Record.{Record}
 use Rattle.driver.specs.declared.Counters.{Counters}
 use Rattle.driver.specs.declared.Need.{Need}
 use Rattle.driver.specs.declared.Need.the-variants.{Met, Unmet}
+use Rattle.driver.specs.declared.Figures.{Figures}
 use Rattle.driver.specs.declared.Answer.{Answer}
 use Rattle.driver.specs.declared.Answer.the-variants.{Evaluate, Finished, Ready, Refused, Empty}
 use Rattle.driver.specs.Numbers.{one-of, standing-numbers}
@@ -140,10 +141,14 @@ take-stage r v d = let m = setting-of r in
     (ask-stage (at-stage s (j + 1) (next m s c row) r) (exchanged w))
     (ask-candidate r (with-candidate m (r .n) (r .arguments .step) s c row w))
 
+-- what a finished attempt tells
+abbrev pub figures-of : Float → Figures
+figures-of norm = record { norm = norm }
+
 unfoldable pub take-candidate : Record → Vectors → List Float → Step
 take-candidate r v d = let m = setting-of r in
     let w = with-last m (r .n) (r .arguments) v d in
-    step-to (Finished (error-norm m (r .n) (r .staging .stages) (r .arguments) w)) (in-phase P.Finished r) w
+    step-to (Finished (figures-of (error-norm m (r .n) (r .staging .stages) (r .arguments) w))) (in-phase P.Finished r) w
 
 -- (Empty, Ready and Finished are never reached here: test 4 answers first)
 unfoldable pub replied : Phase → Record → Vectors → List Float → Step
@@ -370,7 +375,7 @@ one-more c = record { evaluations = c .evaluations + 1; «finished_attempts» = 
 -- a reply counts as an evaluation, and the one that finishes an attempt as that too
 unfoldable pub counted : Answer → Counters → Counters
 counted (Evaluate t a) c = one-more c
-counted (Finished e) c = record { evaluations = c .evaluations + 1; «finished_attempts» = c .«finished_attempts» + 1 }
+counted (Finished figures) c = record { evaluations = c .evaluations + 1; «finished_attempts» = c .«finished_attempts» + 1 }
 counted Ready c = one-more c
 counted (Refused i) c = one-more c
 counted Empty c = one-more c
@@ -431,7 +436,7 @@ made h Abandon = abandon h
 -- the phase is then empty.)
 unfoldable pub taken : Answer → Bool
 taken (Evaluate t b) = true
-taken (Finished e) = true
+taken (Finished figures) = true
 taken Ready = true
 taken (Refused i) = not (one-of standing-numbers i)
 taken Empty = true

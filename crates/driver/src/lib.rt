@@ -62,11 +62,16 @@ pub struct Counters {
     pub finished_attempts: u64,
 }
 
-// Evaluate the vector of this number at this time; finished with this error norm; ready; refused with
+// What a finished attempt tells: its error norm.
+pub struct Figures {
+    pub norm: f64,
+}
+
+// Evaluate the vector of this number at this time; finished with these figures; ready; refused with
 // this number; empty.
 pub enum Answer {
     Evaluate { time: f64, vector: usize },
-    Finished { norm: f64 },
+    Finished(Figures),
     Ready,
     Refused(u64),
     Empty,
@@ -219,7 +224,7 @@ fn counted(answer: Answer, counters: Counters) -> Counters
 {
     match answer {
         Answer::Evaluate { time: _, vector: _ } => evaluated(counters),
-        Answer::Finished { norm: _ } => {
+        Answer::Finished(_) => {
             let more = evaluated(counters);
             Counters {
                 evaluations: more.evaluations,

@@ -10,6 +10,7 @@ ghost use Rattle.driver.specs.declared.Need as need;
 ghost use Rattle.driver.specs.Calls as calls;
 ghost use Rattle.driver.specs.Promises.{Steps, in-stages, outcome-of};
 use crate::Answer;
+use crate::Figures;
 use crate::Need;
 use crate::Next;
 use crate::Phase;
@@ -197,7 +198,7 @@ pub fn take_candidate(record: Record, area: &mut [f64], derivative: &[f64]) -> N
     let norm = workspace::error_norm(area, n, setting, record.staging.stages, arguments);
     let finished = position::in_phase(record, Phase::Finished);
     Next {
-        answer: Answer::Finished { norm },
+        answer: Answer::Finished(Figures { norm }),
         record: finished,
     }
 }
