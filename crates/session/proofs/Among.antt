@@ -67,7 +67,7 @@ one-shown : (y : Answer) (g : Held) → case-number y ≡ 1 → (shown : List Sh
     → answer-shown y g ∷ shown ≡ map evaluation-shown (called-for y g ++ more) ++ last
 unfolding answer-shown called-for case-number
 one-shown (Evaluate t b) g one shown more last on = ap (λ (ss : List Shown). answer-shown (Evaluate t b) g ∷ ss) on
-one-shown (Finished e) g one shown more last on = absurd (omega arith)
+one-shown (Finished figures) g one shown more last on = absurd (omega arith)
 one-shown Ready g one shown more last on = absurd (omega arith)
 one-shown (Refused n) g one shown more last on = absurd (omega arith)
 one-shown Empty g one shown more last on = absurd (omega arith)

@@ -33,7 +33,7 @@ use Rattle.session.proofs.Standing.{all-pass, none-pass, idle, K, N, W,
 high-taken : (y : Answer) → ((i : ℕ) → y ≡ Refused i → i ∈ ending-numbers) → taken y ≡ true
 unfolding taken
 high-taken (Evaluate t b) high = refl
-high-taken (Finished e) high = refl
+high-taken (Finished figures) high = refl
 high-taken Ready high = refl
 high-taken (Refused i) high = ap not (not-standing (high i refl))
 high-taken Empty high = refl

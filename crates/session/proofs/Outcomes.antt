@@ -22,9 +22,10 @@ use Rattle.driver.specs.declared.Phase.{Phase}
 use Rattle.driver.specs.declared.Phase.the-variants as P
 use Rattle.driver.specs.declared.Record.{Record}
 use Rattle.driver.specs.declared.Counters.{Counters}
+use Rattle.driver.specs.declared.Figures.{Figures}
 use Rattle.driver.specs.declared.Answer.{Answer}
 use Rattle.driver.specs.declared.Answer.the-variants.{Evaluate, Finished, Ready, Refused, Empty}
-use Rattle.driver.specs.Calls.{Held, Called, step-to, in-phase, first-at, at-pass, with-radius, at-stage, taken, setting-of, permits}
+use Rattle.driver.specs.Calls.{Held, Called, step-to, in-phase, first-at, at-pass, with-radius, at-stage, taken, setting-of, permits, figures-of}
 use Rattle.driver.specs.Calls.{take-first, take-callback, ask-pass, ask-stage, by-need, begin-stages, take-pass, ask-candidate, take-stage, take-candidate}
 use Rattle.driver.specs.Calls.{replied, whole-area, as-long, pending, in-range, awaiting, good-stage, one-more, counted, spoiled, settled, going-on}
 use Rattle.driver.specs.Calls.{start, attempted, attempt, reply, accepted, accept, called-back, accept-with-callback, abandon, made}
@@ -53,9 +54,9 @@ first-after r w = recurrence (setting-of r) (count-after r w)
 abbrev pub carried-on : ℕ → ℕ → ℕ → Recurrence → Recurrence
 carried-on f s j c = next (setting f) s c (coefficients (setting f) s j c)
 
--- the norm of a finished attempt that left the vectors w
-abbrev pub norm-after : Record → Vectors → Float
-norm-after r w = error-norm (setting-of r) (r .n) (r .staging .stages) (r .arguments) w
+-- what a finished attempt that left the vectors w tells
+abbrev pub figures-after : Record → Vectors → Figures
+figures-after r w = figures-of (error-norm (setting-of r) (r .n) (r .staging .stages) (r .arguments) w)
 
 -- an evaluation more, and a finished attempt
 abbrev pub one-more-each : Counters → Counters
@@ -91,7 +92,7 @@ module _ (h : Held) where
     asks-candidate : {d : List Float} (t : Float) (b : ℕ) (area : List Float) → r .phase ≡ P.Stage → j ≡ s
         → Outcome (Reply d) (leaving (Evaluate t b) (in-phase P.Candidate r) (one-more c) area)
     finishes : {d : List Float} (w : Vectors) → r .phase ≡ P.Candidate → Long-in r w
-        → Outcome (Reply d) (leaving (Finished (norm-after r w)) (in-phase P.Finished r) (one-more-each c) (pack w))
+        → Outcome (Reply d) (leaving (Finished (figures-after r w)) (in-phase P.Finished r) (one-more-each c) (pack w))
     accepts : (area : List Float) → Outcome Accept (leaving Ready (in-phase P.Ready r) c area)
     calls-back : {y : List Float} {t : Float} (area : List Float)
         → Outcome (Accept-with-callback y t) (leaving (Evaluate t (number state)) (first-at P.Callback (r .family) (r .n) t r) c area)

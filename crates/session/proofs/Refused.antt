@@ -135,7 +135,7 @@ decided h Abandon = abandon-decided h
 pub says-refused : (y : Answer) (k : ℕ) → Says y (Refused k) → y ≡ Refused k
 unfolding case-number case-values
 says-refused (Evaluate t b) k s = absurd (omega (arith, s .same-case))
-says-refused (Finished e) k s = absurd (omega (arith, s .same-case))
+says-refused (Finished figures) k s = absurd (omega (arith, s .same-case))
 says-refused Ready k s = absurd (omega (arith, s .same-case))
 says-refused (Refused i) k s = ap (λ (v : Values). Refused (first (v .numbers))) (s .same-values)
   where

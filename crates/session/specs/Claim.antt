@@ -15,7 +15,8 @@ use Rattle.driver.specs.declared.Answer.{Answer}
 use Rattle.driver.specs.declared.Answer.the-variants.{Evaluate, Finished, Ready, Refused, Empty}
 use Rattle.driver.specs.Answers.{case-number, Says}
 use Rattle.driver.specs.Numbers.{ending-numbers}
-use Rattle.driver.specs.Calls.{Held, Called, in-phase, setting-of, permits, stage-need, sized, whole-area, awaiting, has-room, may-attempt, good-times, good-tolerances, attempt, reply, Call, Reply}
+use Rattle.driver.specs.Calls.{Held, Called, in-phase, setting-of, permits, stage-need, sized, whole-area, awaiting, has-room, may-attempt, good-times, good-tolerances}
+use Rattle.driver.specs.Calls.{figures-of, attempt, reply, Call, Reply}
 use Rattle.session.specs.Attempt.{Asking, Finished-attempt, Evaluated, evaluated, reaches-candidate, End, reached, refused, end, attempt-step}
 use Rattle.session.specs.Refusals.{_∈_}
 
@@ -24,7 +25,7 @@ use Rattle.session.specs.Refusals.{_∈_}
 -- what an answer calls for
 unfoldable pub called-for : Answer → Held → List Evaluated
 called-for (Evaluate t b) h = record { time = t; point = unpack (h .kept .n) (h .area) (named b) } ∷ []
-called-for (Finished e) h = []
+called-for (Finished figures) h = []
 called-for Ready h = []
 called-for (Refused i) h = []
 called-for Empty h = []
@@ -78,7 +79,7 @@ pub record Waits (h : Held) (replies : ℕ) (x : Called) : Type 0 where
 
 -- finished after this many replies, from h with the arguments a
 pub record Finishes (h : Held) (a : Arguments) (o : Finished-attempt) (replies : ℕ) (x : Called) : Type 0 where
-  pub answer-is : x .answer ≡ Finished (o .norm)
+  pub answer-is : x .answer ≡ Finished (figures-of (o .norm))
   pub area-is : x .held .area ≡ pack (o .vectors)
   pub vectors-long : (b : Vector) → length (o .vectors b) ≡ width (family-of (h .kept .family)) (h .kept .n) b
   pub state-stands : o .vectors state ≡ unpack (h .kept .n) (h .area) state
@@ -149,7 +150,7 @@ pub record Took (h : Held) (a : Arguments) (d : ℕ → List Float) (o : Finishe
   pub twelve-passes : o .passes ≤ 12
   pub stages-are : o .stages ≡ stage-count (family-of (h .kept .family)) (o .scaled-radius)
   pub each-evaluates : (j : ℕ) → j < o .stages + o .passes → case-number (after j d 0 (attempt h a) .answer) ≡ 1
-  pub answer-is : Says (x .answer) (Finished (o .norm))
+  pub answer-is : Says (x .answer) (Finished (figures-of (o .norm)))
   pub evaluations-are : x .held .counters .evaluations ≡ h .counters .evaluations + (o .stages + o .passes)
   pub attempts-are : x .held .counters .«finished_attempts» ≡ h .counters .«finished_attempts» + 1
 

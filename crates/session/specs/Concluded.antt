@@ -28,7 +28,7 @@ use Rattle.workspace.specs.Kernel.{error-norm}
 use Rattle.driver.specs.declared.Phase.the-variants as P
 use Rattle.driver.specs.declared.Answer.the-variants.{Finished}
 use Rattle.driver.specs.Answers.{case-number}
-use Rattle.driver.specs.Calls.{Held, Called, setting-of, Call, Start, Attempt, Reply, Accept, Accept-with-callback, Abandon, made, taken}
+use Rattle.driver.specs.Calls.{Held, Called, setting-of, figures-of, Call, Start, Attempt, Reply, Accept, Accept-with-callback, Abandon, made, taken}
 use Rattle.session.specs.Session.{taken-of, held-after}
 
 -- ---- one call of a list
@@ -112,7 +112,8 @@ pub record Concluded (h : Held) (calls : List Call) (x : Called) : Type 0 where
   pub only-replies : taken-since attempt ≡ map Reply replies
   pub replies-are : length replies ≡ stages-of (x .held) + passes-of (x .held)
   pub answers-are : cases-since attempt ≡ replicate (length replies - 1) 1 ++ 2 ∷ []
-  pub norm-is : x .answer ≡ Finished (error-norm (setting (start .family)) (start .n) (stages-of (x .held)) arguments (unpack (start .n) (x .held .area)))
+  pub norm-is :
+      x .answer ≡ Finished (figures-of (error-norm (setting (start .family)) (start .n) (stages-of (x .held)) arguments (unpack (start .n) (x .held .area))))
   pub one-pass : 1 ≤ passes-of (x .held)
   pub twelve-passes : passes-of (x .held) ≤ 12
   pub evaluations-are : x .held .counters .evaluations ≡ found attempt .counters .evaluations + (stages-of (x .held) + passes-of (x .held))

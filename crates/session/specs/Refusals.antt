@@ -25,7 +25,7 @@ use Rattle.driver.specs.Calls.{Call, Start, Attempt, Reply, Accept, Accept-with
 
 abbrev pub verdict-of : Answer → Verdict
 verdict-of (Evaluate t b) = admitted
-verdict-of (Finished e) = admitted
+verdict-of (Finished figures) = admitted
 verdict-of Ready = admitted
 verdict-of (Refused i) = refused-with i
 verdict-of Empty = admitted
