@@ -161,10 +161,10 @@ fn in_numbers(answer: driver::Answer) -> Answer
             number: vector as u64,
             value: time,
         },
-        driver::Answer::Finished { norm } => Answer {
+        driver::Answer::Finished(figures) => Answer {
             code: 2,
             number: 0,
-            value: norm,
+            value: figures.norm,
         },
         driver::Answer::Ready => Answer {
             code: 3,
