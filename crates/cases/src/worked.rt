@@ -27,8 +27,8 @@ fn print_answer(answer: Answer, area: &[f64]) {
             print_bits(b" at ", time);
             print_bits(b", point ", entry(area, vector));
         }
-        Answer::Finished { norm } => {
-            print_bits(b"finished, norm ", norm);
+        Answer::Finished(figures) => {
+            print_bits(b"finished, norm ", figures.norm);
             print_bits(b", candidate ", entry(area, workspace::CANDIDATE));
         }
         Answer::Ready => {

@@ -34,11 +34,11 @@ fn right_answer(s: &[u8], at: usize, answer: Answer) -> bool {
             }
             stored::same(time, value)
         }
-        Answer::Finished { norm } => {
+        Answer::Finished(figures) => {
             if code != 2 {
                 return false;
             }
-            stored::same(norm, value)
+            stored::same(figures.norm, value)
         }
         Answer::Ready => code == 3,
         Answer::Refused(cause) => {
@@ -54,7 +54,7 @@ fn right_answer(s: &[u8], at: usize, answer: Answer) -> bool {
 fn kind(answer: Answer) -> u64 {
     match answer {
         Answer::Evaluate { time: _, vector: _ } => comparison::EVALUATE,
-        Answer::Finished { norm: _ } => comparison::FINISHED,
+        Answer::Finished(_) => comparison::FINISHED,
         Answer::Ready => comparison::READY,
         Answer::Refused(cause) => comparison::refused(cause),
         Answer::Empty => comparison::EMPTY,
