@@ -47,7 +47,7 @@ use Rattle.accounts.specs.Accounts.{Acceptable, Ended, Completed, Given-
 module _ (r : Record) where
   unfoldable Answer-of : Answer → Record → Type 0
   Answer-of (Evaluate time vector) k = calls.may-accept (k .phase) ≡ false
-  Answer-of (Finished norm) k = (calls.may-accept (k .phase) ≡ true) × (k .family ≡ r .family) × (k .n ≡ r .n)
+  Answer-of (Finished figures) k = (calls.may-accept (k .phase) ≡ true) × (k .family ≡ r .family) × (k .n ≡ r .n)
   Answer-of Ready k = calls.may-accept (k .phase) ≡ false
   Answer-of (Refused i) k = (i ∈ refusal-numbers) × (calls.may-accept (k .phase) ≡ false)
   Answer-of Empty k = ⊥
@@ -114,7 +114,7 @@ accept-goes h f n w p = ap (λ (x : Called). x .answer) (goes-ahead h (calls.acc
 
 unfoldable Stand : ℕ → Answer → Held → Type 0
 Stand n (Evaluate time vector) h = (h .counters .«finished_attempts» ≡ n) × (calls.may-accept (h .kept .phase) ≡ false)
-Stand n (Finished norm) h = (h .counters .«finished_attempts» ≡ n + 1) × (calls.may-accept (h .kept .phase) ≡ true) × (calls.accept h .answer ≡ Ready)
+Stand n (Finished figures) h = (h .counters .«finished_attempts» ≡ n + 1) × (calls.may-accept (h .kept .phase) ≡ true) × (calls.accept h .answer ≡ Ready)
 Stand n Ready h = (h .counters .«finished_attempts» ≡ n) × (calls.may-accept (h .kept .phase) ≡ false)
 Stand n (Refused i) h = (i ∈ refusal-numbers) × (h .counters .«finished_attempts» ≡ n) × (calls.may-accept (h .kept .phase) ≡ false)
 Stand n Empty h = ⊥
@@ -128,7 +128,7 @@ module _ (n : ℕ) (h : Held) (e : h .counters .«finished_attempts» ≡ n) whe
       → Long-in (h .kept) v → Stand n a (holding k (calls.counted a (h .counters)) (pack v))
   unfolding Answer-of Stand calls.counted
   counts (Evaluate time vector) k v o f s l = (e, o)
-  counts (Finished norm) k v o f s l =
+  counts (Finished figures) k v o f s l =
       let w = whole-pack (h .kept .family) (h .kept .n) v l in
       let area = pack v in
       let family = subst (λ (x : ℕ). known x ≡ true) (sym (o .1)) f in
@@ -195,7 +195,7 @@ module _ (m : Inverter) (minute : ℕ) where
     on : (n : ℕ) (a : Answer) (h : Held) → Stand n a h → Stands n (go-on m minute reading upcoming a h)
     unfolding go-on Stand
     on n (Evaluate time vector) h s = reply-stands n h (s .0) (s .1) _
-    on n (Finished norm) h s = s
+    on n (Finished figures) h s = s
     on n Ready h s = attempt-stands n h (s .0) (s .1) _
     on n (Refused number) h s = s
     on n Empty h s = s
@@ -210,7 +210,7 @@ module _ (m : Inverter) (minute : ℕ) where
         → Stand (h .counters .«finished_attempts») a (c .held) → Ended reading h c × Acceptable (c .held)
     unfolding Stand day.settled finished refusal
     last h c (Evaluate time vector) r e g s = absurd (false≢true g)
-    last h c (Finished norm) r e g s = (Completed r (ap finished e) (ap refusal e) (s .1) (s .0), λ q. s .2)
+    last h c (Finished figures) r e g s = (Completed r (ap finished e) (ap refusal e) (s .1) (s .0), λ q. s .2)
     last h c Ready r e g s = absurd (false≢true g)
     last h c (Refused i) r e g s =
         let up : Ended reading h c = Given-up r (ap finished e) (subst (λ (k : ℕ). k ∈ refusal-numbers) (sym (ap refusal e)) (s .0)) (s .2) (s .1) in

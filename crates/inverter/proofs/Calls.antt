@@ -43,7 +43,7 @@ module _ (m : Inverter) (minute : ℕ) (reading upcoming : Float) where
   stays : (a : Answer) (h : Held) → settled a ≡ true → go-on m minute reading upcoming a h ≡ called a h
   unfolding go-on settled
   stays (Evaluate time vector) h e = absurd (false≢true e)
-  stays (Finished norm) h e = refl
+  stays (Finished figures) h e = refl
   stays Ready h e = absurd (false≢true e)
   stays (Refused number) h e = refl
   stays Empty h e = refl

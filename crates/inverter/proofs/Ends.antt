@@ -45,7 +45,7 @@ calls-left P.Callback r = most-calls
 -- at most k calls follow
 unfoldable pub Follow : ℕ → Answer → Record → Type 0
 Follow k (Evaluate time vector) r = (vector < 11) × (calls-left (r .phase) r ≤ k)
-Follow k (Finished norm) r = Unit
+Follow k (Finished figures) r = Unit
 Follow k Ready r = most-calls - 1 ≤ k
 Follow k (Refused number) r = Unit
 Follow k Empty r = Unit
@@ -56,7 +56,7 @@ Follows k c = Follow k (c .answer) (c .held .kept)
 pub asked-below : (k : ℕ) (a : Answer) (r : Record) → Follow k a r → asked a < 11
 unfolding Follow asked
 asked-below k (Evaluate time vector) r h = h .0
-asked-below k (Finished norm) r h = omega arith
+asked-below k (Finished figures) r h = omega arith
 asked-below k Ready r h = omega arith
 asked-below k (Refused number) r h = omega arith
 asked-below k Empty r h = omega arith
@@ -198,7 +198,7 @@ module _ (m : Inverter) (minute : ℕ) where
     on : (k : ℕ) (a : Answer) (h : Held) → Follow (suc k) a (h .kept) → Follows k (go-on m minute reading upcoming a h)
     unfolding go-on Follow
     on k (Evaluate time vector) h f = reply-follows k h _ (f .1)
-    on k (Finished norm) h f = tt
+    on k (Finished figures) h f = tt
     on k Ready h f = attempt-follows k h _ (omega arith)
     on k (Refused number) h f = tt
     on k Empty h f = tt
@@ -226,7 +226,7 @@ module _ (m : Inverter) (minute : ℕ) where
     none-left : (a : Answer) (r : Record) → Follow 0 a r → settled a ≡ true
     unfolding Follow settled
     none-left (Evaluate time vector) r f = absurd (omega (arith, some-left (r .phase) r, f .1))
-    none-left (Finished norm) r f = refl
+    none-left (Finished figures) r f = refl
     none-left Ready r f = absurd (omega arith)
     none-left (Refused number) r f = refl
     none-left Empty r f = refl

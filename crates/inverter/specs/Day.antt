@@ -58,7 +58,7 @@ module _ (m : Inverter) (minute : ℕ) (reading upcoming : Float) where
   unfoldable pub go-on : Answer → Held → Called
   go-on (Evaluate time vector) h = reply h (rates m (unpack (m .n) (h .area) (named vector)) (reading-at reading upcoming vector))
   go-on Ready h = attempt h (arguments minute)
-  go-on (Finished norm) h = called (Finished norm) h
+  go-on (Finished figures) h = called (Finished figures) h
   go-on (Refused number) h = called (Refused number) h
   go-on Empty h = called Empty h
 
@@ -85,7 +85,7 @@ upcoming reading [] = reading
 upcoming reading (after ∷ readings) = cond (finite after) after (upcoming reading readings)
 
 unfoldable pub finished : Answer → Bool
-finished (Finished norm) = true
+finished (Finished figures) = true
 finished (Evaluate time vector) = false
 finished Ready = false
 finished (Refused number) = false
@@ -103,7 +103,7 @@ is-above m a temperature = finished a && lt (m .rated) temperature
 unfoldable pub refusal : Answer → ℕ
 refusal (Refused number) = number
 refusal (Evaluate time vector) = 0
-refusal (Finished norm) = 0
+refusal (Finished figures) = 0
 refusal Ready = 0
 refusal Empty = 0
 
@@ -212,7 +212,7 @@ given r area = called (r .answer) (holding (r .«record») (r .counters) area)
 -- the vector that an answer asks about (0 where it asks nothing)
 unfoldable pub asked : Answer → ℕ
 asked (Evaluate time vector) = vector
-asked (Finished norm) = 0
+asked (Finished figures) = 0
 asked Ready = 0
 asked (Refused number) = 0
 asked Empty = 0
@@ -220,7 +220,7 @@ asked Empty = 0
 -- whether it asks for no call
 unfoldable pub settled : Answer → Bool
 settled (Evaluate time vector) = false
-settled (Finished norm) = true
+settled (Finished figures) = true
 settled Ready = false
 settled (Refused number) = true
 settled Empty = true

@@ -137,7 +137,7 @@ fn next(
             driver::reply(record, counters, area, scratch)
         }
         Answer::Ready => with_counters(driver::attempt(record, area, arguments(minute)), counters),
-        Answer::Finished { norm: _ } => reply,
+        Answer::Finished(_) => reply,
         Answer::Refused(_) => reply,
         Answer::Empty => reply,
     }
@@ -150,7 +150,7 @@ fn settled(answer: Answer) -> bool
     match answer {
         Answer::Evaluate { time: _, vector: _ } => false,
         Answer::Ready => false,
-        Answer::Finished { norm: _ } => true,
+        Answer::Finished(_) => true,
         Answer::Refused(_) => true,
         Answer::Empty => true,
     }

@@ -21,7 +21,7 @@ fn refusal(answer: Answer) -> u64
     match answer {
         Answer::Refused(number) => number,
         Answer::Evaluate { time: _, vector: _ } => 0,
-        Answer::Finished { norm: _ } => 0,
+        Answer::Finished(_) => 0,
         Answer::Ready => 0,
         Answer::Empty => 0,
     }
@@ -31,7 +31,7 @@ fn finished(answer: Answer) -> bool
     ensures { λ r. ⌜ r ≡ spec.finished answer ⌝ }
 {
     match answer {
-        Answer::Finished { norm: _ } => true,
+        Answer::Finished(_) => true,
         Answer::Evaluate { time: _, vector: _ } => false,
         Answer::Ready => false,
         Answer::Refused(_) => false,
