@@ -12,7 +12,7 @@ use Rattle.driver.specs.Calls.{in-phase, at-stage}
 use Rattle.driver.specs.Promises.{outcome-of}
 use Rattle.capi.specs.declared.Answer.{Answer}
 use Rattle.capi.specs.Lent.{wholes-long, doubles-long, lent, leaves, in-stages}
-use Rattle.capi.specs.Numbers.{phase-number, brought, meaning, written, first-or, coded, in-numbers, stands, handed-back}
+use Rattle.capi.specs.Numbers.{brought, meaning, written, first-or, coded, in-numbers, stands, handed-back}
 
 -- ---- a list by its elements
 
@@ -49,7 +49,7 @@ module _ (t : Float) (g : Staging) where
   Placed w x = leaves asked (wholes-on w) (doubles-on x) ≡ in-stages (lent w x) (On t g)
 
   placed-in-cells : (f : ℕ → ℕ) (h : ℕ → Float) → Placed (cells f wholes-long) (cells h doubles-long)
-  unfolding outcome-of handed-back stands coded first-or case-number case-values written phase-number at-stage meaning brought
+  unfolding outcome-of handed-back stands coded first-or case-number case-values written at-stage meaning brought
   placed-in-cells f h = refl
 
   pub placed : (w : List ℕ) (x : List Float) → length w ≡ wholes-long → length x ≡ doubles-long
@@ -63,7 +63,7 @@ module _ (t : Float) (g : Staging) where
 
 pub ended : (t : Float) (w : List ℕ) (x : List Float) → length w ≡ wholes-long
     → leaves (record { code = 1; number = 10; value = t }) (set w 2 5) x ≡ in-stages (lent w x) (Ended t)
-unfolding outcome-of handed-back stands coded first-or case-number case-values written phase-number in-phase meaning brought
+unfolding outcome-of handed-back stands coded first-or case-number case-values written in-phase meaning brought
 ended t w x e = subst Ends (in-cells 0 w wholes-long e) (ends-in-cells (λ i. getD w i 0))
   where
     Ends : List ℕ → Type 0
@@ -74,7 +74,7 @@ ended t w x e = subst Ends (in-cells 0 w wholes-long e) (ends-in-cells (λ i. ge
 
 pub emptied : (w : List ℕ) (x : List Float) → length w ≡ wholes-long
     → leaves (record { code = 4; number = 10; value = nought }) (set w 2 0) x ≡ in-stages (lent w x) NotFinite
-unfolding outcome-of handed-back stands coded first-or case-number case-values written phase-number in-phase meaning brought
+unfolding outcome-of handed-back stands coded first-or case-number case-values written in-phase meaning brought
 emptied w x e = subst Empties (in-cells 0 w wholes-long e) (empties-in-cells (λ i. getD w i 0))
   where
     Empties : List ℕ → Type 0

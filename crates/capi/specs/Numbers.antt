@@ -10,13 +10,14 @@ use Rattle.driver.specs.declared.Phase.{Phase}
 use Rattle.driver.specs.declared.Phase.the-variants as P
 use Rattle.driver.specs.declared.Record.{Record as Kept}
 use Rattle.driver.specs.declared.Answer.{Answer as Case}
+use Rattle.driver.specs.Calls.{phase-number}
 use Rattle.driver.specs.Answers.{Values, case-number, case-values}
 use Rattle.capi.specs.declared.Arguments.{Arguments}
 use Rattle.capi.specs.declared.Record.{Record}
 use Rattle.capi.specs.declared.Answer.{Answer}
 use Rattle.capi.specs.declared.Outcome.{Outcome}
 
--- ---- phases, from 0 in their order; any other number is a phase that only start leaves
+-- ---- phases, by driver's numbers; any other number is a phase that only start leaves
 
 unfoldable pub phase-of : ℕ → Phase
 phase-of k =
@@ -27,16 +28,6 @@ phase-of k =
     (cond (eqb k 5) P.Candidate
     (cond (eqb k 6) P.Finished
     (cond (eqb k 7) P.Callback P.Empty))))))
-
-unfoldable pub phase-number : Phase → ℕ
-phase-number P.Empty = 0
-phase-number P.First = 1
-phase-number P.Ready = 2
-phase-number P.Pass = 3
-phase-number P.Stage = 4
-phase-number P.Candidate = 5
-phase-number P.Finished = 6
-phase-number P.Callback = 7
 
 -- ---- records; `adaptive` is a no at 0, else a yes
 

@@ -70,21 +70,6 @@ fn phase_of(number: u64) -> Phase
     }
 }
 
-fn phase_number(phase: Phase) -> u64
-    ensures { λ r. ⌜ r ≡ numbers.phase-number phase ⌝ }
-{
-    match phase {
-        Phase::Empty => 0,
-        Phase::First => 1,
-        Phase::Ready => 2,
-        Phase::Pass => 3,
-        Phase::Stage => 4,
-        Phase::Candidate => 5,
-        Phase::Finished => 6,
-        Phase::Callback => 7,
-    }
-}
-
 // The arguments that driver's attempt is given.
 fn brought(
     time: f64,
@@ -133,7 +118,7 @@ fn written(adaptive: u64, record: driver::Record) -> Record
     ensures { λ r. ⌜ r ≡ numbers.written adaptive «record» ⌝ }
 {
     let kept = record.phase;
-    let phase = phase_number(kept);
+    let phase = driver::phase_number(kept);
     let iteration = record.iteration;
     let staging = record.staging;
     Record {

@@ -45,6 +45,13 @@ put-to {b = b} e h = h ∙ sym (ap (λ (x : Bool). not x || b) e)
 pub spared : {a : Bool} (b : Bool) → a ≡ false → true ≡ (not a || b)
 spared b e = sym (ap (λ (x : Bool). not x || b) e)
 
+-- a test of its own for one case, and the tests of the others
+pub in-case : {a b r : Bool} (c : Bool) → a ≡ true → r ≡ b → r ≡ cond a b c
+in-case {b = b} c e h = h ∙ sym (ap (λ (x : Bool). cond x b c) e)
+
+pub otherwise : {a c r : Bool} (b : Bool) → a ≡ false → r ≡ c → r ≡ cond a b c
+otherwise {c = c} b e h = h ∙ sym (ap (λ (x : Bool). cond x b c) e)
+
 -- an arm of a match: what holds of the arm's own case, said of the value as it came
 pub arm : {A : Type 0} {p q : A} {b : Bool} (test : A → Bool) → q ≡ p → b ≡ test p → b ≡ test q
 arm test e h = h ∙ ap test (sym e)

@@ -38,6 +38,21 @@ pub record Called : Type 0 where
   pub answer : Answer
   pub held : Held
 
+-- ---- the phases, numbered from 0 in their order: they are compared by their numbers, and a caller that holds plain numbers holds these
+
+abbrev pub phase-number : Phase → ℕ
+phase-number P.Empty = 0
+phase-number P.First = 1
+phase-number P.Ready = 2
+phase-number P.Pass = 3
+phase-number P.Stage = 4
+phase-number P.Candidate = 5
+phase-number P.Finished = 6
+phase-number P.Callback = 7
+
+abbrev pub same-phase : Phase → Phase → Bool
+same-phase p q = eqb (phase-number p) (phase-number q)
+
 -- ---- the record in another phase, and further on
 
 -- with another phase, arguments and position: family and n stand
@@ -172,15 +187,9 @@ whole-area f n area = eqb (length area) (vector-count (family-of f) * n)
 unfoldable pub as-long : ℕ → List Float → Bool
 as-long n v = eqb (length v) n
 
+-- in every phase but these three an evaluation is pending
 unfoldable pub pending : Phase → Bool
-pending P.Empty = false
-pending P.First = true
-pending P.Ready = false
-pending P.Pass = true
-pending P.Stage = true
-pending P.Candidate = true
-pending P.Finished = false
-pending P.Callback = true
+pending p = not ((same-phase p P.Empty || same-phase p P.Ready) || same-phase p P.Finished)
 
 abbrev pub good-pass : ℕ → Bool
 good-pass k = leb 1 k && leb k 12
@@ -193,37 +202,19 @@ good-stage m s j = permits m s && (leb 2 j && leb j s)
 
 -- what a phase uses of the record is in range: the pass, s, the stage
 unfoldable pub in-range : Phase → Record → Bool
-in-range P.Empty r = true
-in-range P.First r = true
-in-range P.Ready r = true
-in-range P.Pass r = good-pass (r .iteration .pass)
-in-range P.Stage r = good-stage (setting-of r) (r .staging .stages) (r .staging .stage)
-in-range P.Candidate r = permits (setting-of r) (r .staging .stages)
-in-range P.Finished r = true
-in-range P.Callback r = true
+in-range p r =
+    cond (same-phase p P.Pass) (good-pass (r .iteration .pass))
+    (cond (same-phase p P.Stage) (good-stage (setting-of r) (r .staging .stages) (r .staging .stage))
+    (cond (same-phase p P.Candidate) (permits (setting-of r) (r .staging .stages)) true))
 
 unfoldable pub awaiting : Record → Bool
 awaiting r = pending (r .phase) && in-range (r .phase) r
 
 unfoldable pub may-attempt : Phase → Bool
-may-attempt P.Empty = false
-may-attempt P.First = false
-may-attempt P.Ready = true
-may-attempt P.Pass = false
-may-attempt P.Stage = false
-may-attempt P.Candidate = false
-may-attempt P.Finished = true
-may-attempt P.Callback = false
+may-attempt p = same-phase p P.Ready || same-phase p P.Finished
 
 unfoldable pub may-accept : Phase → Bool
-may-accept P.Empty = false
-may-accept P.First = false
-may-accept P.Ready = false
-may-accept P.Pass = false
-may-accept P.Stage = false
-may-accept P.Candidate = false
-may-accept P.Finished = true
-may-accept P.Callback = false
+may-accept p = same-phase p P.Finished
 
 unfoldable pub good-times : Arguments → Bool
 good-times a = finite (a .time) && (finite (a .step) && not (eq (a .step) nought))
@@ -240,14 +231,7 @@ room count = ltb count (2 ^ 64 - 1)
 
 -- a reply to the candidate's evaluation also needs room for a finished attempt
 unfoldable pub finishes : Phase → Bool
-finishes P.Empty = false
-finishes P.First = false
-finishes P.Ready = false
-finishes P.Pass = false
-finishes P.Stage = false
-finishes P.Candidate = true
-finishes P.Finished = false
-finishes P.Callback = false
+finishes p = same-phase p P.Candidate
 
 unfoldable pub has-room : Phase → Counters → Bool
 has-room p c = room (c .evaluations) && (not (finishes p) || room (c .«finished_attempts»))

@@ -23,7 +23,7 @@ use Rattle.driver.specs.declared.Replied.{Replied}
 use Rattle.driver.specs.declared.Staged.{Staged}
 use Rattle.driver.specs.declared.Staged.the-variants.{On, Ended, NotFinite}
 use Rattle.driver.specs.Answers.{Says}
-use Rattle.driver.specs.Calls.{Held, Called, Step, in-phase, at-stage, sized, whole-area, as-long, good-stage, room, one-more, setting-of}
+use Rattle.driver.specs.Calls.{Held, Called, Step, same-phase, in-phase, at-stage, sized, whole-area, as-long, good-stage, room, one-more, setting-of}
 
 -- what a call is handed
 abbrev pub holding : Record → Counters → List Float → Held
@@ -56,14 +56,7 @@ pub record Steps (promised : Step) (x : Next) (left : Vectors) : Type 0 where
 -- ---- a reply to a stage's evaluation: does it pass tests 1 to 9 and bring the derivative of a stage?
 
 unfoldable pub in-stages : Phase → Bool
-in-stages P.Empty = false
-in-stages P.First = false
-in-stages P.Ready = false
-in-stages P.Pass = false
-in-stages P.Stage = true
-in-stages P.Candidate = false
-in-stages P.Finished = false
-in-stages P.Callback = false
+in-stages p = same-phase p P.Stage
 
 unfoldable pub stage-taken : Record → Counters → List Float → List Float → Bool
 stage-taken r c area d =

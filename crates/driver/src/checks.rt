@@ -7,6 +7,7 @@ ghost use Rattle.driver.specs.Promises.{in-stages, stage-taken};
 use crate::Counters;
 use crate::Phase;
 use crate::Record;
+use crate::position::same_phase;
 use crate::position::setting_of;
 use family::Setting;
 use workspace::Arguments;
@@ -43,16 +44,10 @@ pub fn both_long(family: u64, n: usize, area: &[f64], vector: &[f64]) -> bool
 pub fn pending(phase: Phase) -> bool
     ensures { λ r. ⌜ r ≡ calls.pending phase ⌝ }
 {
-    match phase {
-        Phase::Empty => false,
-        Phase::First => true,
-        Phase::Ready => false,
-        Phase::Pass => true,
-        Phase::Stage => true,
-        Phase::Candidate => true,
-        Phase::Finished => false,
-        Phase::Callback => true,
-    }
+    let empty = same_phase(phase, Phase::Empty);
+    let ready = same_phase(phase, Phase::Ready);
+    let finished = same_phase(phase, Phase::Finished);
+    !(empty | ready | finished)
 }
 
 pub fn good_pass(pass: u64) -> bool
@@ -89,16 +84,16 @@ pub fn in_range(record: Record) -> bool
 {
     let setting = setting_of(record);
     let phase = record.phase;
-    match phase {
-        Phase::Empty => true,
-        Phase::First => true,
-        Phase::Ready => true,
-        Phase::Pass => good_pass(record.iteration.pass),
-        Phase::Stage => good_stage(setting, record.staging.stages, record.staging.stage),
-        Phase::Candidate => permits(setting, record.staging.stages),
-        Phase::Finished => true,
-        Phase::Callback => true,
+    if same_phase(phase, Phase::Pass) {
+        return good_pass(record.iteration.pass);
     }
+    if same_phase(phase, Phase::Stage) {
+        return good_stage(setting, record.staging.stages, record.staging.stage);
+    }
+    if same_phase(phase, Phase::Candidate) {
+        return permits(setting, record.staging.stages);
+    }
+    true
 }
 
 pub fn awaiting(record: Record) -> bool
@@ -114,31 +109,15 @@ pub fn awaiting(record: Record) -> bool
 pub fn may_attempt(phase: Phase) -> bool
     ensures { λ r. ⌜ r ≡ calls.may-attempt phase ⌝ }
 {
-    match phase {
-        Phase::Empty => false,
-        Phase::First => false,
-        Phase::Ready => true,
-        Phase::Pass => false,
-        Phase::Stage => false,
-        Phase::Candidate => false,
-        Phase::Finished => true,
-        Phase::Callback => false,
-    }
+    let ready = same_phase(phase, Phase::Ready);
+    let finished = same_phase(phase, Phase::Finished);
+    ready | finished
 }
 
 pub fn may_accept(phase: Phase) -> bool
     ensures { λ r. ⌜ r ≡ calls.may-accept phase ⌝ }
 {
-    match phase {
-        Phase::Empty => false,
-        Phase::First => false,
-        Phase::Ready => false,
-        Phase::Pass => false,
-        Phase::Stage => false,
-        Phase::Candidate => false,
-        Phase::Finished => true,
-        Phase::Callback => false,
-    }
+    same_phase(phase, Phase::Finished)
 }
 
 pub fn good_times(arguments: Arguments) -> bool
@@ -175,16 +154,7 @@ pub fn good_tolerances(arguments: Arguments) -> bool
 pub fn finishes(phase: Phase) -> bool
     ensures { λ r. ⌜ r ≡ calls.finishes phase ⌝ }
 {
-    match phase {
-        Phase::Empty => false,
-        Phase::First => false,
-        Phase::Ready => false,
-        Phase::Pass => false,
-        Phase::Stage => false,
-        Phase::Candidate => true,
-        Phase::Finished => false,
-        Phase::Callback => false,
-    }
+    same_phase(phase, Phase::Candidate)
 }
 
 // Whether a counter can count one more.
@@ -210,16 +180,7 @@ pub fn has_room(phase: Phase, counters: Counters) -> bool
 fn in_stages(phase: Phase) -> bool
     ensures { λ r. ⌜ r ≡ in-stages phase ⌝ }
 {
-    match phase {
-        Phase::Empty => false,
-        Phase::First => false,
-        Phase::Ready => false,
-        Phase::Pass => false,
-        Phase::Stage => true,
-        Phase::Candidate => false,
-        Phase::Finished => false,
-        Phase::Callback => false,
-    }
+    same_phase(phase, Phase::Stage)
 }
 
 // Whether a reply passes tests 1 to 9 and brings the derivative of a stage. Two rounds of tests without branches between

@@ -20,6 +20,7 @@ mod replies;
 
 pub use checks::may_accept;
 pub use checks::stage_taken;
+pub use position::phase_number;
 
 // Where a record is between two calls.
 pub enum Phase {

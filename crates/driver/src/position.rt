@@ -1,4 +1,4 @@
-// What a record runs under, and the record in another phase and further on.
+// What a record runs under, its phase by number, and the record in another phase and further on.
 ghost use mathlib.Core.Path.{_≡_};
 ghost use Rattle.driver.specs.Calls as calls;
 use crate::Iteration;
@@ -15,6 +15,28 @@ pub fn setting_of(record: Record) -> Setting
     Setting {
         family: record.family,
     }
+}
+
+// The phases are numbered from 0 in their order.
+pub fn phase_number(phase: Phase) -> u64
+    ensures { λ r. ⌜ r ≡ calls.phase-number phase ⌝ }
+{
+    match phase {
+        Phase::Empty => 0,
+        Phase::First => 1,
+        Phase::Ready => 2,
+        Phase::Pass => 3,
+        Phase::Stage => 4,
+        Phase::Candidate => 5,
+        Phase::Finished => 6,
+        Phase::Callback => 7,
+    }
+}
+
+pub fn same_phase(phase: Phase, other: Phase) -> bool
+    ensures { λ r. ⌜ r ≡ calls.same-phase phase other ⌝ }
+{
+    phase_number(phase) == phase_number(other)
 }
 
 // With another phase and position: family and n stand.

@@ -1,84 +1,15 @@
--- `may_accept` meets its contract, phase by phase.
-use mathlib.Core.Path.{refl}
+-- `may_accept` meets its contract: one phase.
 use borrow.Author.Needs.{needs}
 use Rattle.driver.specs.Calls.{may-accept}
-use Rattle.driver.proofs.Ladder.{arm}
 use Rattle.driver.proofs.checks.may_accept.Statement.{statement}
 use Rattle.driver.proofs.checks.may_accept.Tie as tie
 
-enum-told : tie.Need-enum-told
-enum-told c = search needs
-
-enum-told-2 : tie.Need-enum-told-2
-enum-told-2 c = search needs
-
-enum-told-3 : tie.Need-enum-told-3
-enum-told-3 c = search needs
-
-enum-told-4 : tie.Need-enum-told-4
-enum-told-4 c = search needs
-
-enum-told-5 : tie.Need-enum-told-5
-enum-told-5 c = search needs
-
-enum-told-6 : tie.Need-enum-told-6
-enum-told-6 c = search needs
-
-enum-told-7 : tie.Need-enum-told-7
-enum-told-7 c = search needs
-
-enum-told-8 : tie.Need-enum-told-8
-enum-told-8 c = search needs
+same-phase-requires : tie.Need-same-phase-requires
+same-phase-requires c κs = search needs
 
 returns : tie.Need-returns
 unfolding may-accept
-returns c = arm may-accept (c .enum-told .given .1) refl
-
-returns-2 : tie.Need-returns-2
-unfolding may-accept
-returns-2 c = arm may-accept (c .enum-told2 .given .1) refl
-
-returns-3 : tie.Need-returns-3
-unfolding may-accept
-returns-3 c = arm may-accept (c .enum-told3 .given .1) refl
-
-returns-4 : tie.Need-returns-4
-unfolding may-accept
-returns-4 c = arm may-accept (c .enum-told4 .given .1) refl
-
-returns-5 : tie.Need-returns-5
-unfolding may-accept
-returns-5 c = arm may-accept (c .enum-told5 .given .1) refl
-
-returns-6 : tie.Need-returns-6
-unfolding may-accept
-returns-6 c = arm may-accept (c .enum-told6 .given .1) refl
-
-returns-7 : tie.Need-returns-7
-unfolding may-accept
-returns-7 c = arm may-accept (c .enum-told7 .given .1) refl
-
-returns-8 : tie.Need-returns-8
-unfolding may-accept
-returns-8 c = arm may-accept (c .enum-told8 .given .1) refl
+returns c = c .same-phase .ensures
 
 pub may-accept-spec : {M : Type 1} → statement M
-may-accept-spec =
-    tie.close
-    (tie.spec
-    enum-told
-    enum-told-2
-    enum-told-3
-    enum-told-4
-    enum-told-5
-    enum-told-6
-    enum-told-7
-    enum-told-8
-    returns
-    returns-2
-    returns-3
-    returns-4
-    returns-5
-    returns-6
-    returns-7
-    returns-8)
+may-accept-spec = tie.close (tie.spec same-phase-requires returns)

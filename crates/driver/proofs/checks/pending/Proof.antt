@@ -1,84 +1,23 @@
--- `pending` meets its contract, phase by phase.
-use mathlib.Core.Path.{refl}
+-- `pending` meets its contract: none of three phases.
+use mathlib.Core.Path.{ap, ap₂}
+use mathlib.Core.Bool.{not, _||_}
 use borrow.Author.Needs.{needs}
 use Rattle.driver.specs.Calls.{pending}
-use Rattle.driver.proofs.Ladder.{arm}
 use Rattle.driver.proofs.checks.pending.Statement.{statement}
 use Rattle.driver.proofs.checks.pending.Tie as tie
 
-enum-told : tie.Need-enum-told
-enum-told c = search needs
+same-phase-requires : tie.Need-same-phase-requires
+same-phase-requires c κs = search needs
 
-enum-told-2 : tie.Need-enum-told-2
-enum-told-2 c = search needs
+same-phase-requires-2 : tie.Need-same-phase-requires-2
+same-phase-requires-2 c κs = search needs
 
-enum-told-3 : tie.Need-enum-told-3
-enum-told-3 c = search needs
-
-enum-told-4 : tie.Need-enum-told-4
-enum-told-4 c = search needs
-
-enum-told-5 : tie.Need-enum-told-5
-enum-told-5 c = search needs
-
-enum-told-6 : tie.Need-enum-told-6
-enum-told-6 c = search needs
-
-enum-told-7 : tie.Need-enum-told-7
-enum-told-7 c = search needs
-
-enum-told-8 : tie.Need-enum-told-8
-enum-told-8 c = search needs
+same-phase-requires-3 : tie.Need-same-phase-requires-3
+same-phase-requires-3 c κs = search needs
 
 returns : tie.Need-returns
 unfolding pending
-returns c = arm pending (c .enum-told .given .1) refl
-
-returns-2 : tie.Need-returns-2
-unfolding pending
-returns-2 c = arm pending (c .enum-told2 .given .1) refl
-
-returns-3 : tie.Need-returns-3
-unfolding pending
-returns-3 c = arm pending (c .enum-told3 .given .1) refl
-
-returns-4 : tie.Need-returns-4
-unfolding pending
-returns-4 c = arm pending (c .enum-told4 .given .1) refl
-
-returns-5 : tie.Need-returns-5
-unfolding pending
-returns-5 c = arm pending (c .enum-told5 .given .1) refl
-
-returns-6 : tie.Need-returns-6
-unfolding pending
-returns-6 c = arm pending (c .enum-told6 .given .1) refl
-
-returns-7 : tie.Need-returns-7
-unfolding pending
-returns-7 c = arm pending (c .enum-told7 .given .1) refl
-
-returns-8 : tie.Need-returns-8
-unfolding pending
-returns-8 c = arm pending (c .enum-told8 .given .1) refl
+returns c = ap not (ap₂ _||_ (ap₂ _||_ (c .before .before .same-phase .ensures) (c .before .same-phase2 .ensures)) (c .same-phase3 .ensures))
 
 pub pending-spec : {M : Type 1} → statement M
-pending-spec =
-    tie.close
-    (tie.spec
-    enum-told
-    enum-told-2
-    enum-told-3
-    enum-told-4
-    enum-told-5
-    enum-told-6
-    enum-told-7
-    enum-told-8
-    returns
-    returns-2
-    returns-3
-    returns-4
-    returns-5
-    returns-6
-    returns-7
-    returns-8)
+pending-spec = tie.close (tie.spec same-phase-requires same-phase-requires-2 same-phase-requires-3 returns)
