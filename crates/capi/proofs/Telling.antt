@@ -26,7 +26,10 @@ told {before} adaptive call {area} {left} {kept} {after} {a} {c} {d} {given} is 
     let at : Called = call (holding kept c area) in
     subst (λ (r : Kept). Told before adaptive (call (holding r c area)) given d left) is
     (record {
-      outcome-is = e ∙ (ap (λ x. handed-back before adaptive x after) (same-numbers (m .answer)) ∙ ap (λ (r : Kept). handed-back before adaptive (in-numbers (at .answer)) r) (m .kept));
+      outcome-is =
+          e
+          ∙ (ap (λ x. handed-back before adaptive x after) (same-numbers (m .answer))
+          ∙ ap (λ (r : Kept). handed-back before adaptive (in-numbers (at .answer)) r) (m .kept));
       counters-are = m .counters;
       area-is = m .area;
     })

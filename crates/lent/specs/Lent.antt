@@ -22,7 +22,13 @@ abbrev pub doubles-long : ℕ
 doubles-long = 18
 
 abbrev pub arguments-in : List ℕ → List Float → Arguments
-arguments-in w x = record { time = getD x 0 nan; step = getD x 1 nan; «absolute_tolerance» = getD x 3 nan; «relative_tolerance» = getD x 5 nan; adaptive = getD w 3 0 }
+arguments-in w x = record {
+  time = getD x 0 nan;
+  step = getD x 1 nan;
+  «absolute_tolerance» = getD x 3 nan;
+  «relative_tolerance» = getD x 5 nan;
+  adaptive = getD w 3 0;
+}
 
 abbrev pub iteration-in : List ℕ → List Float → Iteration
 iteration-in w x = record { pass = getD w 4 0; perturbation = getD x 7 nan; «previous_radius» = getD x 9 nan; «scaled_radius» = getD x 11 nan }
@@ -46,7 +52,14 @@ staging-in w x =
     record { stages = getD w 5 0; stage = getD w 6 0; recurrence = c }
 
 abbrev pub lent : List ℕ → List Float → Record
-lent w x = record { family = getD w 0 0; n = getD w 1 0; phase = getD w 2 0; arguments = arguments-in w x; iteration = iteration-in w x; staging = staging-in w x }
+lent w x = record {
+  family = getD w 0 0;
+  n = getD w 1 0;
+  phase = getD w 2 0;
+  arguments = arguments-in w x;
+  iteration = iteration-in w x;
+  staging = staging-in w x;
+}
 
 -- of the record that it means, what `stage-taken` asks for; all else is 0
 abbrev pub place-of : List ℕ → Kept

@@ -63,7 +63,9 @@ abbrev pub as-brought : Arguments → Brought
 as-brought a = brought (a .time) (a .step) (a .«absolute_tolerance») (a .«relative_tolerance») (a .adaptive)
 
 unfoldable pub meaning : Record → Kept
-meaning r = record { family = r .family; n = r .n; phase = phase-of (r .phase); arguments = as-brought (r .arguments); iteration = r .iteration; staging = r .staging }
+meaning r =
+    let a = as-brought (r .arguments) in
+    record { family = r .family; n = r .n; phase = phase-of (r .phase); arguments = a; iteration = r .iteration; staging = r .staging }
 
 -- with the number that was brought for `adaptive`
 unfoldable pub written : ℕ → Kept → Record

@@ -13,7 +13,8 @@ reply-elsewhere-requires : tie.Need-reply-elsewhere-requires
 reply-elsewhere-requires c κs =
     let t = c .before .before .before .before .before .before .before .before in
     let a = t .args in
-    at-place (a .wholes .now) (a .doubles .now) (counting (a .evaluations .now) (a .finished-attempts .now)) (a .area .now) (a .derivative .now) (c .before .read .ensures) (t .pre)
+    at-place (a .wholes .now) (a .doubles .now) (counting (a .evaluations .now) (a .finished-attempts .now)) (a .area .now) (a .derivative .now)
+    (c .before .read .ensures) (t .pre)
 
 leave-requires : tie.Need-leave-requires
 leave-requires c κs = search needs
@@ -23,8 +24,9 @@ same-length c = search needs
 
 returns : tie.Need-returns
 returns c =
-    let a = c .before .before .before .before .before .before .before .before .before .before .before .before .before .before .before .args in
-    told _ (λ (h : Held). reply h (a .derivative .now)) (c .before .before .before .before .before .before .before .before .read .ensures) (c .before .before .before .before .before .before .reply-elsewhere .ensures) (c .leave .ensures)
+    let t = c .before .before .before .before .before .before in
+    let a = t .before .before .before .before .before .before .before .before .before .args in
+    told _ (λ (h : Held). reply h (a .derivative .now)) (t .before .before .read .ensures) (t .reply-elsewhere .ensures) (c .leave .ensures)
 
 pub reply-elsewhere-spec : {M : Type 1} → statement M
 reply-elsewhere-spec =

@@ -16,7 +16,8 @@ reply-in-stages-requires : tie.Need-reply-in-stages-requires
 reply-in-stages-requires c κs =
     let t = c .before .before .before .before .before .before .before in
     let a = t .args in
-    at-place (a .wholes .now) (a .doubles .now) (counting (a .evaluations .now) (a .finished-attempts)) (a .area .now) (a .derivative .now) (c .before .read .ensures) (t .pre)
+    at-place (a .wholes .now) (a .doubles .now) (counting (a .evaluations .now) (a .finished-attempts)) (a .area .now) (a .derivative .now)
+    (c .before .read .ensures) (t .pre)
 
 add-evaluations : tie.Need-add-evaluations
 add-evaluations c =
@@ -32,8 +33,10 @@ same-length c = search needs
 
 returns : tie.Need-returns
 returns c =
-    let a = c .before .before .before .before .before .before .before .before .before .before .before .before .before .before .args in
-    told-in-stages (λ (h : Held). reply h (a .derivative .now)) (c .before .before .before .before .before .before .before .before .read .ensures) (c .before .before .before .before .before .before .reply-in-stages .ensures) (c .leave-staged .ensures)
+    let t = c .before .before .before .before .before .before in
+    let a = t .before .before .before .before .before .before .before .before .args in
+    told-in-stages (λ (h : Held). reply h (a .derivative .now))
+    (t .before .before .read .ensures) (t .reply-in-stages .ensures) (c .leave-staged .ensures)
 
 pub reply-in-stages-spec : {M : Type 1} → statement M
 reply-in-stages-spec =

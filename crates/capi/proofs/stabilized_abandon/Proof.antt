@@ -16,7 +16,8 @@ leave-requires c κs = search needs
 
 returns : tie.Need-returns
 returns c =
-    tells _ (abandon) (c .before .before .before .before .read .ensures) (c .before .before .before .abandon .ensures) (c .leave .ensures)
+    let t = c .before .before .before in
+    tells _ (abandon) (t .before .read .ensures) (t .abandon .ensures) (c .leave .ensures)
 
 pub stabilized-abandon-spec : {M : Type 1} → statement M
 stabilized-abandon-spec =

@@ -19,7 +19,8 @@ same-length c = search needs
 
 returns : tie.Need-returns
 returns c =
-    tells _ (accept) (c .before .before .before .before .before .before .before .read .ensures) (c .before .before .before .before .before .accept .ensures) (c .leave .ensures)
+    let t = c .before .before .before .before .before in
+    tells _ (accept) (t .before .before .read .ensures) (t .accept .ensures) (c .leave .ensures)
 
 pub stabilized-accept-spec : {M : Type 1} → statement M
 stabilized-accept-spec =

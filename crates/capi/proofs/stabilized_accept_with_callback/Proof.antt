@@ -19,8 +19,10 @@ same-length c = search needs
 
 returns : tie.Need-returns
 returns c =
-    let a = c .before .before .before .before .before .before .before .before .before .before .before .before .args in
-    tells _ (λ (h : Held). accept-with-callback h (a .state .now) (a .time)) (c .before .before .before .before .before .before .before .read .ensures) (c .before .before .before .before .before .accept-with-callback .ensures) (c .leave .ensures)
+    let t = c .before .before .before .before .before in
+    let a = t .before .before .before .before .before .before .before .args in
+    tells _ (λ (h : Held). accept-with-callback h (a .state .now) (a .time))
+    (t .before .before .read .ensures) (t .accept-with-callback .ensures) (c .leave .ensures)
 
 pub stabilized-accept-with-callback-spec : {M : Type 1} → statement M
 stabilized-accept-with-callback-spec =

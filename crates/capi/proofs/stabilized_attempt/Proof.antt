@@ -23,9 +23,10 @@ same-length c = search needs
 
 returns : tie.Need-returns
 returns c =
-    let k = c .before .before .before .before .before .before .before .brought in
+    let t = c .before .before .before .before .before in
+    let k = t .before .before .brought in
     bringing (λ (b : Brought) (h : Held). attempt h b) (k .ensures)
-    (tells _ (λ (h : Held). attempt h (k .result)) (c .before .before .before .before .before .before .before .before .read .ensures) (c .before .before .before .before .before .attempt .ensures) (c .leave-with .ensures))
+    (tells _ (λ (h : Held). attempt h (k .result)) (t .before .before .before .read .ensures) (t .attempt .ensures) (c .leave-with .ensures))
 
 pub stabilized-attempt-spec : {M : Type 1} → statement M
 stabilized-attempt-spec =

@@ -15,7 +15,8 @@ reply-in-stages-requires : tie.Need-reply-in-stages-requires
 reply-in-stages-requires c κs =
     let t = c .before .before .before .before in
     let a = t .before .before .before .before .before .before .before .before .before .args in
-    as-tested (a .wholes .now) (counting (a .evaluations .now) (a .finished-attempts .now)) (a .area .now) (a .derivative .now) (t .before .before .before .place .ensures) (t .before .stage-taken .ensures) (t .if1 .taken)
+    as-tested (a .wholes .now) (counting (a .evaluations .now) (a .finished-attempts .now)) (a .area .now) (a .derivative .now)
+    (t .before .before .before .place .ensures) (t .before .stage-taken .ensures) (t .if1 .taken)
 
 same-length : tie.Need-same-length
 same-length c = search needs
@@ -27,7 +28,8 @@ reply-elsewhere-requires : tie.Need-reply-elsewhere-requires
 reply-elsewhere-requires c κs =
     let t = c .before .before .before .before .before in
     let a = t .before .before .before .before .before .before .before .before .before .args in
-    as-tested (a .wholes .now) (counting (a .evaluations .now) (a .finished-attempts .now)) (a .area .now) (a .derivative .now) (t .before .before .before .place .ensures) (t .before .stage-taken .ensures) (t .if1 .left)
+    as-tested (a .wholes .now) (counting (a .evaluations .now) (a .finished-attempts .now)) (a .area .now) (a .derivative .now)
+    (t .before .before .before .place .ensures) (t .before .stage-taken .ensures) (t .if1 .left)
 
 same-length-2 : tie.Need-same-length-2
 same-length-2 c = search needs

@@ -19,8 +19,10 @@ same-length c = search needs
 
 returns : tie.Need-returns
 returns c =
-    let a = c .before .before .before .before .before .before .before .before .before .before .before .before .args in
-    tells _ (λ (h : Held). start h (a .family) (a .n) (a .state .now) (a .time)) (c .before .before .before .before .before .before .before .read .ensures) (c .before .before .before .before .before .start .ensures) (c .leave .ensures)
+    let t = c .before .before .before .before .before in
+    let a = t .before .before .before .before .before .before .before .args in
+    tells _ (λ (h : Held). start h (a .family) (a .n) (a .state .now) (a .time))
+    (t .before .before .read .ensures) (t .start .ensures) (c .leave .ensures)
 
 pub stabilized-start-spec : {M : Type 1} → statement M
 stabilized-start-spec =
