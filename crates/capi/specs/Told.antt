@@ -1,15 +1,13 @@
 -- The promises of the calls for C: answer, record and area are those of the definition, handed what the record means. `before` is the record as it was lent,
--- `given` the answer with the record as it was left (specs/Lent).
+-- `given` the answer with the record as it was left (lent/specs/Lent).
 use Prim.Native.Nat.{ℕ}
 use mathlib.Core.Path.{_≡_}
 use mathlib.Core.List.{List}
 use lib.Ieee.{Float}
 use Rattle.driver.specs.declared.Counters.{Counters}
-use Rattle.driver.specs.Calls.{Held, Called}
+use Rattle.driver.specs.Calls.{Held, Called, reply}
 use Rattle.driver.specs.Promises.{holding}
-use Rattle.capi.specs.declared.Record.{Record}
-use Rattle.capi.specs.declared.Outcome.{Outcome}
-use Rattle.capi.specs.Numbers.{meaning, in-numbers, handed-back}
+use Rattle.lent.specs.Numbers.{Record, Outcome, meaning, in-numbers, handed-back}
 
 -- what a call hands back and leaves, `adaptive` being the number that it brings or finds
 pub record Told (before : Record) (adaptive : ℕ) (promised : Called) (given : Outcome) (c : Counters) (left : List Float) : Type 0 where
@@ -27,3 +25,7 @@ Tells before adaptive call area given left = (c : Counters) → Told before adap
 -- and that brings no number for `adaptive`: the one that it finds stands
 abbrev pub Tells-on : Record → (Held → Called) → List Float → Outcome → List Float → Type 0
 Tells-on before = Tells before (before .arguments .adaptive)
+
+-- a reply, which finds its number for `adaptive` too, and counts
+abbrev pub Replies : Record → Counters → List Float → List Float → Outcome → Counters → List Float → Type 0
+Replies before c area derivative = Told before (before .arguments .adaptive) (reply (holding (meaning before) c area) derivative)

@@ -1,7 +1,6 @@
 -- `stabilized_abandon` meets its contract, as driver's call does.
-use mathlib.Core.Path.{_∙_}
 use Rattle.driver.specs.Calls.{abandon}
-use Rattle.capi.proofs.Telling.{tells, found}
+use Rattle.capi.proofs.Telling.{tells}
 use borrow.Author.Needs.{needs}
 use Rattle.capi.proofs.stabilized_abandon.Statement.{statement}
 use Rattle.capi.proofs.stabilized_abandon.Tie as tie
@@ -9,29 +8,17 @@ use Rattle.capi.proofs.stabilized_abandon.Tie as tie
 read-requires : tie.Need-read-requires
 read-requires c κs = search needs
 
-meaning-requires : tie.Need-meaning-requires
-meaning-requires c κs = search needs
-
 abandon-requires : tie.Need-abandon-requires
 abandon-requires c κs = search needs
-
-handed-back-requires : tie.Need-handed-back-requires
-handed-back-requires c κs = search needs
 
 leave-requires : tie.Need-leave-requires
 leave-requires c κs = search needs
 
 returns : tie.Need-returns
 returns c =
-    tells found (abandon) (c .before .before .before .before .before .before .before .read .ensures) (c .before .before .before .before .before .before .meaning .ensures) (c .before .before .before .before .before .abandon .ensures) (c .leave .ensures ∙ c .before .before .before .handed-back .ensures)
+    let t = c .before .before .before in
+    tells _ (abandon) (t .before .read .ensures) (t .abandon .ensures) (c .leave .ensures)
 
 pub stabilized-abandon-spec : {M : Type 1} → statement M
 stabilized-abandon-spec =
-    tie.close
-    (tie.spec
-    read-requires
-    meaning-requires
-    abandon-requires
-    handed-back-requires
-    leave-requires
-    returns)
+    tie.close (tie.spec read-requires abandon-requires leave-requires returns)

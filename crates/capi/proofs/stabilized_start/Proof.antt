@@ -1,7 +1,6 @@
 -- `stabilized_start` meets its contract, as driver's call does.
-use mathlib.Core.Path.{_∙_}
 use Rattle.driver.specs.Calls.{Held, start}
-use Rattle.capi.proofs.Telling.{tells, found}
+use Rattle.capi.proofs.Telling.{tells}
 use borrow.Author.Needs.{needs}
 use Rattle.capi.proofs.stabilized_start.Statement.{statement}
 use Rattle.capi.proofs.stabilized_start.Tie as tie
@@ -9,14 +8,8 @@ use Rattle.capi.proofs.stabilized_start.Tie as tie
 read-requires : tie.Need-read-requires
 read-requires c κs = search needs
 
-meaning-requires : tie.Need-meaning-requires
-meaning-requires c κs = search needs
-
 start-requires : tie.Need-start-requires
 start-requires c κs = search needs
-
-handed-back-requires : tie.Need-handed-back-requires
-handed-back-requires c κs = search needs
 
 leave-requires : tie.Need-leave-requires
 leave-requires c κs = search needs
@@ -26,17 +19,11 @@ same-length c = search needs
 
 returns : tie.Need-returns
 returns c =
-    let a = c .before .before .before .before .before .before .before .before .before .before .before .before .before .before .before .args in
-    tells found (λ (h : Held). start h (a .family) (a .n) (a .state .now) (a .time)) (c .before .before .before .before .before .before .before .before .before .before .read .ensures) (c .before .before .before .before .before .before .before .before .before .meaning .ensures) (c .before .before .before .before .before .before .before .start .ensures) (c .leave .ensures ∙ c .before .before .before .handed-back .ensures)
+    let t = c .before .before .before .before .before in
+    let a = t .before .before .before .before .before .before .before .args in
+    tells _ (λ (h : Held). start h (a .family) (a .n) (a .state .now) (a .time))
+    (t .before .before .read .ensures) (t .start .ensures) (c .leave .ensures)
 
 pub stabilized-start-spec : {M : Type 1} → statement M
 stabilized-start-spec =
-    tie.close
-    (tie.spec
-    read-requires
-    meaning-requires
-    start-requires
-    handed-back-requires
-    leave-requires
-    same-length
-    returns)
+    tie.close (tie.spec read-requires start-requires leave-requires same-length returns)

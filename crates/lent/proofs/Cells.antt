@@ -1,0 +1,84 @@
+-- What is written in place, of a record that is lent: `placed`, `ended`, `emptied`. From the lengths alone, since a list of known length is its elements.
+use mathlib.Core.Path.{_≡_, refl, sym, ap, subst, _∙_}
+use mathlib.Core.List.{List, [], _∷_}
+use Prim.Native.Nat.{ℕ, zero, suc}
+use lib.ListN.{length, getD, set}
+use lib.Ieee.{Float, nan}
+use Rattle.ieee.specs.Double.{nought}
+use Rattle.driver.specs.declared.Staging.{Staging}
+use Rattle.driver.specs.declared.Staged.the-variants.{On, Ended, NotFinite}
+use Rattle.driver.specs.Answers.{case-number, case-values}
+use Rattle.driver.specs.Calls.{in-phase, at-stage}
+use Rattle.driver.specs.Promises.{outcome-of}
+use Rattle.lent.specs.declared.Answer.{Answer}
+use Rattle.lent.specs.Lent.{wholes-long, doubles-long, lent, leaves, in-stages}
+use Rattle.lent.specs.Numbers.{brought, meaning, written, first-or, coded, in-numbers, stands, handed-back}
+
+-- ---- a list by its elements
+
+abbrev cells : {A : Type 0} → (ℕ → A) → ℕ → List A
+cells f zero = []
+cells f (suc n) = f zero ∷ cells (λ i. f (suc i)) n
+
+spelled : {A : Type 0} (d : A) (xs : List A) → xs ≡ cells (λ i. getD xs i d) (length xs)
+spelled d [] = refl
+spelled {A} d (x ∷ xs) = ap (λ (r : List A). x ∷ r) (spelled d xs)
+
+in-cells : {A : Type 0} (d : A) (xs : List A) (n : ℕ) → length xs ≡ n → cells (λ i. getD xs i d) n ≡ xs
+in-cells d xs n e = sym (spelled d xs ∙ ap (cells (λ i. getD xs i d)) e)
+
+-- ---- the position of the next stage, and its evaluation at this time
+
+module _ (t : Float) (g : Staging) where
+  abbrev asked : Answer
+  asked = record { code = 1; number = 4; value = t }
+
+  abbrev wholes-on : List ℕ → List ℕ
+  wholes-on w = set (set (set w 2 4) 5 (g .stages)) 6 (g .stage)
+
+  abbrev doubles-on : List Float → List Float
+  doubles-on x =
+      let c = g .recurrence in
+      let p = c .polynomials in
+      let after-one = set (set (set x 2 (p .«value_previous»)) 4 (p .«first_previous»)) 6 (p .«second_previous») in
+      let after-two = set (set (set after-one 8 (p .«value_previous_two»)) 10 (p .«first_previous_two»)) 12 (p .«second_previous_two») in
+      let after-three = set (set (set after-two 13 (p .«b_previous»)) 14 (p .«omega_one»)) 15 (c .«theta_previous») in
+      set (set after-three 16 (p .«b_previous_two»)) 17 (c .«theta_previous_two»)
+
+  abbrev Placed : List ℕ → List Float → Type 0
+  Placed w x = leaves asked (wholes-on w) (doubles-on x) ≡ in-stages (lent w x) (On t g)
+
+  placed-in-cells : (f : ℕ → ℕ) (h : ℕ → Float) → Placed (cells f wholes-long) (cells h doubles-long)
+  unfolding outcome-of handed-back stands coded first-or case-number case-values written at-stage meaning brought
+  placed-in-cells f h = refl
+
+  pub placed : (w : List ℕ) (x : List Float) → length w ≡ wholes-long → length x ≡ doubles-long
+      → leaves asked (wholes-on w) (doubles-on x) ≡ in-stages (lent w x) (On t g)
+  placed w x e f =
+      subst (λ (u : List ℕ). Placed u x) (in-cells 0 w wholes-long e)
+      (subst (λ (y : List Float). Placed (cells (λ i. getD w i 0) wholes-long) y) (in-cells nan x doubles-long f)
+      (placed-in-cells (λ i. getD w i 0) (λ i. getD x i nan)))
+
+-- ---- only the phase
+
+pub ended : (t : Float) (w : List ℕ) (x : List Float) → length w ≡ wholes-long
+    → leaves (record { code = 1; number = 10; value = t }) (set w 2 5) x ≡ in-stages (lent w x) (Ended t)
+unfolding outcome-of handed-back stands coded first-or case-number case-values written in-phase meaning brought
+ended t w x e = subst Ends (in-cells 0 w wholes-long e) (ends-in-cells (λ i. getD w i 0))
+  where
+    Ends : List ℕ → Type 0
+    Ends u = leaves (record { code = 1; number = 10; value = t }) (set u 2 5) x ≡ in-stages (lent u x) (Ended t)
+
+    ends-in-cells : (f : ℕ → ℕ) → Ends (cells f wholes-long)
+    ends-in-cells f = refl
+
+pub emptied : (w : List ℕ) (x : List Float) → length w ≡ wholes-long
+    → leaves (record { code = 4; number = 10; value = nought }) (set w 2 0) x ≡ in-stages (lent w x) NotFinite
+unfolding outcome-of handed-back stands coded first-or case-number case-values written in-phase meaning brought
+emptied w x e = subst Empties (in-cells 0 w wholes-long e) (empties-in-cells (λ i. getD w i 0))
+  where
+    Empties : List ℕ → Type 0
+    Empties u = leaves (record { code = 4; number = 10; value = nought }) (set u 2 0) x ≡ in-stages (lent u x) NotFinite
+
+    empties-in-cells : (f : ℕ → ℕ) → Empties (cells f wholes-long)
+    empties-in-cells f = refl

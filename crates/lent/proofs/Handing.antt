@@ -1,0 +1,29 @@
+-- What is handed back of a call: the record stands, or is written; and a reply to a stage's evaluation, by its case.
+use Prim.Native.Nat.{ℕ}
+use mathlib.Core.Path.{_≡_, sym, ap, _∙_}
+use mathlib.Core.Bool.{Bool, true, false, cond}
+use Rattle.driver.specs.declared.Record.{Record as Kept}
+use Rattle.driver.specs.declared.Staged.{Staged}
+use Rattle.lent.specs.declared.Answer.{Answer}
+use Rattle.lent.specs.Numbers.{Record, Outcome, written, stands, handed-back}
+use Rattle.lent.specs.Lent.{in-stages}
+
+abbrev with-record : Answer → Record → Outcome
+with-record a r = record { answer = a; «record» = r }
+
+by-test : (before : Record) (adaptive : ℕ) (after : Kept) {told a : Answer} {b : Bool} → told ≡ a → b ≡ stands told
+    → with-record told (cond b before (written adaptive after)) ≡ handed-back before adaptive a after
+unfolding handed-back
+by-test before adaptive after {told} e t =
+    ap (λ (x : Bool). with-record told (cond x before (written adaptive after))) t ∙ ap (λ (x : Answer). handed-back before adaptive x after) e
+
+pub stood : (before : Record) (adaptive : ℕ) (after : Kept) {told a : Answer} {b : Bool} → told ≡ a → b ≡ stands told → b ≡ true
+    → record { answer = told; «record» = before } ≡ handed-back before adaptive a after
+stood before adaptive after e t u = by-test before adaptive after e (sym u ∙ t)
+
+pub moved : (before : Record) (adaptive : ℕ) (after : Kept) {told a : Answer} {b : Bool} {r : Record} → told ≡ a → b ≡ stands told → b ≡ false
+    → r ≡ written adaptive after → record { answer = told; «record» = r } ≡ handed-back before adaptive a after
+moved before adaptive after {told} e t u w = ap (with-record told) w ∙ by-test before adaptive after e (sym u ∙ t)
+
+pub of-case : (before : Record) {x y : Staged} {given : Outcome} → x ≡ y → given ≡ in-stages before y → given ≡ in-stages before x
+of-case before e h = h ∙ ap (λ (v : Staged). in-stages before v) (sym e)

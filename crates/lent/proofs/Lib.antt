@@ -1,0 +1,4 @@
+pub mod Phases
+pub mod Standing
+pub mod Handing
+pub mod Cells

@@ -1,0 +1,91 @@
+-- Records and answers in plain numbers: what they mean, and how they are written. An answer is its case's number and what it carries, as document 01 has it.
+use Prim.Native.Nat.{ℕ}
+use mathlib.Core.Bool.{Bool, cond, not, _&&_}
+use mathlib.Core.List.{List, [], _∷_}
+use lib.Dec.{eqb}
+use lib.Ieee.{Float}
+use Rattle.ieee.specs.Double.{nought}
+use Rattle.workspace.specs.declared.Arguments.{Arguments as Brought}
+use Rattle.driver.specs.declared.Phase.{Phase}
+use Rattle.driver.specs.declared.Phase.the-variants as P
+use Rattle.driver.specs.declared.Iteration.{Iteration}
+use Rattle.driver.specs.declared.Staging.{Staging}
+use Rattle.driver.specs.declared.Record.{Record as Kept}
+use Rattle.driver.specs.declared.Answer.{Answer as Case}
+use Rattle.driver.specs.Calls.{phase-number}
+use Rattle.driver.specs.Answers.{Values, case-number, case-values}
+use Rattle.driver.specs.Numbers.{one-of, standing-numbers}
+use Rattle.lent.specs.declared.Answer.{Answer}
+
+-- ---- phases, by driver's numbers; any other number is a phase that only start leaves
+
+unfoldable pub phase-of : ℕ → Phase
+phase-of k =
+    cond (eqb k 1) P.First
+    (cond (eqb k 2) P.Ready
+    (cond (eqb k 3) P.Pass
+    (cond (eqb k 4) P.Stage
+    (cond (eqb k 5) P.Candidate
+    (cond (eqb k 6) P.Finished
+    (cond (eqb k 7) P.Callback P.Empty))))))
+
+-- ---- records
+
+-- what an attempt was given; `adaptive` is a no at 0, else a yes
+pub record Arguments : Type 0 where
+  pub time : Float
+  pub step : Float
+  pub «absolute_tolerance» : Float
+  pub «relative_tolerance» : Float
+  pub adaptive : ℕ
+
+pub record Record : Type 0 where
+  pub family : ℕ
+  pub n : ℕ
+  pub phase : ℕ
+  pub arguments : Arguments
+  pub iteration : Iteration
+  pub staging : Staging
+
+unfoldable pub brought : Float → Float → Float → Float → ℕ → Brought
+brought t h absolute relative adaptive = record { time = t; step = h; «absolute_tolerance» = absolute; «relative_tolerance» = relative; adaptive = not (eqb adaptive 0) }
+
+abbrev pub as-brought : Arguments → Brought
+as-brought a = brought (a .time) (a .step) (a .«absolute_tolerance») (a .«relative_tolerance») (a .adaptive)
+
+unfoldable pub meaning : Record → Kept
+meaning r =
+    let a = as-brought (r .arguments) in
+    record { family = r .family; n = r .n; phase = phase-of (r .phase); arguments = a; iteration = r .iteration; staging = r .staging }
+
+-- with the number that was brought for `adaptive`
+unfoldable pub written : ℕ → Kept → Record
+written adaptive r =
+    let b = r .arguments in
+    let a : Arguments = record { time = b .time; step = b .step; «absolute_tolerance» = b .«absolute_tolerance»; «relative_tolerance» = b .«relative_tolerance»; adaptive = adaptive } in
+    record { family = r .family; n = r .n; phase = phase-number (r .phase); arguments = a; iteration = r .iteration; staging = r .staging }
+
+-- ---- answers
+
+unfoldable pub first-or : {A : Type 0} → A → List A → A
+first-or none [] = none
+first-or none (x ∷ xs) = x
+
+unfoldable pub coded : ℕ → Values → Answer
+coded code carried = record { code = code; number = first-or 0 (carried .numbers); value = first-or nought (carried .doubles) }
+
+abbrev pub in-numbers : Case → Answer
+in-numbers a = coded (case-number a) (case-values a)
+
+-- turned away with a number at which everything stands: the record stands, whatever its numbers
+unfoldable pub stands : Answer → Bool
+stands a = eqb (a .code) 4 && one-of standing-numbers (a .number)
+
+-- an answer, and the record with it
+pub record Outcome : Type 0 where
+  pub answer : Answer
+  pub «record» : Record
+
+-- what a call hands back, from the record before it, the number brought for `adaptive`, the answer and the record after it
+unfoldable pub handed-back : Record → ℕ → Answer → Kept → Outcome
+handed-back before adaptive a after = record { answer = a; «record» = cond (stands a) before (written adaptive after) }
