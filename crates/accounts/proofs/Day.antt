@@ -19,7 +19,7 @@ use Rattle.sheet.specs.Text.{minutes-a-day}
 use Rattle.sheet.proofs.Soundness.{day-minutes}
 use Rattle.inverter.specs.declared.Total.{Total}
 use Rattle.inverter.specs.declared.DayResult.the-variants.{Day}
-use Rattle.inverter.specs.Day.{one-if, taken, upcoming, finished, junction, is-above, refusal, counted, end-of, So-far, held, with-minute, run, no-count, outset, first-area, total-of, total, reported, day, Reports}
+use Rattle.inverter.specs.Day.{one-if, whole-minute, upcoming, finished, junction, is-above, refusal, count-after, end-of, So-far, held, with-minute, run, no-count, outset, first-area, total-of, total, reported, day, Reports}
 use Rattle.inverter.proofs.Run.{one-most}
 use Rattle.accounts.specs.Accounts.{Acceptable, Ended, Completed, Given-up, Kept-out, listed, Rising, Numbered, Accounts}
 use Rattle.accounts.proofs.Minute.{minute-ended}
@@ -49,7 +49,7 @@ above-none f b e = ap (λ (x : Bool). one-if (x && b)) e
 with-finished : (m : Inverter) (k : ℕ) (c : Called) (t : So-far) → refusal (c .answer) ≡ 0
     → c .held .counters .«finished_attempts» ≡ t .count .counters .«finished_attempts» + 1 → Acceptable (c .held)
     → After k t → After (k + 1) (with-minute m c t)
-unfolding with-minute counted is-above
+unfolding with-minute count-after is-above
 with-finished m k c t z n o a =
     let x = refusal (c .answer) in
     let temperature = junction m (c .held .kept .phase) (c .held .area) in
@@ -70,7 +70,7 @@ with-finished m k c t z n o a =
 with-refused : (m : Inverter) (k : ℕ) (c : Called) (t : So-far) → finished (c .answer) ≡ false → refusal (c .answer) ∈ refusal-numbers
     → c .held .counters .«finished_attempts» ≡ t .count .counters .«finished_attempts» → Acceptable (c .held)
     → After k t → After (k + 1) (with-minute m c t)
-unfolding with-minute counted is-above
+unfolding with-minute count-after is-above
 with-refused m k c t f l n o a =
     let x = refusal (c .answer) in
     let temperature = junction m (c .held .kept .phase) (c .held .area) in
@@ -103,7 +103,7 @@ run-after : (m : Inverter) (minute k : ℕ) (readings : List Float) (t : So-far)
 unfolding run
 run-after m minute k [] t a = let e : k ≡ k + 0 = omega arith in subst (λ (j : ℕ). After j t) e a
 run-after m minute k (reading ∷ readings) t a =
-    let c = taken m minute reading (upcoming reading readings) (held t) in
+    let c = whole-minute m minute reading (upcoming reading readings) (held t) in
     let e : k + 1 + length readings ≡ k + suc (length readings) = omega arith in
     let end = minute-ended m minute reading (upcoming reading readings) (held t) (a .acceptable) in
     subst (λ (j : ℕ). After j (run m (minute + 1) readings (with-minute m c t))) e

@@ -17,7 +17,7 @@ use Rattle.sheet.specs.Text as Text
 use Rattle.inverter.specs.declared.Total.{Total}
 use Rattle.inverter.specs.declared.DayResult.{DayResult}
 use Rattle.inverter.specs.declared.DayResult.the-variants.{Day}
-use Rattle.inverter.specs.Day.{taken, upcoming, junction, refusal, counted, So-far, held, with-minute, run, no-count, outset, first-area, total-of, total, reported, day, Reports}
+use Rattle.inverter.specs.Day.{whole-minute, upcoming, junction, refusal, count-after, So-far, held, with-minute, run, no-count, outset, first-area, total-of, total, reported, day, Reports}
 use Rattle.inverter.specs.Finite.{kept-out}
 use Rattle.inverter.proofs.Finite.{kept-out-minute, left-by-finite, above-by-finite}
 use Rattle.accounts.specs.Accounts.{engine-alone, Keeps-out}
@@ -29,7 +29,7 @@ module _ (m : Inverter) where
   unfolding run with-minute
   number-stays minute [] t j h = refl
   number-stays minute (reading ∷ readings) t j h =
-      let c = taken m minute reading (upcoming reading readings) (held t) in
+      let c = whole-minute m minute reading (upcoming reading readings) (held t) in
       let k = refusal (c .answer) in
       number-stays (minute + 1) readings (with-minute m c t) j (omega (arith, length-append (t .refusals) (k ∷ [])))
       ∙ List·getD-append (t .refusals) (k ∷ []) 0 j h
@@ -39,7 +39,7 @@ module _ (m : Inverter) where
   unfolding run with-minute
   junction-stays minute [] t j h = refl
   junction-stays minute (reading ∷ readings) t j h =
-      let c = taken m minute reading (upcoming reading readings) (held t) in
+      let c = whole-minute m minute reading (upcoming reading readings) (held t) in
       let x = junction m (c .held .kept .phase) (c .held .area) in
       junction-stays (minute + 1) readings (with-minute m c t) j (omega (arith, length-append (t .junctions) (x ∷ [])))
       ∙ List·getD-append (t .junctions) (x ∷ []) nan j h
@@ -56,7 +56,7 @@ module _ (m : Inverter) where
       ∙ ap (λ (k : ℕ). getD (t .refusals ++ (9 ∷ [])) k 0) there
       ∙ getD-append-seam (t .refusals) 9 [] 0
   number-there minute (reading ∷ readings) t (suc i) p q h e =
-      let c = taken m minute reading (upcoming reading readings) (held t) in
+      let c = whole-minute m minute reading (upcoming reading readings) (held t) in
       let u = with-minute m c t in
       let place : p ≡ length (u .refusals) + i = omega (arith, q, length-append (t .refusals) (refusal (c .answer) ∷ [])) in
       number-there (minute + 1) readings u i p place (le-of-suc-le-suc h) e
@@ -83,18 +83,18 @@ module _ (m : Inverter) where
   -- the junction of minute i + 1 from here on
   junction-there : (minute : ℕ) (readings : List Float) (t : So-far) (i p : ℕ) → p ≡ length (t .junctions) + i → i + 1 < length readings
       → finite (getD readings (i + 1) nan) ≡ false → getD (run m minute readings t .junctions) (p + 1) nan ≡ getD (run m minute readings t .junctions) p nan
-  unfolding run with-minute counted kept-out
+  unfolding run with-minute count-after kept-out
   junction-there minute [] t i p q h e = absurd (omega arith)
   junction-there minute (reading ∷ []) t i p q h e = absurd (omega arith)
   junction-there minute (reading ∷ next ∷ readings) t zero p q h e =
-      let c = taken m minute reading (upcoming reading (next ∷ readings)) (held t) in
+      let c = whole-minute m minute reading (upcoming reading (next ∷ readings)) (held t) in
       let u = with-minute m c t in
       let x = junction m (c .held .kept .phase) (c .held .area) in
       subst (λ (v : So-far). getD (run m (minute + 1 + 1) readings v .junctions) (p + 1) nan ≡ getD (run m (minute + 1 + 1) readings v .junctions) p nan)
       (sym (kept-out-minute m (minute + 1) next (upcoming next readings) u e))
       (twice (minute + 1 + 1) readings (kept-out m u) p (t .junctions) x (omega (arith, q)) refl)
   junction-there minute (reading ∷ next ∷ readings) t (suc i) p q h e =
-      let c = taken m minute reading (upcoming reading (next ∷ readings)) (held t) in
+      let c = whole-minute m minute reading (upcoming reading (next ∷ readings)) (held t) in
       let x = junction m (c .held .kept .phase) (c .held .area) in
       let later : suc i + 1 ≡ suc (i + 1) = omega arith in
       let bad = subst (λ (k : ℕ). finite (getD (reading ∷ next ∷ readings) k nan) ≡ false) later e in

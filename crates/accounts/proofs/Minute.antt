@@ -37,7 +37,7 @@ use Rattle.session.proofs.Needs.{Needed, need-holds}
 use Rattle.session.proofs.Guards.{low, low-fails}
 use Rattle.session.proofs.Lengths.{Long-in, whole-pack, long-area, replied-long}
 use Rattle.heat_sink.specs.declared.Inverter.{Inverter}
-use Rattle.inverter.specs.Day.{time-of, called, begun, go-on, next, driven, most-calls, passed, taken, finished, refusal}
+use Rattle.inverter.specs.Day.{time-of, called, begun, go-on, next, driven, most-calls, passed, whole-minute, finished, refusal}
 use Rattle.inverter.specs.Day as day
 use Rattle.inverter.proofs.Ends.{ends}
 use Rattle.accounts.specs.Accounts.{Acceptable, Ended, Completed, Given-up, Kept-out}
@@ -206,9 +206,9 @@ module _ (m : Inverter) (minute : ℕ) where
     driven-stands n (suc k) c s = driven-stands n k (next m minute reading upcoming c) (on n (c .answer) (c .held) s)
 
     -- the last answer, which asks for no call
-    last : (h : Held) (c : Called) (a : Answer) → finite reading ≡ true → c .answer ≡ a → day.settled a ≡ true
+    last : (h : Held) (c : Called) (a : Answer) → finite reading ≡ true → c .answer ≡ a → day.asks-nothing a ≡ true
         → Stand (h .counters .«finished_attempts») a (c .held) → Ended reading h c × Acceptable (c .held)
-    unfolding Stand day.settled finished refusal
+    unfolding Stand day.asks-nothing finished refusal
     last h c (Evaluate time vector) r e g s = absurd (false≢true g)
     last h c (Finished figures) r e g s = (Completed r (ap finished e) (ap refusal e) (s .1) (s .0), λ q. s .2)
     last h c Ready r e g s = absurd (false≢true g)
@@ -218,8 +218,8 @@ module _ (m : Inverter) (minute : ℕ) where
     last h c Empty r e g s = absurd s
 
     -- from what can be accepted if it is finished, and so again
-    pub minute-ended : (h : Held) → Acceptable h → Ended reading h (taken m minute reading upcoming h) × Acceptable (taken m minute reading upcoming h .held)
-    unfolding taken passed
+    pub minute-ended : (h : Held) → Acceptable h → Ended reading h (whole-minute m minute reading upcoming h) × Acceptable (whole-minute m minute reading upcoming h .held)
+    unfolding whole-minute passed
     minute-ended h o = go (finite reading) refl
       where
         go : (b : Bool) → finite reading ≡ b

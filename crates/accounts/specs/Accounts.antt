@@ -39,25 +39,25 @@ pub data Ended (reading : Float) (h : Held) (end : Called) : Type 0 where
 -- ---- the refused minutes
 
 -- a refused minute, counted from 0, and the number that it was refused with
-pub record Entry : Type 0 where
+pub record Refused-minute : Type 0 where
   pub minute : ℕ
   pub number : ℕ
 
-abbrev pub entry : ℕ → ℕ → Entry
-entry minute number = record { minute = minute; number = number }
+abbrev pub refused-minute : ℕ → ℕ → Refused-minute
+refused-minute minute number = record { minute = minute; number = number }
 
 -- those among the numbers of the minutes from this one on, in their order (0 is the number of a minute that is not refused)
-unfoldable pub listed : ℕ → List ℕ → List Entry
+unfoldable pub listed : ℕ → List ℕ → List Refused-minute
 listed minute [] = []
-listed minute (number ∷ numbers) = cond (eqb number 0) (listed (minute + 1) numbers) (entry minute number ∷ listed (minute + 1) numbers)
+listed minute (number ∷ numbers) = cond (eqb number 0) (listed (minute + 1) numbers) (refused-minute minute number ∷ listed (minute + 1) numbers)
 
 -- the minutes rise strictly; the first is not before `from`, the last is before `to`
-unfoldable pub Rising : ℕ → ℕ → List Entry → Type 0
+unfoldable pub Rising : ℕ → ℕ → List Refused-minute → Type 0
 Rising from to [] = from ≤ to
 Rising from to (e ∷ es) = (from ≤ e .minute) × Rising (e .minute + 1) to es
 
 -- each has a number of the table of refusals
-unfoldable pub Numbered : List Entry → Type 0
+unfoldable pub Numbered : List Refused-minute → Type 0
 Numbered [] = Unit
 Numbered (e ∷ es) = (e .number ∈ refusal-numbers) × Numbered es
 

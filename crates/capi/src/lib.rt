@@ -6,7 +6,7 @@ ghost use Rattle.driver.specs.Calls as calls;
 ghost use Rattle.driver.specs.Promises.{stage-taken};
 ghost use Rattle.lent.specs.Numbers as numbers;
 ghost use Rattle.lent.specs.Lent.{lent, place-of, leaves};
-ghost use Rattle.capi.specs.Told.{Tells, Tells-on, Replies, counting};
+ghost use Rattle.capi.specs.Promises.{Keeps-lent, Keeps-as-found, Replies, counting};
 use driver::Counters;
 use driver::Next;
 use lent::Answer;
@@ -23,7 +23,7 @@ pub extern "C" fn stabilized_start(
     state: &[f64],
     time: f64,
 ) -> Answer
-    ensures { λ r. ⌜ Tells-on (lent (now (wholes .entry)) (now (doubles .entry))) (λ h. calls.start h family n (now (state .entry)) time) (now (area .entry)) (leaves r (now (wholes .exit)) (now (doubles .exit))) (now (area .exit)) ⌝ }
+    ensures { λ r. ⌜ Keeps-as-found (lent (now (wholes .entry)) (now (doubles .entry))) (λ h. calls.start h family n (now (state .entry)) time) (now (area .entry)) (leaves r (now (wholes .exit)) (now (doubles .exit))) (now (area .exit)) ⌝ }
 {
     let kept = lent::read(wholes, doubles);
     let next = driver::start(kept, area, family, n as usize, state, time);
@@ -41,7 +41,7 @@ pub extern "C" fn stabilized_attempt(
     relative_tolerance: f64,
     adaptive: u64,
 ) -> Answer
-    ensures { λ r. ⌜ Tells (lent (now (wholes .entry)) (now (doubles .entry))) adaptive (λ h. calls.attempt h (numbers.brought time step «absolute_tolerance» «relative_tolerance» adaptive)) (now (area .entry)) (leaves r (now (wholes .exit)) (now (doubles .exit))) (now (area .exit)) ⌝ }
+    ensures { λ r. ⌜ Keeps-lent (lent (now (wholes .entry)) (now (doubles .entry))) adaptive (λ h. calls.attempt h (numbers.brought time step «absolute_tolerance» «relative_tolerance» adaptive)) (now (area .entry)) (leaves r (now (wholes .exit)) (now (doubles .exit))) (now (area .exit)) ⌝ }
 {
     let kept = lent::read(wholes, doubles);
     let arguments = lent::brought(time, step, absolute_tolerance, relative_tolerance, adaptive);
@@ -139,7 +139,7 @@ pub extern "C" fn stabilized_accept(
     doubles: &mut [f64; DOUBLES],
     area: &mut [f64],
 ) -> Answer
-    ensures { λ r. ⌜ Tells-on (lent (now (wholes .entry)) (now (doubles .entry))) calls.accept (now (area .entry)) (leaves r (now (wholes .exit)) (now (doubles .exit))) (now (area .exit)) ⌝ }
+    ensures { λ r. ⌜ Keeps-as-found (lent (now (wholes .entry)) (now (doubles .entry))) calls.accept (now (area .entry)) (leaves r (now (wholes .exit)) (now (doubles .exit))) (now (area .exit)) ⌝ }
 {
     let kept = lent::read(wholes, doubles);
     let next = driver::accept(kept, area);
@@ -154,7 +154,7 @@ pub extern "C" fn stabilized_accept_with_callback(
     state: &[f64],
     time: f64,
 ) -> Answer
-    ensures { λ r. ⌜ Tells-on (lent (now (wholes .entry)) (now (doubles .entry))) (λ h. calls.accept-with-callback h (now (state .entry)) time) (now (area .entry)) (leaves r (now (wholes .exit)) (now (doubles .exit))) (now (area .exit)) ⌝ }
+    ensures { λ r. ⌜ Keeps-as-found (lent (now (wholes .entry)) (now (doubles .entry))) (λ h. calls.accept-with-callback h (now (state .entry)) time) (now (area .entry)) (leaves r (now (wholes .exit)) (now (doubles .exit))) (now (area .exit)) ⌝ }
 {
     let kept = lent::read(wholes, doubles);
     let next = driver::accept_with_callback(kept, area, state, time);
@@ -167,7 +167,7 @@ pub extern "C" fn stabilized_abandon(
     doubles: &mut [f64; DOUBLES],
     area: &[f64],
 ) -> Answer
-    ensures { λ r. ⌜ Tells-on (lent (now (wholes .entry)) (now (doubles .entry))) calls.abandon (now (area .entry)) (leaves r (now (wholes .exit)) (now (doubles .exit))) (now (area .entry)) ⌝ }
+    ensures { λ r. ⌜ Keeps-as-found (lent (now (wholes .entry)) (now (doubles .entry))) calls.abandon (now (area .entry)) (leaves r (now (wholes .exit)) (now (doubles .exit))) (now (area .entry)) ⌝ }
 {
     let kept = lent::read(wholes, doubles);
     let next = driver::abandon(kept, area);

@@ -75,7 +75,7 @@ fn intervals() -> Tally {
     let mut t = Tally { seen: 0, differ: 0 };
     let mut s: u64 = 2;
     while s <= 200 {
-        t = stored::counted(t, interval_agrees(s));
+        t = stored::tallied(t, interval_agrees(s));
         s += 1;
     }
     t
@@ -100,7 +100,7 @@ fn times_of(s: u64, before: Tally) -> Tally
     let mut j: u64 = 2;
     while j <= s {
         let row = coefficients::row_coefficients(Setting { family: 1 }, s, j, c);
-        t = stored::counted(t, time_agrees(s, j, row.theta));
+        t = stored::tallied(t, time_agrees(s, j, row.theta));
         c = coefficients::next_recurrence(Setting { family: 1 }, s, c, row);
         j += 1;
     }
@@ -139,7 +139,7 @@ fn reaches() -> Tally {
     let mut t = Tally { seen: 0, differ: 0 };
     let mut s: u64 = 3;
     while s <= 199 {
-        t = stored::counted(t, reach_agrees(s));
+        t = stored::tallied(t, reach_agrees(s));
         s += 2;
     }
     t

@@ -16,7 +16,7 @@ fn print_number(name: &[u8], number: u64) {
     io::print_decimal(STDOUT_FILENO, number);
 }
 
-fn entry(area: &[f64], i: usize) -> f64 {
+fn value_at(area: &[f64], i: usize) -> f64 {
     if i < area.len() { area[i] } else { 0.0 }
 }
 
@@ -25,11 +25,11 @@ fn print_answer(answer: Answer, area: &[f64]) {
         Answer::Evaluate { time, vector } => {
             print_number(b"evaluate vector ", vector as u64);
             print_bits(b" at ", time);
-            print_bits(b", point ", entry(area, vector));
+            print_bits(b", point ", value_at(area, vector));
         }
         Answer::Finished(figures) => {
             print_bits(b"finished, norm ", figures.norm);
-            print_bits(b", candidate ", entry(area, workspace::CANDIDATE));
+            print_bits(b", candidate ", value_at(area, workspace::CANDIDATE));
         }
         Answer::Ready => {
             io::write_all(STDOUT_FILENO, b"ready");

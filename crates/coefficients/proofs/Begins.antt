@@ -4,14 +4,14 @@ use mathlib.Core.List.{List, [], _∷_}
 use Prim.Native.Nat.{ℕ, zero, suc, _+_, _*_}
 use native.Mathlib.Omega.{arith}
 use Rattle.fractions.specs.Frac.{Frac, _⊕_, _⊗_, _⊖_, _≈_, frac}
-use Rattle.fractions.specs.Lists.{entry, _⊞_, _·_}
+use Rattle.fractions.specs.Lists.{nth, _⊞_, _·_}
 use Rattle.fractions.specs.Polynomial.{times-variable}
 use Rattle.fractions.proofs.Ring.{var, _:+_, _:*_, _:-_, neg}
 use Rattle.fractions.proofs.FracLaws.{ring, ≈-refl, ≈-sym, ⊕-cong, ⊗-cong}
 use Rattle.fractions.proofs.Combine.{_▹_, 0#, 1#, 0ₑ, 1ₑ, given, combine}
 use Rattle.fractions.proofs.Values.{nat, nat-+, nat-*, nat-is, cancel-nat, Is, is-nat, is-nat≡, is-frac, is-*, is-same}
 use Rattle.fractions.proofs.NatRing.{Nat, vₙ, cₙ, sₙ, _+ₙ_, _*ₙ_, ℕ-ring}
-use Rattle.fractions.proofs.ListLaws.{entry-⊞, entry-·}
+use Rattle.fractions.proofs.ListLaws.{nth-⊞, nth-·}
 use Rattle.family.specs.Family.{Orthogonal, Legendre1, Legendre2, Gegenbauer1, Gegenbauer2}
 use Rattle.coefficients.specs.Paper.{omega-one, mu, nu, mu-tilde, gamma-tilde, first-mu-tilde}
 use Rattle.coefficients.specs.Exact.{row, stage, multiplier}
@@ -23,15 +23,15 @@ module _ (f : Orthogonal) (t : ℕ) where
   poly j = stage times-variable f t (1# ∷ []) j
 
   abbrev at : ℕ → ℕ → Frac
-  at j k = entry (poly j) k
+  at j k = nth (poly j) k
 
   -- what z multiplies in the row of stage i + 2
   tail : ℕ → List Frac
   tail i = mu-tilde f t (suc (suc i)) · poly (suc i) ⊞ gamma-tilde f t (suc (suc i)) · (1# ∷ [])
 
-  row-at : (i k : ℕ) → let j = suc (suc i) in at j k ≈ mu f j ⊗ at (suc i) k ⊕ nu f j ⊗ at i k ⊕ (1# ⊖ mu f j ⊖ nu f j) ⊗ entry (1# ∷ []) k ⊕ entry (0# ∷ tail i) k
+  row-at : (i k : ℕ) → let j = suc (suc i) in at j k ≈ mu f j ⊗ at (suc i) k ⊕ nu f j ⊗ at i k ⊕ (1# ⊖ mu f j ⊖ nu f j) ⊗ nth (1# ∷ []) k ⊕ nth (0# ∷ tail i) k
   unfolding stage row tail times-variable
-  row-at i k = entry-⊞ (A ⊞ B ⊞ C) (0# ∷ tail i) k ▹ ⊕-cong (entry-⊞ (A ⊞ B) C k ▹ ⊕-cong (entry-⊞ A B k ▹ ⊕-cong (entry-· (mu f j) (poly (suc i)) k) (entry-· (nu f j) (poly i) k)) (entry-· _ (1# ∷ []) k)) (≈-refl _)
+  row-at i k = nth-⊞ (A ⊞ B ⊞ C) (0# ∷ tail i) k ▹ ⊕-cong (nth-⊞ (A ⊞ B) C k ▹ ⊕-cong (nth-⊞ A B k ▹ ⊕-cong (nth-· (mu f j) (poly (suc i)) k) (nth-· (nu f j) (poly i) k)) (nth-· _ (1# ∷ []) k)) (≈-refl _)
     where
       j : ℕ
       j = suc (suc i)
@@ -45,12 +45,12 @@ module _ (f : Orthogonal) (t : ℕ) where
       C : List Frac
       C = (1# ⊖ mu f j ⊖ nu f j) · (1# ∷ [])
 
-  tail-at : (i k : ℕ) → let j = suc (suc i) in entry (tail i) k ≈ omega-one f t ⊗ mu f j ⊗ at (suc i) k ⊕ gamma-tilde f t j ⊗ entry (1# ∷ []) k
+  tail-at : (i k : ℕ) → let j = suc (suc i) in nth (tail i) k ≈ omega-one f t ⊗ mu f j ⊗ at (suc i) k ⊕ gamma-tilde f t j ⊗ nth (1# ∷ []) k
   unfolding tail mu-tilde
-  tail-at i k = entry-⊞ (mu-tilde f t (suc (suc i)) · poly (suc i)) (gamma-tilde f t (suc (suc i)) · (1# ∷ [])) k ▹ ⊕-cong (entry-· _ (poly (suc i)) k) (entry-· _ (1# ∷ []) k)
+  tail-at i k = nth-⊞ (mu-tilde f t (suc (suc i)) · poly (suc i)) (gamma-tilde f t (suc (suc i)) · (1# ∷ [])) k ▹ ⊕-cong (nth-· _ (poly (suc i)) k) (nth-· _ (1# ∷ []) k)
 
   zeroth-step : (i : ℕ) → at (suc i) 0 ≈ 1# → at i 0 ≈ 1# → at (suc (suc i)) 0 ≈ 1#
-  unfolding entry
+  unfolding nth
   zeroth-step i h k = combine (mu f (suc (suc i)) ∷ nu f (suc (suc i)) ∷ at (suc i) 0 ∷ at i 0 ∷ at (suc (suc i)) 0 ∷ [])
       (var 4) 1ₑ
       (given 1ₑ (var 4) (var 0 :* var 2 :+ var 1 :* var 3 :+ (1ₑ :- var 0 :- var 1) :* 1ₑ :+ 0ₑ) (row-at i 0)
@@ -59,7 +59,7 @@ module _ (f : Orthogonal) (t : ℕ) where
       ∷ []) tt
 
   zeroth : (j : ℕ) → at j 0 ≈ 1#
-  unfolding stage entry times-variable _⊞_ _·_
+  unfolding stage nth times-variable _⊞_ _·_
   zeroth zero = ≈-refl 1#
   zeroth (suc zero) = ring (first-mu-tilde f t ∷ []) (1ₑ :+ var 0 :* 0ₑ) 1ₑ tt
   zeroth (suc (suc i)) = zeroth-step i (zeroth (suc i)) (zeroth i)
@@ -111,12 +111,12 @@ module _ (f : Orthogonal) (t : ℕ) where
   Second j = nat (L * K1) ⊗ at f t j 2 ≈ b-hat f j ⊗ (omega-one f t ⊗ omega-one f t ⊗ nat (n2 e j))
 
   first-step : (i : ℕ) → First (suc i) → First i → α e i ⊗ (nat K1 ⊗ at f t (suc (suc i)) 1) ≈ α e i ⊗ (b-hat f (suc (suc i)) ⊗ (omega-one f t ⊗ nat (n1 e (suc (suc i)))))
-  unfolding entry
+  unfolding nth
   first-step i h k =
       let A = var 0 in let B = var 1 in let K = var 2 in let m = var 3 in let n = var 4 in let B0 = var 5 in let B1 = var 6 in let B2 = var 7 in
       let w = var 8 in let c1 = var 9 in let c0 = var 10 in let c2 = var 11 in let z1 = var 12 in let g = var 13 in let N0 = var 14 in let N1 = var 15 in
       let N2 = var 16 in let NK = var 17 in let T = var 18 in
-      combine (α e i ∷ β e i ∷ nat K1 ∷ mu f j ∷ nu f j ∷ b-hat f i ∷ b-hat f (suc i) ∷ b-hat f j ∷ ω ∷ at f t (suc i) 1 ∷ at f t i 1 ∷ at f t j 1 ∷ at f t (suc i) 0 ∷ gamma-tilde f t j ∷ nat (n1 e i) ∷ nat (n1 e (suc i)) ∷ nat (n1 e j) ∷ nat (n1 e (suc i) + K1) ∷ entry (tail f t i) 0 ∷ [])
+      combine (α e i ∷ β e i ∷ nat K1 ∷ mu f j ∷ nu f j ∷ b-hat f i ∷ b-hat f (suc i) ∷ b-hat f j ∷ ω ∷ at f t (suc i) 1 ∷ at f t i 1 ∷ at f t j 1 ∷ at f t (suc i) 0 ∷ gamma-tilde f t j ∷ nat (n1 e i) ∷ nat (n1 e (suc i)) ∷ nat (n1 e j) ∷ nat (n1 e (suc i) + K1) ∷ nth (tail f t i) 0 ∷ [])
       (A :* (K :* c2)) (A :* (B2 :* (w :* N2)))
       (given (A :* K) c2 (m :* c1 :+ n :* c0 :+ (1ₑ :- m :- n) :* 0ₑ :+ T) (row-at f t i 1)
       ∷ given (A :* K) T (w :* m :* z1 :+ g :* 1ₑ) (tail-at f t i 0)
@@ -137,7 +137,7 @@ module _ (f : Orthogonal) (t : ℕ) where
       ω = omega-one f t
 
   pub first : (j : ℕ) → First j
-  unfolding stage entry times-variable _⊞_ _·_
+  unfolding stage nth times-variable _⊞_ _·_
   first zero = ring (nat K1 ∷ b-hat f 0 ∷ omega-one f t ∷ []) (var 0 :* 0ₑ) (var 1 :* (var 2 :* 0ₑ)) tt
   first (suc zero) = combine (nat K1 ∷ b-hat f 1 ∷ omega-one f t ∷ first-mu-tilde f t ∷ nat (n1 e 1) ∷ [])
       (var 0 :* (var 3 :* 1ₑ)) (var 1 :* (var 2 :* var 4))
@@ -147,12 +147,12 @@ module _ (f : Orthogonal) (t : ℕ) where
   first (suc (suc i)) = cancel-nat (suc (suc (i + e))) (omega arith) (first-step i (first (suc i)) (first i))
 
   second-step : (i : ℕ) → Second (suc i) → Second i → α e i ⊗ (nat (L * K1) ⊗ at f t (suc (suc i)) 2) ≈ α e i ⊗ (b-hat f (suc (suc i)) ⊗ (omega-one f t ⊗ omega-one f t ⊗ nat (n2 e (suc (suc i)))))
-  unfolding entry
+  unfolding nth
   second-step i h k =
       let A = var 0 in let B = var 1 in let K = var 2 in let m = var 3 in let n = var 4 in let B0 = var 5 in let B1 = var 6 in let B2 = var 7 in
       let w = var 8 in let c1 = var 9 in let c0 = var 10 in let c2 = var 11 in let N0 = var 12 in let N1 = var 13 in let N2 = var 14 in let NK = var 15 in
       let T = var 16 in let d1 = var 17 in let l = var 18 in let k1 = var 19 in let M1 = var 20 in let LM = var 21 in let g = var 22 in
-      combine (α e i ∷ β e i ∷ nat (L * K1) ∷ mu f j ∷ nu f j ∷ b-hat f i ∷ b-hat f (suc i) ∷ b-hat f j ∷ ω ∷ at f t (suc i) 2 ∷ at f t i 2 ∷ at f t j 2 ∷ nat (n2 e i) ∷ nat (n2 e (suc i)) ∷ nat (n2 e j) ∷ nat (n2 e (suc i) + L * n1 e (suc i)) ∷ entry (tail f t i) 1 ∷ at f t (suc i) 1 ∷ nat L ∷ nat K1 ∷ nat (n1 e (suc i)) ∷ nat (L * n1 e (suc i)) ∷ gamma-tilde f t j ∷ [])
+      combine (α e i ∷ β e i ∷ nat (L * K1) ∷ mu f j ∷ nu f j ∷ b-hat f i ∷ b-hat f (suc i) ∷ b-hat f j ∷ ω ∷ at f t (suc i) 2 ∷ at f t i 2 ∷ at f t j 2 ∷ nat (n2 e i) ∷ nat (n2 e (suc i)) ∷ nat (n2 e j) ∷ nat (n2 e (suc i) + L * n1 e (suc i)) ∷ nth (tail f t i) 1 ∷ at f t (suc i) 1 ∷ nat L ∷ nat K1 ∷ nat (n1 e (suc i)) ∷ nat (L * n1 e (suc i)) ∷ gamma-tilde f t j ∷ [])
       (A :* (K :* c2)) (A :* (B2 :* (w :* w :* N2)))
       (given (A :* K) c2 (m :* c1 :+ n :* c0 :+ (1ₑ :- m :- n) :* 0ₑ :+ T) (row-at f t i 2)
       ∷ given (A :* K) T (w :* m :* d1 :+ g :* 0ₑ) (tail-at f t i 1)
@@ -174,7 +174,7 @@ module _ (f : Orthogonal) (t : ℕ) where
       ω = omega-one f t
 
   pub second : (j : ℕ) → Second j
-  unfolding stage entry times-variable _⊞_ _·_
+  unfolding stage nth times-variable _⊞_ _·_
   second zero = ring (nat (L * K1) ∷ b-hat f 0 ∷ omega-one f t ∷ []) (var 0 :* 0ₑ) (var 1 :* (var 2 :* var 2 :* 0ₑ)) tt
   second (suc zero) = combine (nat (L * K1) ∷ b-hat f 1 ∷ omega-one f t ∷ nat (n2 e 1) ∷ [])
       (var 0 :* 0ₑ) (var 1 :* (var 2 :* var 2 :* var 3))
@@ -208,18 +208,18 @@ second-G2 i = is-same (is-* (b-hat-G2 i) (is-* (is-* (ω-G2 i) (ω-G2 i)) (n2-is
     (ℕ-ring (i ∷ []) (cₙ 4 *ₙ I 1 *ₙ I 6 *ₙ (I 3 *ₙ I 4) *ₙ (cₙ 6 *ₙ cₙ 6 *ₙ (I 1 *ₙ I 2 *ₙ (I 5 *ₙ I 6))) *ₙ (cₙ 1 *ₙ cₙ 2))
     (cₙ 48 *ₙ cₙ 1 *ₙ (cₙ 3 *ₙ I 2 *ₙ I 3 *ₙ I 4 *ₙ I 5 *ₙ cₙ 2 *ₙ (I 1 *ₙ I 6 *ₙ (I 1 *ₙ I 6) *ₙ cₙ 1))) tt)
 
-pub begins-0 : (f : Orthogonal) (s : ℕ) → entry (multiplier f s) 0 ≈ 1#
+pub begins-0 : (f : Orthogonal) (s : ℕ) → nth (multiplier f s) 0 ≈ 1#
 unfolding multiplier
 begins-0 f s = zeroth f s s
 
-pub begins-1 : (f : Orthogonal) (i : ℕ) → entry (multiplier f (suc (suc i))) 1 ≈ 1#
+pub begins-1 : (f : Orthogonal) (i : ℕ) → nth (multiplier f (suc (suc i))) 1 ≈ 1#
 unfolding multiplier
 begins-1 f i = cancel-nat (2 + extra f) (omega arith) (first f (suc (suc i)) (suc (suc i)) ▹ first-end f i ▹ ring (nat (2 + extra f) ∷ []) (var 0) (var 0 :* 1ₑ) tt)
 
-pub begins-2-L : (i : ℕ) → entry (multiplier Legendre2 (suc (suc i))) 2 ≈ frac 1 2
+pub begins-2-L : (i : ℕ) → nth (multiplier Legendre2 (suc (suc i))) 2 ≈ frac 1 2
 unfolding multiplier
 begins-2-L i = cancel-nat 16 (omega arith) (second Legendre2 (suc (suc i)) (suc (suc i)) ▹ second-L2 i)
 
-pub begins-2-G : (i : ℕ) → entry (multiplier Gegenbauer2 (suc (suc i))) 2 ≈ frac 1 2
+pub begins-2-G : (i : ℕ) → nth (multiplier Gegenbauer2 (suc (suc i))) 2 ≈ frac 1 2
 unfolding multiplier
 begins-2-G i = cancel-nat 48 (omega arith) (second Gegenbauer2 (suc (suc i)) (suc (suc i)) ▹ second-G2 i)

@@ -43,11 +43,11 @@ climb zero n m t₀ t₁ d₀ d₁ e₀ e₁ y = near y d₁ e₁
 climb (suc k) n m t₀ t₁ d₀ d₁ e₀ e₁ y =
     climb k n m t₁ (n *ℤ t₁ +ℤ negℤ (m *ℤ m *ℤ t₀)) d₁ (n *ℤ d₁ +ℤ negℤ (m *ℤ m *ℤ d₀) +ℤ pos 2 *ℤ m *ℤ t₁) e₁ (n *ℤ e₁ +ℤ negℤ (m *ℤ m *ℤ e₀) +ℤ pos 4 *ℤ m *ℤ d₁) y
 
-unfoldable pub entry : ℕ → Bool
-entry s = let m = pos (13 * s * s) in climb (s - 1) (pos (2 * (13 * s * s + 2))) m (pos 1) (pos (13 * s * s + 2)) (pos 0) m (pos 0) (pos 0) (Table.omega s)
+unfoldable pub entry-test : ℕ → Bool
+entry-test s = let m = pos (13 * s * s) in climb (s - 1) (pos (2 * (13 * s * s + 2))) m (pos 1) (pos (13 * s * s + 2)) (pos 0) m (pos 0) (pos 0) (Table.omega s)
 
-entries : T (every entry 199 2)
-unfolding every entry climb near Table.omega Table.omega-bits ofBits
+entries : T (every entry-test 199 2)
+unfolding every entry-test climb near Table.omega Table.omega-bits ofBits
 entries = tt
 
 -- ---- what it says
@@ -236,12 +236,12 @@ module _ (M : ℕ) (some-M : 0 < M) where
   }
 
 pub close-omega : (s : ℕ) → 2 ≤ s → s ≤ 200 → Close 36 (Table.omega s) (omega-one s)
-unfolding omega-one omega-zero entry
+unfolding omega-one omega-zero entry-test
 close-omega s l h =
     let M = 13 * s * s in
     subst (λ (i : ℕ). Close 36 (Table.omega s) (first (1# ⊕ frac 2 M) i ⊘ second (1# ⊕ frac 2 M) i)) last
     (climbs (1# ⊕ frac 2 M) M (weight s l) (pos (2 * (M + 2))) (start-twice M (weight s l)) (s - 1) 1 0 (pos 1) (pos (M + 2)) (pos 0) (pos M) (pos 0) (pos 0) (Table.omega s) (begin M (weight s l))
-    (among entry 199 2 s entries l (omega arith)))
+    (among entry-test 199 2 s entries l (omega arith)))
   where
     last : s - 1 + 1 ≡ s
     last = omega arith

@@ -5,14 +5,14 @@ use Prim.Native.Nat.{ℕ, zero, suc, _+_}
 use native.Mathlib.Omega.{arith}
 use lib.ListN.{length}
 use Rattle.fractions.specs.Frac.{Frac, _⊕_, _⊗_, _⊖_, opp, _≈_, _⊘_, Between}
-use Rattle.fractions.specs.Lists.{entry, _⊞_, _·_, _≋_}
+use Rattle.fractions.specs.Lists.{nth, _⊞_, _·_, _≋_}
 use Rattle.fractions.specs.Polynomial.{eval, times-variable}
 use Rattle.fractions.proofs.Ring.{var, _:+_, _:*_, _:-_, neg}
 use Rattle.fractions.proofs.FracLaws.{ring, ≈-sym, ⊗-cong, ≈-refl}
 use Rattle.fractions.proofs.Combine.{_▹_, 0#, 1#, 0ₑ, 1ₑ, 2ₑ, given, combine}
 use Rattle.fractions.proofs.Order.{Nonneg, nonneg-≈, nonneg-+, nonneg-*, nonneg-nat, nonneg-above, ≼-of, of-≼, at-most-one, at-least-minus-one}
 use Rattle.fractions.proofs.Values.{nat, cancel-nat, divided}
-use Rattle.fractions.proofs.ListLaws.{entry-⊞, entry-·, length-·, Long, long-⊞, long-·, eval-⊞, eval-·, eval-times}
+use Rattle.fractions.proofs.ListLaws.{nth-⊞, nth-·, length-·, Long, long-⊞, long-·, eval-⊞, eval-·, eval-times}
 use Rattle.family.specs.Family.{Orthogonal}
 use Rattle.coefficients.specs.Paper.{omega-one, mu, nu, mu-tilde, gamma-tilde, first-mu-tilde}
 use Rattle.coefficients.specs.Exact.{row, stage, attempt, multiplier}
@@ -147,9 +147,9 @@ pub attempt-is : (f : Orthogonal) (s : ℕ) (c step : Frac) (y : List Frac) → 
 unfolding attempt
 attempt-is f s c step y = record {
   lengths = stage-long z f s y s .is ∙ sym (length-· (eval (multiplier f s) z) y);
-  entries = λ k. stage-is (λ p. entry p k) (λ p. z · p) z (record { of-sum = λ p q. entry-⊞ p q k; of-multiple = λ a p. entry-· a p k; of-times-z = λ p. entry-· z p k }) f s y s
-      ▹ ring (entry y k ∷ factor f s z s ∷ []) (var 0 :* var 1) (var 1 :* var 0) tt
-      ▹ ⊗-cong (≈-sym (multiplier-is f s z)) (≈-refl (entry y k)) ▹ ≈-sym (entry-· (eval (multiplier f s) z) y k);
+  entries = λ k. stage-is (λ p. nth p k) (λ p. z · p) z (record { of-sum = λ p q. nth-⊞ p q k; of-multiple = λ a p. nth-· a p k; of-times-z = λ p. nth-· z p k }) f s y s
+      ▹ ring (nth y k ∷ factor f s z s ∷ []) (var 0 :* var 1) (var 1 :* var 0) tt
+      ▹ ⊗-cong (≈-sym (multiplier-is f s z)) (≈-refl (nth y k)) ▹ ≈-sym (nth-· (eval (multiplier f s) z) y k);
 }
   where
     z : Frac

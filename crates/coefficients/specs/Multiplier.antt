@@ -3,7 +3,7 @@ use mathlib.Core.List.{List, [], _∷_}
 use Prim.Native.Nat.{ℕ}
 use lib.IntN.{pos}
 use Rattle.fractions.specs.Frac.{Frac, _⊗_, opp, int, frac, _⊘_, _≈_, _≼_, Between}
-use Rattle.fractions.specs.Lists.{entry, _·_, _≋_}
+use Rattle.fractions.specs.Lists.{nth, _·_, _≋_}
 use Rattle.fractions.specs.Polynomial.{eval}
 use Rattle.family.specs.Family.{Orthogonal, Legendre1, Legendre2, Gegenbauer1, Gegenbauer2}
 use Rattle.family.specs.Reach.{reach}
@@ -12,13 +12,13 @@ use Rattle.coefficients.specs.Exact.{attempt, multiplier}
 
 -- the polynomial begins 1 + z
 pub record First-order (p : List Frac) : Type 0 where
-  pub constant : entry p 0 ≈ int (pos 1)
-  pub linear : entry p 1 ≈ int (pos 1)
+  pub constant : nth p 0 ≈ int (pos 1)
+  pub linear : nth p 1 ≈ int (pos 1)
 
 -- the polynomial begins 1 + z + z²/2
 pub record Second-order (p : List Frac) : Type 0 where
   pub first-order : First-order p
-  pub quadratic : entry p 2 ≈ frac 1 2
+  pub quadratic : nth p 2 ≈ frac 1 2
 
 unfoldable pub Begins : Orthogonal → List Frac → Type 0
 Begins Legendre1 p = First-order p

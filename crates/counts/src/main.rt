@@ -16,11 +16,11 @@ fn with_count(tallies: Tallies, family: u64, radius: f64, theirs: u64) -> Tallie
     if theirs == 0 {
         Tallies {
             compared: compared,
-            overflowing: stored::counted(overflowing, ours == 200),
+            overflowing: stored::tallied(overflowing, ours == 200),
         }
     } else {
         Tallies {
-            compared: stored::counted(compared, ours == theirs),
+            compared: stored::tallied(compared, ours == theirs),
             overflowing: overflowing,
         }
     }

@@ -13,7 +13,7 @@ use lib.Ieee.{Float, nan, binary64, toBits}
 use Rattle.page.specs.Page.{decimal, digits}
 use Rattle.page.proofs.Digits.{length-digits, length-decimal, length-word}
 use Rattle.inverter.specs.declared.Total.{Total}
-use Rattle.accounts.specs.Accounts.{Entry, entry, listed}
+use Rattle.accounts.specs.Accounts.{Refused-minute, refused-minute, listed}
 use Rattle.accounts.proofs.Listing.{listed-more}
 use Rattle.daily.specs.Written.{bits-text, hours-text, count-line, heading, counts, refusal-line, refused-line, refusal-lines, junction-line, junction-lines, total-text, hours-above-text, point-text, minutes-above-text, evaluations-text, finished-attempts-text, refused-minutes-text, minute-text, refused-with-text, line-end}
 
@@ -38,7 +38,7 @@ length-count name n =
     let k = both (name ++ decimal n) line-end (length name + 20) 1 h (omega arith) in
     omega (arith, k)
 
-pub length-refusal : (e : Entry) → length (refusal-line e) ≤ 62
+pub length-refusal : (e : Refused-minute) → length (refusal-line e) ≤ 62
 unfolding refusal-line
 length-refusal e =
     both (minute-text ++ decimal (e .minute)) (count-line refused-with-text (e .number)) 27 35
@@ -49,17 +49,17 @@ pub length-refused : (minute number : ℕ) → length (refused-line minute numbe
 unfolding refused-line
 length-refused minute number = go (eqb number 0)
   where
-    go : (b : Bool) → length (cond b [] (refusal-line (entry minute number))) ≤ 62
+    go : (b : Bool) → length (cond b [] (refusal-line (refused-minute minute number))) ≤ 62
     go true = omega arith
-    go false = length-refusal (entry minute number)
+    go false = length-refusal (refused-minute minute number)
 
 pub refused-none : (minute number : ℕ) → number ≡ 0 → [] ≡ refused-line minute number
 unfolding refused-line
-refused-none minute number e = sym (ap (λ (b : Bool). cond b [] (refusal-line (entry minute number))) (eq-eqb number 0 e))
+refused-none minute number e = sym (ap (λ (b : Bool). cond b [] (refusal-line (refused-minute minute number))) (eq-eqb number 0 e))
 
-pub refused-some : (minute number : ℕ) → (number ≡ 0 → ⊥) → refusal-line (entry minute number) ≡ refused-line minute number
+pub refused-some : (minute number : ℕ) → (number ≡ 0 → ⊥) → refusal-line (refused-minute minute number) ≡ refused-line minute number
 unfolding refused-line
-refused-some minute number h = sym (ap (λ (b : Bool). cond b [] (refusal-line (entry minute number))) (ne-eqb number 0 h))
+refused-some minute number h = sym (ap (λ (b : Bool). cond b [] (refusal-line (refused-minute minute number))) (ne-eqb number 0 h))
 
 pub length-heading : (t : Total) → length (heading t) ≤ 60
 unfolding heading
@@ -84,7 +84,7 @@ length-junction x = length-append (bits-text x) line-end ∙ ap (λ (k : ℕ). k
 
 -- ---- one minute more
 
-lines-append : (xs ys : List Entry) → refusal-lines (xs ++ ys) ≡ refusal-lines xs ++ refusal-lines ys
+lines-append : (xs ys : List Refused-minute) → refusal-lines (xs ++ ys) ≡ refusal-lines xs ++ refusal-lines ys
 unfolding refusal-lines
 lines-append [] ys = refl
 lines-append (e ∷ xs) ys = ap (λ (l : List ℕ). refusal-line e ++ l) (lines-append xs ys) ∙ sym (append-assoc (refusal-line e) (refusal-lines xs) (refusal-lines ys))
@@ -102,13 +102,13 @@ refusals-turn l i h =
     (ap (λ (k : ℕ). refusal-lines (listed 0 (take k l))) (add-one i)
     ∙ ap (λ (m : List ℕ). refusal-lines (listed 0 m)) (take-suc l i 0 h)
     ∙ ap refusal-lines (listed-more 0 (take i l) x)
-    ∙ lines-append (listed 0 (take i l)) (cond (eqb x 0) [] (entry (0 + length (take i l)) x ∷ []))
+    ∙ lines-append (listed 0 (take i l)) (cond (eqb x 0) [] (refused-minute (0 + length (take i l)) x ∷ []))
     ∙ ap (λ (m : List ℕ). refusal-lines (listed 0 (take i l)) ++ m) (one (eqb x 0) x))
   where
-    one : (b : Bool) (x : ℕ) → refusal-lines (cond b [] (entry (0 + length (take i l)) x ∷ [])) ≡ cond b [] (refusal-line (entry i x))
+    one : (b : Bool) (x : ℕ) → refusal-lines (cond b [] (refused-minute (0 + length (take i l)) x ∷ [])) ≡ cond b [] (refusal-line (refused-minute i x))
     one true x = refl
     one false x = let e : 0 + length (take i l) ≡ i = omega (arith, length-take-le i l (omega arith)) in
-        append-nil (refusal-line (entry (0 + length (take i l)) x)) ∙ ap (λ (k : ℕ). refusal-line (entry k x)) e
+        append-nil (refusal-line (refused-minute (0 + length (take i l)) x)) ∙ ap (λ (k : ℕ). refusal-line (refused-minute k x)) e
 
 junctions-append : (xs ys : List Float) → junction-lines (xs ++ ys) ≡ junction-lines xs ++ junction-lines ys
 unfolding junction-lines

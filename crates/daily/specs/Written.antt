@@ -12,7 +12,7 @@ use Rattle.inverter.specs.declared.Total.{Total}
 use Rattle.inverter.specs.declared.DayResult.{DayResult}
 use Rattle.inverter.specs.declared.DayResult.the-variants.{Day, Malformed}
 use Rattle.inverter.specs.Day.{Report, day}
-use Rattle.accounts.specs.Accounts.{Entry, entry, listed}
+use Rattle.accounts.specs.Accounts.{Refused-minute, refused-minute, listed}
 
 -- ---- words, in ASCII
 
@@ -85,14 +85,14 @@ counts t =
     ++ count-line finished-attempts-text (t .«finished_attempts»)
     ++ count-line refused-minutes-text (t .refused)
 
-unfoldable pub refusal-line : Entry → List ℕ
+unfoldable pub refusal-line : Refused-minute → List ℕ
 refusal-line e = minute-text ++ decimal (e .minute) ++ count-line refused-with-text (e .number)
 
 -- of a minute and its number; none where that is 0
 unfoldable pub refused-line : ℕ → ℕ → List ℕ
-refused-line minute number = cond (eqb number 0) [] (refusal-line (entry minute number))
+refused-line minute number = cond (eqb number 0) [] (refusal-line (refused-minute minute number))
 
-unfoldable pub refusal-lines : List Entry → List ℕ
+unfoldable pub refusal-lines : List Refused-minute → List ℕ
 refusal-lines [] = []
 refusal-lines (e ∷ es) = refusal-line e ++ refusal-lines es
 

@@ -3,7 +3,7 @@ ghost use mathlib.Core.Path.{_≡_};
 ghost use Prim.Native.Nat.{_+_, _*_, _≤_};
 ghost use lib.ListN.{length};
 ghost use Rattle.page.specs.Page.{Puts};
-ghost use Rattle.accounts.specs.Accounts.{entry, listed};
+ghost use Rattle.accounts.specs.Accounts.{refused-minute, listed};
 ghost use Rattle.inverter.specs.declared.DayResult.the-variants.{Day};
 ghost use Rattle.daily.specs.Written as spec;
 use inverter::Total;
@@ -58,7 +58,7 @@ fn put_counts(out: &mut [u8], at: usize, total: Total) -> usize
 
 fn put_refusal(out: &mut [u8], at: usize, minute: u64, number: u64) -> usize
     requires { ⌜ at + 62 ≤ length (now out) ⌝ }
-    ensures { λ r. ⌜ Puts (now (out .entry)) at (spec.refusal-line (entry minute number)) (now (out .exit)) r ⌝ }
+    ensures { λ r. ⌜ Puts (now (out .entry)) at (spec.refusal-line (refused-minute minute number)) (now (out .exit)) r ⌝ }
 {
     let a = page::put(out, at, b"minute ");
     let b = page::put_decimal(out, a, minute);

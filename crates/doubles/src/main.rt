@@ -61,8 +61,8 @@ fn cast_right(x: u64, want: u64) -> bool
 // ---- a record
 
 fn root_record(x: u64, want: u64, t: Roots) -> Roots {
-    let fast = stored::counted(t.fast, root_right(x, want));
-    let by_digits = stored::counted(t.by_digits, root_by_digits_right(x, want));
+    let fast = stored::tallied(t.fast, root_right(x, want));
+    let by_digits = stored::tallied(t.by_digits, root_by_digits_right(x, want));
     Roots {
         fast: fast,
         by_digits: by_digits,
@@ -74,13 +74,13 @@ fn parts_record(s: &[u8], w: usize, t: Parts) -> Parts
     requires { ⌜ w + 5 < 2 ^ 64 ⌝ }
 {
     let x = stored::word(s, w);
-    let floor = stored::counted(t.floor, floor_right(x, stored::word(s, w + 2)));
-    let ceil = stored::counted(t.ceil, ceil_right(x, stored::word(s, w + 3)));
-    let max = stored::counted(
+    let floor = stored::tallied(t.floor, floor_right(x, stored::word(s, w + 2)));
+    let ceil = stored::tallied(t.ceil, ceil_right(x, stored::word(s, w + 3)));
+    let max = stored::tallied(
         t.max,
         max_right(x, stored::word(s, w + 1), stored::word(s, w + 4)),
     );
-    let cast = stored::counted(t.cast, cast_right(x, stored::word(s, w + 5)));
+    let cast = stored::tallied(t.cast, cast_right(x, stored::word(s, w + 5)));
     Parts {
         floor: floor,
         ceil: ceil,

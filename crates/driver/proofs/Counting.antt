@@ -24,7 +24,7 @@ use Rattle.driver.specs.declared.Next.{Next}
 use Rattle.driver.specs.declared.Replied.{Replied}
 use Rattle.driver.specs.declared.Answer.{Answer}
 use Rattle.driver.specs.declared.Answer.the-variants.{Evaluate, Finished, Ready, Refused, Empty}
-use Rattle.driver.specs.Answers.{case-number, Values, case-values, Says}
+use Rattle.driver.specs.Answers.{case-number, Values, case-values, Same-answer}
 use Rattle.driver.specs.Calls.{Held, Called, Step, step-to, in-phase, at-pass, at-stage, stage-need, ask-pass, ask-stage, by-need, begin-stages, take-first, take-callback, take-pass, ask-candidate, take-stage, figures-of, replied, finishes, room, has-room, one-more, counted, going-on, spoiled, settled, setting-of}
 use Rattle.driver.specs.Promises.{Meets, Steps}
 use Rattle.driver.proofs.Ladder.{says}
@@ -48,8 +48,8 @@ same-answer Ready = refl
 same-answer (Refused i) = refl
 same-answer Empty = refl
 
--- so `Says` leaves nothing of an answer open
-pub said : {a b : Answer} → Says a b → a ≡ b
+-- so `Same-answer` leaves nothing of an answer open
+pub said : {a b : Answer} → Same-answer a b → a ≡ b
 said {a} {b} s = sym (same-answer a) ∙ ap₂ answer-of (s .same-case) (s .same-values) ∙ same-answer b
 
 -- ---- a step that does not finish an attempt

@@ -13,7 +13,7 @@ use Rattle.driver.specs.declared.Record.{Record}
 use Rattle.driver.specs.declared.Counters.{Counters}
 use Rattle.driver.specs.declared.Next.{Next}
 use Rattle.driver.specs.declared.Replied.{Replied}
-use Rattle.driver.specs.Answers.{Says}
+use Rattle.driver.specs.Answers.{Same-answer}
 use Rattle.driver.specs.Calls.{Held, Called, Test, _∶_, Verdict, admitted, refused-with, first-failing, decide, guarded, cause-of}
 use Rattle.driver.specs.Promises.{Meets, Keeps, holding, refusal, turned-away}
 
@@ -151,8 +151,8 @@ unfolding cause-of
 turned-away-by h ts go {k} e n =
     by-tests (λ (x : Called). x ≡ away h k) h ts go (λ q. absurd (n (e ∙ ap cause-of q))) (λ i q. ap (away h) (sym (e ∙ ap cause-of q)))
 
-pub says : {a b : Answer} → a ≡ b → Says a b
-says {a} e = subst (λ (b : Answer). Says a b) e (record { same-case = refl; same-values = refl })
+pub says : {a b : Answer} → a ≡ b → Same-answer a b
+says {a} e = subst (λ (b : Answer). Same-answer a b) e (record { same-case = refl; same-values = refl })
 
 -- the promise of a call that is lent no counters
 pub refused-keeps : {r : Record} {k : ℕ} {x : Next} (area : List Float) (ts : List Test) (go : Counters → Called) → k ≡ cause-of (first-failing ts)

@@ -29,6 +29,6 @@ case-values (Refused number) = values [] (number ∷ [])
 case-values Empty = values [] []
 
 -- the promise on an answer: its case and what it carries
-pub record Says (given promised : Answer) : Type 0 where
+pub record Same-answer (given promised : Answer) : Type 0 where
   pub same-case : case-number given ≡ case-number promised
   pub same-values : case-values given ≡ case-values promised

@@ -22,7 +22,7 @@ use Rattle.driver.specs.declared.Next.{Next}
 use Rattle.driver.specs.declared.Replied.{Replied}
 use Rattle.driver.specs.declared.Staged.{Staged}
 use Rattle.driver.specs.declared.Staged.the-variants.{On, Ended, NotFinite}
-use Rattle.driver.specs.Answers.{Says}
+use Rattle.driver.specs.Answers.{Same-answer}
 use Rattle.driver.specs.Calls.{Held, Called, Step, same-phase, in-phase, at-stage, sized, whole-area, as-long, good-stage, room, one-more, setting-of}
 
 -- what a call is handed
@@ -31,7 +31,7 @@ holding r c area = record { kept = r; counters = c; area = area }
 
 -- what it hands back and leaves
 pub record Meets (promised : Called) (given : Answer) (r : Record) (c : Counters) (left : List Float) : Type 0 where
-  pub answer : Says given (promised .answer)
+  pub answer : Same-answer given (promised .answer)
   pub kept : r ≡ promised .held .kept
   pub counters : c ≡ promised .held .counters
   pub area : left ≡ promised .held .area
@@ -49,7 +49,7 @@ Keeps promised x left = (c : Counters) → Meets (promised c) (x .answer) (x .«
 
 -- a step of a reply or an attempt, before the area is taken as a whole
 pub record Steps (promised : Step) (x : Next) (left : Vectors) : Type 0 where
-  pub answer : Says (x .answer) (promised .answer)
+  pub answer : Same-answer (x .answer) (promised .answer)
   pub kept : x .«record» ≡ promised .kept
   pub vectors : left ≡ promised .vectors
 

@@ -5,24 +5,24 @@ use lib.ListN.{length}
 use Prim.Native.Nat.{ℕ, zero, suc}
 use native.Mathlib.Omega.{arith}
 use Rattle.fractions.specs.Frac.{Frac, _⊕_, _⊗_, _≈_}
-use Rattle.fractions.specs.Lists.{entry, _⊞_, _·_, _≋_}
+use Rattle.fractions.specs.Lists.{nth, _⊞_, _·_, _≋_}
 use Rattle.fractions.specs.Polynomial.{eval, times-variable}
 use Rattle.fractions.proofs.Ring.{var, _:+_, _:*_}
 use Rattle.fractions.proofs.FracLaws.{ring, ≈-refl}
 use Rattle.fractions.proofs.Combine.{0ₑ, given, combine}
 
-pub entry-⊞ : (p q : List Frac) (k : ℕ) → entry (p ⊞ q) k ≈ entry p k ⊕ entry q k
-unfolding entry _⊞_
-entry-⊞ [] q k = ring (entry q k ∷ []) (var 0) (0ₑ :+ var 0) tt
-entry-⊞ (a ∷ p) [] k = ring (entry (a ∷ p) k ∷ []) (var 0) (var 0 :+ 0ₑ) tt
-entry-⊞ (a ∷ p) (b ∷ q) zero = ≈-refl _
-entry-⊞ (a ∷ p) (b ∷ q) (suc k) = entry-⊞ p q k
+pub nth-⊞ : (p q : List Frac) (k : ℕ) → nth (p ⊞ q) k ≈ nth p k ⊕ nth q k
+unfolding nth _⊞_
+nth-⊞ [] q k = ring (nth q k ∷ []) (var 0) (0ₑ :+ var 0) tt
+nth-⊞ (a ∷ p) [] k = ring (nth (a ∷ p) k ∷ []) (var 0) (var 0 :+ 0ₑ) tt
+nth-⊞ (a ∷ p) (b ∷ q) zero = ≈-refl _
+nth-⊞ (a ∷ p) (b ∷ q) (suc k) = nth-⊞ p q k
 
-pub entry-· : (c : Frac) (p : List Frac) (k : ℕ) → entry (c · p) k ≈ c ⊗ entry p k
-unfolding entry _·_
-entry-· c [] k = ring (c ∷ []) 0ₑ (var 0 :* 0ₑ) tt
-entry-· c (a ∷ p) zero = ≈-refl _
-entry-· c (a ∷ p) (suc k) = entry-· c p k
+pub nth-· : (c : Frac) (p : List Frac) (k : ℕ) → nth (c · p) k ≈ c ⊗ nth p k
+unfolding nth _·_
+nth-· c [] k = ring (c ∷ []) 0ₑ (var 0 :* 0ₑ) tt
+nth-· c (a ∷ p) zero = ≈-refl _
+nth-· c (a ∷ p) (suc k) = nth-· c p k
 
 length-⊞ : (p q : List Frac) → length p ≡ length q → length (p ⊞ q) ≡ length p
 unfolding _⊞_
@@ -49,10 +49,10 @@ pub ≋-nil : [] ≋ []
 
 infixr 45 _≋∷_
 pub _≋∷_ : {a b : Frac} {p q : List Frac} → a ≈ b → p ≋ q → (a ∷ p) ≋ (b ∷ q)
-unfolding entry
+unfolding nth
 _≋∷_ {a} {b} {p} {q} h t = record { lengths = ap suc (t .lengths); entries = go }
   where
-    go : (k : ℕ) → entry (a ∷ p) k ≈ entry (b ∷ q) k
+    go : (k : ℕ) → nth (a ∷ p) k ≈ nth (b ∷ q) k
     go zero = h
     go (suc k) = t .entries k
 

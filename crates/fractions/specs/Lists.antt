@@ -9,10 +9,10 @@ use Rattle.fractions.specs.Frac.{Frac, _⊕_, _⊗_, int, _≈_}
 infixl 60 _⊞_
 infixl 70 _·_
 infix 40 _≋_
-unfoldable pub entry : List Frac → ℕ → Frac
-entry [] k = int (pos 0)
-entry (a ∷ p) zero = a
-entry (a ∷ p) (suc k) = entry p k
+unfoldable pub nth : List Frac → ℕ → Frac
+nth [] k = int (pos 0)
+nth (a ∷ p) zero = a
+nth (a ∷ p) (suc k) = nth p k
 
 unfoldable pub _⊞_ : List Frac → List Frac → List Frac
 [] ⊞ q = q
@@ -26,4 +26,4 @@ k · (a ∷ p) = (k ⊗ a) ∷ (k · p)
 -- equal entry by entry
 pub record _≋_ (p q : List Frac) : Type 0 where
   pub lengths : length p ≡ length q
-  pub entries : (k : ℕ) → entry p k ≈ entry q k
+  pub entries : (k : ℕ) → nth p k ≈ nth q k

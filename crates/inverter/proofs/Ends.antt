@@ -29,7 +29,7 @@ use Rattle.driver.proofs.Sizes.{both}
 use Rattle.driver.proofs.Ladder.{Passing, each-passes, by-tests}
 use Rattle.driver.proofs.Ranges.{pass-in, need-most}
 use Rattle.heat_sink.specs.declared.Inverter.{Inverter}
-use Rattle.inverter.specs.Day.{begun, go-on, next, driven, settled, asked, passed, time-of, most-calls}
+use Rattle.inverter.specs.Day.{begun, go-on, next, driven, asks-nothing, asked, passed, time-of, most-calls}
 
 -- the most calls that follow an evaluation in this phase, its reply included
 unfoldable pub calls-left : Phase → Record → ℕ
@@ -156,16 +156,16 @@ unfolding Follow
 guarded-follows k h ts go f = by-tests (Follows k) h ts go (λ e. f (each-passes ts e)) (λ i e. tt)
 
 module _ (k : ℕ) (h : Held) where
-  taken : (d : List Float) → calls.awaiting (h .kept) ≡ true → calls-left (h .kept .phase) (h .kept) ≤ suc k → (t : Bool)
+  followed : (d : List Float) → calls.awaiting (h .kept) ≡ true → calls-left (h .kept .phase) (h .kept) ≤ suc k → (t : Bool)
       → Follows k (cond t (calls.settled (h .counters) (calls.replied (h .kept .phase) (h .kept) (unpack (h .kept .n) (h .area)) d)) (calls.spoiled h))
   unfolding calls.awaiting calls.settled calls.going-on calls.spoiled Goes Follow
-  taken d e l true = let w = both (calls.pending (h .kept .phase)) (calls.in-range (h .kept .phase) (h .kept)) e in
+  followed d e l true = let w = both (calls.pending (h .kept .phase)) (calls.in-range (h .kept .phase) (h .kept)) e in
       replied-goes k (h .kept) (unpack (h .kept .n) (h .area)) d (h .kept .phase) (w .0) (w .1) l
-  taken d e l false = tt
+  followed d e l false = tt
 
   reply-follows : (d : List Float) → calls-left (h .kept .phase) (h .kept) ≤ suc k → Follows k (calls.reply h d)
   unfolding calls.reply calls.reply-tests
-  reply-follows d l = let ts = calls.reply-tests (h .kept) (h .counters) (h .area) d in guarded-follows k h ts _ (λ p. taken d (p .1 .1 .1 .0) l (all-finite d))
+  reply-follows d l = let ts = calls.reply-tests (h .kept) (h .counters) (h .area) d in guarded-follows k h ts _ (λ p. followed d (p .1 .1 .1 .0) l (all-finite d))
 
   attempted : (a : Arguments) → most-calls - 2 ≤ k → Follows k (calls.going-on (h .counters) (calls.attempted h a))
   unfolding calls.going-on calls.attempted Goes
@@ -223,20 +223,20 @@ module _ (m : Inverter) (minute : ℕ) where
     some-left P.Finished r = omega arith
     some-left P.Callback r = omega arith
 
-    none-left : (a : Answer) (r : Record) → Follow 0 a r → settled a ≡ true
-    unfolding Follow settled
+    none-left : (a : Answer) (r : Record) → Follow 0 a r → asks-nothing a ≡ true
+    unfolding Follow asks-nothing
     none-left (Evaluate time vector) r f = absurd (omega (arith, some-left (r .phase) r, f .1))
     none-left (Finished figures) r f = refl
     none-left Ready r f = absurd (omega arith)
     none-left (Refused number) r f = refl
     none-left Empty r f = refl
 
-    driven-ends : (k : ℕ) (c : Called) → Follows k c → settled (driven m minute reading upcoming k c .answer) ≡ true
+    driven-ends : (k : ℕ) (c : Called) → Follows k c → asks-nothing (driven m minute reading upcoming k c .answer) ≡ true
     unfolding driven
     driven-ends zero c f = none-left (c .answer) (c .held .kept) f
     driven-ends (suc k) c f = driven-ends k (next m minute reading upcoming c) (next-follows k c f)
 
     -- the calls that a minute may take are enough
-    pub ends : (h : Held) → settled (passed m minute reading upcoming h .answer) ≡ true
+    pub ends : (h : Held) → asks-nothing (passed m minute reading upcoming h .answer) ≡ true
     unfolding passed
     ends h = driven-ends most-calls (begun m minute h) (begun-follows h)

@@ -14,19 +14,19 @@ use Rattle.workspace.specs.Vectors.{number, candidate}
 use Rattle.driver.specs.Calls.{Called}
 use Rattle.heat_sink.specs.declared.Inverter.{Inverter}
 use Rattle.inverter.specs.declared.Count.{Count}
-use Rattle.inverter.specs.Day.{reading-at, passed, taken, upcoming, finished, junction, is-above, refusal, counted, So-far, so-far, held, with-minute, run}
+use Rattle.inverter.specs.Day.{reading-at, passed, whole-minute, upcoming, finished, junction, is-above, refusal, count-after, So-far, so-far, held, with-minute, run}
 use Rattle.inverter.specs.Finite.{kept-out, Entering, entering-with, entering, next-reading, left-by, above-at, above-by}
-use Rattle.inverter.proofs.Calls.{taken-finite, taken-not-finite}
+use Rattle.inverter.proofs.Calls.{minute-finite, minute-not-finite}
 
 module _ (m : Inverter) (minute : ℕ) (reading after : Float) where
   -- a minute whose reading is not finite
-  pub kept-out-minute : (t : So-far) → finite reading ≡ false → with-minute m (taken m minute reading after (held t)) t ≡ kept-out m t
-  unfolding with-minute counted is-above finished refusal kept-out
+  pub kept-out-minute : (t : So-far) → finite reading ≡ false → with-minute m (whole-minute m minute reading after (held t)) t ≡ kept-out m t
+  unfolding with-minute count-after is-above finished refusal kept-out
   kept-out-minute t e =
       let n = t .count in
       let count : ℕ → Count = λ above. record { «record» = n .«record»; counters = n .counters; above = above; refused = n .refused + 1 } in
       let temperature = junction m (t .count .«record» .phase) (t .area) in
-      ap (λ (c : Called). with-minute m c t) (sym (taken-not-finite m minute reading after (held t) e))
+      ap (λ (c : Called). with-minute m c t) (sym (minute-not-finite m minute reading after (held t) e))
       ∙ ap (λ (above : ℕ). so-far (count above) (t .area) (t .refusals ++ (9 ∷ [])) (t .junctions ++ (temperature ∷ []))) (add-zero (t .count .above))
 
 -- the reading from a minute's end on is finite where the minute's own is
@@ -64,30 +64,30 @@ next-upcoming minute reading (after ∷ readings) = go (finite after) (next-upco
 -- the engine after a day's minutes
 pub left-by-finite : (m : Inverter) (minute : ℕ) (readings : List Float) (t : So-far)
     → held (run m minute readings t) ≡ left-by m (entering minute readings) (held t)
-unfolding run with-minute counted entering left-by
+unfolding run with-minute count-after entering left-by
 left-by-finite m minute [] t = refl
 left-by-finite m minute (reading ∷ readings) t =
-    let c = taken m minute reading (upcoming reading readings) (held t) in
+    let c = whole-minute m minute reading (upcoming reading readings) (held t) in
     left-by-finite m (minute + 1) readings (with-minute m c t) ∙ go (finite reading) refl
   where
     rest : List Entering
     rest = entering (minute + 1) readings
 
     go : (b : Bool) → finite reading ≡ b
-        → left-by m rest (taken m minute reading (upcoming reading readings) (held t) .held)
+        → left-by m rest (whole-minute m minute reading (upcoming reading readings) (held t) .held)
         ≡ left-by m (cond b (entering-with minute reading ∷ rest) rest) (held t)
     go true e =
-        ap (λ (c : Called). left-by m rest (c .held)) (sym (taken-finite m minute reading (upcoming reading readings) (held t) e))
+        ap (λ (c : Called). left-by m rest (c .held)) (sym (minute-finite m minute reading (upcoming reading readings) (held t) e))
         ∙ ap (λ (x : Float). left-by m rest (passed m minute reading x (held t) .held)) (next-upcoming (minute + 1) reading readings)
-    go false e = ap (λ (c : Called). left-by m rest (c .held)) (sym (taken-not-finite m minute reading (upcoming reading readings) (held t) e))
+    go false e = ap (λ (c : Called). left-by m rest (c .held)) (sym (minute-not-finite m minute reading (upcoming reading readings) (held t) e))
 
 -- and the minutes above
 pub above-by-finite : (m : Inverter) (minute : ℕ) (readings : List Float) (t : So-far)
     → run m minute readings t .count .above ≡ t .count .above + above-by m (entering minute readings) (held t)
-unfolding run with-minute counted entering above-by is-above finished
+unfolding run with-minute count-after entering above-by is-above finished
 above-by-finite m minute [] t = omega arith
 above-by-finite m minute (reading ∷ readings) t =
-    let c = taken m minute reading (upcoming reading readings) (held t) in
+    let c = whole-minute m minute reading (upcoming reading readings) (held t) in
     let later = above-by-finite m (minute + 1) readings (with-minute m c t) in
     let now = go (finite reading) refl in
     omega (arith, later, now)
@@ -99,8 +99,8 @@ above-by-finite m minute (reading ∷ readings) t =
     from c = above-at m c + above-by m rest (c .held)
 
     go : (b : Bool) → finite reading ≡ b
-        → from (taken m minute reading (upcoming reading readings) (held t)) ≡ above-by m (cond b (entering-with minute reading ∷ rest) rest) (held t)
+        → from (whole-minute m minute reading (upcoming reading readings) (held t)) ≡ above-by m (cond b (entering-with minute reading ∷ rest) rest) (held t)
     go true e =
-        ap from (sym (taken-finite m minute reading (upcoming reading readings) (held t) e))
+        ap from (sym (minute-finite m minute reading (upcoming reading readings) (held t) e))
         ∙ ap (λ (x : Float). from (passed m minute reading x (held t))) (next-upcoming (minute + 1) reading readings)
-    go false e = ap from (sym (taken-not-finite m minute reading (upcoming reading readings) (held t) e)) ∙ zero-add (above-by m rest (held t))
+    go false e = ap from (sym (minute-not-finite m minute reading (upcoming reading readings) (held t) e)) ∙ zero-add (above-by m rest (held t))

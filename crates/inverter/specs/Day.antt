@@ -74,8 +74,8 @@ module _ (m : Inverter) (minute : ℕ) (reading upcoming : Float) where
 
   -- A reading that is not finite never enters the engine: refused there, it would cost the minutes that follow the eigenvector, and so their stage counts.
   -- Its minute makes no call, so that record, counters and area stand, and has the number of a derivative that is not finite
-  unfoldable pub taken : Held → Called
-  taken h = cond (finite reading) (passed h) (called (Refused 9) h)
+  unfoldable pub whole-minute : Held → Called
+  whole-minute h = cond (finite reading) (passed h) (called (Refused 9) h)
 
 -- ---- the minutes of a day
 
@@ -111,8 +111,8 @@ abbrev pub one-if : Bool → ℕ
 one-if b = cond b 1 0
 
 -- one more minute, its last answer, record and counters, and its junction temperature
-unfoldable pub counted : Inverter → Replied → Float → Count → Count
-counted m end temperature t = record {
+unfoldable pub count-after : Inverter → Replied → Float → Count → Count
+count-after m end temperature t = record {
   «record» = end .«record»;
   counters = end .counters;
   above = t .above + one-if (is-above m (end .answer) temperature);
@@ -137,12 +137,12 @@ end-of c = record { answer = c .answer; «record» = c .held .kept; counters = c
 
 unfoldable pub with-minute : Inverter → Called → So-far → So-far
 with-minute m c t = let temperature = junction m (c .held .kept .phase) (c .held .area) in
-    so-far (counted m (end-of c) temperature (t .count)) (c .held .area) (t .refusals ++ (refusal (c .answer) ∷ [])) (t .junctions ++ (temperature ∷ []))
+    so-far (count-after m (end-of c) temperature (t .count)) (c .held .area) (t .refusals ++ (refusal (c .answer) ∷ [])) (t .junctions ++ (temperature ∷ []))
 
 unfoldable pub run : Inverter → ℕ → List Float → So-far → So-far
 run m minute [] t = t
 run m minute (reading ∷ readings) t =
-    run m (minute + 1) readings (with-minute m (taken m minute reading (upcoming reading readings) (held t)) t)
+    run m (minute + 1) readings (with-minute m (whole-minute m minute reading (upcoming reading readings) (held t)) t)
 
 unfoldable pub no-count : Count
 no-count = let none : Counters = record { evaluations = 0; «finished_attempts» = 0 } in
@@ -218,9 +218,9 @@ asked (Refused number) = 0
 asked Empty = 0
 
 -- whether it asks for no call
-unfoldable pub settled : Answer → Bool
-settled (Evaluate time vector) = false
-settled (Finished figures) = true
-settled Ready = false
-settled (Refused number) = true
-settled Empty = true
+unfoldable pub asks-nothing : Answer → Bool
+asks-nothing (Evaluate time vector) = false
+asks-nothing (Finished figures) = true
+asks-nothing Ready = false
+asks-nothing (Refused number) = true
+asks-nothing Empty = true

@@ -144,8 +144,8 @@ fn next(
 }
 
 // Whether an answer asks for no call.
-fn settled(answer: Answer) -> bool
-    ensures { λ r. ⌜ r ≡ spec.settled answer ⌝ }
+fn asks_nothing(answer: Answer) -> bool
+    ensures { λ r. ⌜ r ≡ spec.asks-nothing answer ⌝ }
 {
     match answer {
         Answer::Evaluate { time: _, vector: _ } => false,
@@ -179,7 +179,7 @@ fn pass(
     let mut left: u64 = MOST_CALLS;
     while 0 < left {
         let answer = reply.answer;
-        if settled(answer) {
+        if asks_nothing(answer) {
             return reply;
         }
         reply = next(m, reply, area, scratch, reading, upcoming, minute);
@@ -202,7 +202,7 @@ pub fn take(
     requires { ⌜ 11 * m .n ≤ length (now area) ⌝ }
     requires { ⌜ length (now scratch) ≡ m .n ⌝ }
     requires { ⌜ minute < 1440 ⌝ }
-    ensures { λ r. ⌜ spec.given r (now (area .exit)) ≡ spec.taken m minute reading upcoming (holding «record» counters (now (area .entry))) ⌝ }
+    ensures { λ r. ⌜ spec.given r (now (area .exit)) ≡ spec.whole-minute m minute reading upcoming (holding «record» counters (now (area .entry))) ⌝ }
 {
     if ieee::is_finite(reading) {
         return pass(

@@ -11,7 +11,7 @@ use Rattle.driver.specs.Answers.{case-number, case-values}
 use Rattle.driver.specs.Calls.{in-phase, at-stage}
 use Rattle.driver.specs.Promises.{outcome-of}
 use Rattle.lent.specs.declared.Answer.{Answer}
-use Rattle.lent.specs.Lent.{wholes-long, doubles-long, lent, leaves, in-stages}
+use Rattle.lent.specs.Lent.{wholes-long, doubles-long, lent, leaves, staged-outcome}
 use Rattle.lent.specs.Numbers.{brought, meaning, written, first-or, coded, in-numbers, stands, handed-back}
 
 -- ---- a list by its elements
@@ -46,14 +46,14 @@ module _ (t : Float) (g : Staging) where
       set (set after-three 16 (p .«b_previous_two»)) 17 (c .«theta_previous_two»)
 
   abbrev Placed : List ℕ → List Float → Type 0
-  Placed w x = leaves asked (wholes-on w) (doubles-on x) ≡ in-stages (lent w x) (On t g)
+  Placed w x = leaves asked (wholes-on w) (doubles-on x) ≡ staged-outcome (lent w x) (On t g)
 
   placed-in-cells : (f : ℕ → ℕ) (h : ℕ → Float) → Placed (cells f wholes-long) (cells h doubles-long)
   unfolding outcome-of handed-back stands coded first-or case-number case-values written at-stage meaning brought
   placed-in-cells f h = refl
 
   pub placed : (w : List ℕ) (x : List Float) → length w ≡ wholes-long → length x ≡ doubles-long
-      → leaves asked (wholes-on w) (doubles-on x) ≡ in-stages (lent w x) (On t g)
+      → leaves asked (wholes-on w) (doubles-on x) ≡ staged-outcome (lent w x) (On t g)
   placed w x e f =
       subst (λ (u : List ℕ). Placed u x) (in-cells 0 w wholes-long e)
       (subst (λ (y : List Float). Placed (cells (λ i. getD w i 0) wholes-long) y) (in-cells nan x doubles-long f)
@@ -62,23 +62,23 @@ module _ (t : Float) (g : Staging) where
 -- ---- only the phase
 
 pub ended : (t : Float) (w : List ℕ) (x : List Float) → length w ≡ wholes-long
-    → leaves (record { code = 1; number = 10; value = t }) (set w 2 5) x ≡ in-stages (lent w x) (Ended t)
+    → leaves (record { code = 1; number = 10; value = t }) (set w 2 5) x ≡ staged-outcome (lent w x) (Ended t)
 unfolding outcome-of handed-back stands coded first-or case-number case-values written in-phase meaning brought
 ended t w x e = subst Ends (in-cells 0 w wholes-long e) (ends-in-cells (λ i. getD w i 0))
   where
     Ends : List ℕ → Type 0
-    Ends u = leaves (record { code = 1; number = 10; value = t }) (set u 2 5) x ≡ in-stages (lent u x) (Ended t)
+    Ends u = leaves (record { code = 1; number = 10; value = t }) (set u 2 5) x ≡ staged-outcome (lent u x) (Ended t)
 
     ends-in-cells : (f : ℕ → ℕ) → Ends (cells f wholes-long)
     ends-in-cells f = refl
 
 pub emptied : (w : List ℕ) (x : List Float) → length w ≡ wholes-long
-    → leaves (record { code = 4; number = 10; value = nought }) (set w 2 0) x ≡ in-stages (lent w x) NotFinite
+    → leaves (record { code = 4; number = 10; value = nought }) (set w 2 0) x ≡ staged-outcome (lent w x) NotFinite
 unfolding outcome-of handed-back stands coded first-or case-number case-values written in-phase meaning brought
 emptied w x e = subst Empties (in-cells 0 w wholes-long e) (empties-in-cells (λ i. getD w i 0))
   where
     Empties : List ℕ → Type 0
-    Empties u = leaves (record { code = 4; number = 10; value = nought }) (set u 2 0) x ≡ in-stages (lent u x) NotFinite
+    Empties u = leaves (record { code = 4; number = 10; value = nought }) (set u 2 0) x ≡ staged-outcome (lent u x) NotFinite
 
     empties-in-cells : (f : ℕ → ℕ) → Empties (cells f wholes-long)
     empties-in-cells f = refl

@@ -5,10 +5,10 @@ use mathlib.Core.Bool.{Bool, true, false, cond}
 use Rattle.driver.specs.declared.Record.{Record as Kept}
 use Rattle.driver.specs.declared.Staged.{Staged}
 use Rattle.lent.specs.declared.Answer.{Answer}
-use Rattle.lent.specs.Numbers.{Record, Outcome, written, stands, handed-back}
-use Rattle.lent.specs.Lent.{in-stages}
+use Rattle.lent.specs.Numbers.{Record, Answered, written, stands, handed-back}
+use Rattle.lent.specs.Lent.{staged-outcome}
 
-abbrev with-record : Answer → Record → Outcome
+abbrev with-record : Answer → Record → Answered
 with-record a r = record { answer = a; «record» = r }
 
 by-test : (before : Record) (adaptive : ℕ) (after : Kept) {told a : Answer} {b : Bool} → told ≡ a → b ≡ stands told
@@ -25,5 +25,5 @@ pub moved : (before : Record) (adaptive : ℕ) (after : Kept) {told a : Answer} 
     → r ≡ written adaptive after → record { answer = told; «record» = r } ≡ handed-back before adaptive a after
 moved before adaptive after {told} e t u w = ap (with-record told) w ∙ by-test before adaptive after e (sym u ∙ t)
 
-pub of-case : (before : Record) {x y : Staged} {given : Outcome} → x ≡ y → given ≡ in-stages before y → given ≡ in-stages before x
-of-case before e h = h ∙ ap (λ (v : Staged). in-stages before v) (sym e)
+pub of-case : (before : Record) {x y : Staged} {given : Answered} → x ≡ y → given ≡ staged-outcome before y → given ≡ staged-outcome before x
+of-case before e h = h ∙ ap (λ (v : Staged). staged-outcome before v) (sym e)

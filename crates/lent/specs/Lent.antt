@@ -13,7 +13,7 @@ use Rattle.driver.specs.declared.Staged.{Staged}
 use Rattle.driver.specs.declared.Record.{Record as Kept}
 use Rattle.driver.specs.Promises.{outcome-of, new-record, no-recurrence}
 use Rattle.lent.specs.declared.Answer.{Answer}
-use Rattle.lent.specs.Numbers.{Arguments, Record, Outcome, phase-of, meaning, in-numbers, handed-back}
+use Rattle.lent.specs.Numbers.{Arguments, Record, Answered, phase-of, meaning, in-numbers, handed-back}
 
 abbrev pub wholes-long : ℕ
 wholes-long = 7
@@ -68,9 +68,9 @@ place-of w =
     record { family = getD w 0 0; n = getD w 1 0; phase = phase-of (getD w 2 0); arguments = new-record .arguments; iteration = new-record .iteration; staging = g }
 
 -- what a call answers, and what it leaves of the record
-abbrev pub leaves : Answer → List ℕ → List Float → Outcome
+abbrev pub leaves : Answer → List ℕ → List Float → Answered
 leaves a w x = record { answer = a; «record» = lent w x }
 
 -- what a reply to a stage's evaluation hands back, from the record before it
-abbrev pub in-stages : Record → Staged → Outcome
-in-stages before y = let x = outcome-of y (meaning before) in handed-back before (before .arguments .adaptive) (in-numbers (x .answer)) (x .«record»)
+abbrev pub staged-outcome : Record → Staged → Answered
+staged-outcome before y = let x = outcome-of y (meaning before) in handed-back before (before .arguments .adaptive) (in-numbers (x .answer)) (x .«record»)

@@ -82,10 +82,10 @@ unfoldable pub stands : Answer → Bool
 stands a = eqb (a .code) 4 && one-of standing-numbers (a .number)
 
 -- an answer, and the record with it
-pub record Outcome : Type 0 where
+pub record Answered : Type 0 where
   pub answer : Answer
   pub «record» : Record
 
 -- what a call hands back, from the record before it, the number brought for `adaptive`, the answer and the record after it
-unfoldable pub handed-back : Record → ℕ → Answer → Kept → Outcome
+unfoldable pub handed-back : Record → ℕ → Answer → Kept → Answered
 handed-back before adaptive a after = record { answer = a; «record» = cond (stands a) before (written adaptive after) }

@@ -3,7 +3,7 @@ ghost use mathlib.Core.Path.{_≡_};
 ghost use lib.ListN.{length};
 ghost use Rattle.driver.specs.declared.Staged.the-variants.{On, Ended, NotFinite};
 ghost use Rattle.lent.specs.Numbers as numbers;
-ghost use Rattle.lent.specs.Lent.{wholes-long, doubles-long, arguments-in, iteration-in, polynomials-in, staging-in, lent, place-of, leaves, in-stages};
+ghost use Rattle.lent.specs.Lent.{wholes-long, doubles-long, arguments-in, iteration-in, polynomials-in, staging-in, lent, place-of, leaves, staged-outcome};
 use coefficients::Polynomials;
 use coefficients::Recurrence;
 use driver::Iteration;
@@ -273,7 +273,7 @@ pub fn leave(wholes: &mut [u64; WHOLES], doubles: &mut [f64; DOUBLES], next: Nex
 fn ask_stage(wholes: &mut [u64], doubles: &mut [f64], time: f64, staging: Staging) -> Answer
     requires { ⌜ length (now wholes) ≡ wholes-long ⌝ }
     requires { ⌜ length (now doubles) ≡ doubles-long ⌝ }
-    ensures { λ r. ⌜ leaves r (now (wholes .exit)) (now (doubles .exit)) ≡ in-stages (lent (now (wholes .entry)) (now (doubles .entry))) (On time staging) ⌝ }
+    ensures { λ r. ⌜ leaves r (now (wholes .exit)) (now (doubles .exit)) ≡ staged-outcome (lent (now (wholes .entry)) (now (doubles .entry))) (On time staging) ⌝ }
 {
     let c = staging.recurrence;
     let p = c.polynomials;
@@ -301,7 +301,7 @@ fn ask_stage(wholes: &mut [u64], doubles: &mut [f64], time: f64, staging: Stagin
 // The candidate's evaluation at this time. Only the phase is written.
 fn ask_candidate(wholes: &mut [u64], doubles: &[f64; DOUBLES], time: f64) -> Answer
     requires { ⌜ length (now wholes) ≡ wholes-long ⌝ }
-    ensures { λ r. ⌜ leaves r (now (wholes .exit)) (now (doubles .entry)) ≡ in-stages (lent (now (wholes .entry)) (now (doubles .entry))) (Ended time) ⌝ }
+    ensures { λ r. ⌜ leaves r (now (wholes .exit)) (now (doubles .entry)) ≡ staged-outcome (lent (now (wholes .entry)) (now (doubles .entry))) (Ended time) ⌝ }
 {
     wholes[2] = 5;
     Answer {
@@ -314,7 +314,7 @@ fn ask_candidate(wholes: &mut [u64], doubles: &[f64; DOUBLES], time: f64) -> Ans
 // A candidate that is not finite: the phase is emptied.
 fn refuse_candidate(wholes: &mut [u64], doubles: &[f64; DOUBLES]) -> Answer
     requires { ⌜ length (now wholes) ≡ wholes-long ⌝ }
-    ensures { λ r. ⌜ leaves r (now (wholes .exit)) (now (doubles .entry)) ≡ in-stages (lent (now (wholes .entry)) (now (doubles .entry))) NotFinite ⌝ }
+    ensures { λ r. ⌜ leaves r (now (wholes .exit)) (now (doubles .entry)) ≡ staged-outcome (lent (now (wholes .entry)) (now (doubles .entry))) NotFinite ⌝ }
 {
     wholes[2] = 0;
     Answer {
@@ -330,7 +330,7 @@ pub fn leave_staged(
     doubles: &mut [f64; DOUBLES],
     staged: Staged,
 ) -> Answer
-    ensures { λ r. ⌜ leaves r (now (wholes .exit)) (now (doubles .exit)) ≡ in-stages (lent (now (wholes .entry)) (now (doubles .entry))) staged ⌝ }
+    ensures { λ r. ⌜ leaves r (now (wholes .exit)) (now (doubles .exit)) ≡ staged-outcome (lent (now (wholes .entry)) (now (doubles .entry))) staged ⌝ }
 {
     match staged {
         Staged::On { time, staging } => ask_stage(wholes, doubles, time, staging),

@@ -198,14 +198,14 @@ module _ (most n c : ℕ) (front rest : List ℕ) (above : 0 < n) (below : n < 1
       ∙ digit-off 10 t (length front + suc k) n (most - suc k) stops)
       ∙ ends front (digits 10 (suc k) n) rest c (suc k) n long
 
-  counted : (p : ℕ) → 10 ^ (p - 1) ≤ n → n < 10 ^ p
+  by-digits : (p : ℕ) → 10 ^ (p - 1) ≤ n → n < 10 ^ p
       → number-field most c (front ++ (digits 10 p n ++ (c ∷ rest))) (length front) ≡ Value n (length front + length (digits 10 p n) + 1)
-  counted zero l h = absurd (omega (arith, h, above))
-  counted (suc k) l h =
+  by-digits zero l h = absurd (omega (arith, h, above))
+  by-digits (suc k) l h =
       let e : suc k - 1 ≡ k = omega arith in
       number-digits k (subst (λ (j : ℕ). 10 ^ j ≤ n) e l) h
       ∙ ap (λ (j : ℕ). Value n (length front + j + 1)) (sym (length-digits 10 (suc k) n))
 
   pub number-read : n < 10 ^ 20 → number-field most c (front ++ (decimal n ++ (c ∷ rest))) (length front) ≡ Value n (length front + length (decimal n) + 1)
   unfolding decimal
-  number-read h = counted (places 20 n) (places-needed 20 n above) (places-enough 20 n h)
+  number-read h = by-digits (places 20 n) (places-needed 20 n above) (places-enough 20 n h)

@@ -1,5 +1,5 @@
 -- Vectors that agree on some names: each step of the kernel keeps the names on which two sets of vectors agree, and adds those that it writes. With a history
--- the state before is among them from the start on.
+-- the older state is among them from the start on.
 use mathlib.Core.Path.{_≡_, refl, ap}
 use mathlib.Core.Bool.{Bool, true, false, cond, _&&_, _||_}
 use mathlib.Core.List.{List}

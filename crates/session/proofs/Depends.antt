@@ -1,5 +1,5 @@
--- What an attempt asks for and how it ends depends only on the kept state, its derivative, the eigenvector and, with a history, the state before: how it ends
--- is the finished attempt with all its vectors (without a history, but for the state before), or the number, and with number 10 ten of the vectors.
+-- What an attempt asks for and how it ends depends only on the kept state, its derivative, the eigenvector and, with a history, the older state: how it ends
+-- is the finished attempt with all its vectors (without a history, but for the older state), or the number, and with number 10 ten of the vectors.
 use mathlib.Core.Path.{_≡_, refl, sym, ap, subst}
 use mathlib.Core.Bool.{Bool, true, false, cond}
 use mathlib.Core.List.{List}
@@ -147,7 +147,7 @@ module _ (history : Bool) (under : Setting) (n : ℕ) (a : Arguments) where
       rw (h .0, h .1) go
 
   -- Alike: where they are done, with the same finished attempt, every vector of it that is compared; where they stop with 10, with the same vectors but for
-  -- the last derivative and the state before.
+  -- the last derivative and the older state.
   pub attempt-alike : (v w : Vectors) → Same-start history v w → Alike (Same-attempt history) (attempt-step under n a v) (attempt-step under n a w)
   unfolding attempt-step from-radius from-need
   attempt-alike v w p = bind-alike Radii (Same-attempt history) from-radius from-radius (spectral-radius under n a v) (spectral-radius under n a w) (radius-alike v w (start-agrees history v w p)) from-alike

@@ -23,7 +23,7 @@ use Rattle.driver.specs.declared.Need.{Need}
 use Rattle.driver.specs.declared.Need.the-variants.{Met, Unmet}
 use Rattle.driver.specs.declared.Answer.{Answer}
 use Rattle.driver.specs.declared.Answer.the-variants.{Evaluate, Refused}
-use Rattle.driver.specs.Answers.{Says}
+use Rattle.driver.specs.Answers.{Same-answer}
 use Rattle.driver.specs.Numbers.{standing-numbers, after-nine, ending-numbers}
 use Rattle.driver.proofs.Ladder.{is-refused, each-passes, by-tests}
 use Rattle.driver.specs.Calls.{Held, Called, Step, step-to, in-phase, whole-area, as-long, Test, admitted, first-failing, guarded, counted, setting-of}
@@ -198,5 +198,5 @@ made-leaves h Accept = accept-leaves h
 made-leaves h (Accept-with-callback y t) = callback-leaves h y t
 made-leaves h Abandon = abandon-leaves h
 
-pub leaves : (h : Held) (c : Call) (i : ℕ) → Says (made h c .answer) (Refused i) → Left h i (made h c .held)
+pub leaves : (h : Held) (c : Call) (i : ℕ) → Same-answer (made h c .answer) (Refused i) → Left h i (made h c .held)
 leaves h c i s = made-leaves h c i (says-refused (made h c .answer) i s)

@@ -1,24 +1,53 @@
+-- The theorems over the calls, in reading order, each with its sentence; the statements are in specs/.
+
+-- An attempt that is taken, and replies of n doubles each, give the evaluations of the attempt in one piece and its end: `run`. A finished one takes s + k
+-- replies, k from 1 to 12, and its candidate is the last stage: `took`.
+pub mod Theorem
+-- Where the counters lack room the attempt is the same up to the reply that is turned away with 8, and stays there: `evaluations-lack`, `attempts-lack`.
+pub mod Room
+-- Every attempt that is taken does one or the other: `always`.
+pub mod Always
+-- After a finished attempt: another without a call between, as after a rejection, and an accept: `again`, `accepts`.
+pub mod Sequel
+-- An attempt depends on the kept state, the first derivative, the eigenvector and, with a history, the older state alone: `depends`.
+pub mod Depends
+-- From a start on, any list of calls shows what the Rust's kernel shows, which begins with zeros: `every-sequence`.
+pub mod Sequences
+-- Calls that are not taken may be left out: `skipped`.
+pub mod Skipped
+-- So what is proved of an attempt and its replies holds with such calls among them: `among`.
+pub mod Among
+-- A call is turned away with a number exactly when that is the number of its first failing test: `refused`; with no number outside its list: `listed`.
+pub mod Refused
+-- What a call that is turned away leaves: `leaves`.
+pub mod Leaves
+-- In any calls from a start that is taken, a finished answer is that of a taken attempt and its s + k replies: `concluded`; what a stage's record carries:
+-- `carries`.
+pub mod Concluded
+-- Demand 3 of the s that a finished attempt ran: `served`.
+pub mod Served
+-- Demand 3 of the rows of the stages that are run: `stage-close`, `rows-close`, `finished-stable`.
+pub mod Close
+-- Document 01's case, by computation: `case-of-calls`.
+pub mod Case
+
+-- What they rest on. First what holds of any numbers, needs and lengths;
 pub mod Truth
 pub mod Numbers
 pub mod Needs
 pub mod Signs
 pub mod Lengths
+-- of one attempt, from one evaluation to the whole (Theorem, Room);
 pub mod Follows
 pub mod Asked
 pub mod Stages
 pub mod Passes
-pub mod Served
-pub mod Close
-pub mod Theorem
-pub mod Room
-pub mod Always
-pub mod Sequel
+-- of the tests of a call (Refused);
 pub mod Guards
-pub mod Refused
-pub mod Leaves
+-- of two computations that ask alike (Depends);
 pub mod Alikes
 pub mod Agree
-pub mod Depends
+-- of each call of a session (Sequences);
 pub mod Shows
 pub mod Standing
 pub mod OnStart
@@ -26,13 +55,9 @@ pub mod OnAttempt
 pub mod OnReply
 pub mod OnAccept
 pub mod OnAbandon
-pub mod Sequences
-pub mod Skipped
-pub mod Among
-pub mod Case
+-- of what lists of calls come to (Concluded).
 pub mod Later
 pub mod Outcomes
 pub mod Underway
 pub mod Latest
 pub mod Trails
-pub mod Concluded

@@ -23,7 +23,7 @@ use Rattle.driver.specs.declared.Need.{Need}
 use Rattle.driver.specs.declared.Need.the-variants.{Met, Unmet}
 use Rattle.driver.specs.declared.Answer.{Answer}
 use Rattle.driver.specs.declared.Answer.the-variants.{Evaluate, Finished, Ready, Refused, Empty}
-use Rattle.driver.specs.Answers.{case-number, case-values, Values, Says}
+use Rattle.driver.specs.Answers.{case-number, case-values, Values, Same-answer}
 use Rattle.driver.specs.Numbers.{one-of, need-numbers, after-nine, refusal-numbers}
 use Rattle.driver.specs.Calls.{Held, Called, Verdict, admitted, refused-with, Test, _∶_, first-failing, cause-of, finishes, room, has-room, setting-of}
 use Rattle.driver.specs.Calls.{start-tests, attempt-tests, reply-tests, accept-tests, callback-tests, abandon-tests}
@@ -132,7 +132,7 @@ decided h (Accept-with-callback y t) = callback-decided h y t
 decided h Abandon = abandon-decided h
 
 -- an answer that says refused with k is that
-pub says-refused : (y : Answer) (k : ℕ) → Says y (Refused k) → y ≡ Refused k
+pub says-refused : (y : Answer) (k : ℕ) → Same-answer y (Refused k) → y ≡ Refused k
 unfolding case-number case-values
 says-refused (Evaluate t b) k s = absurd (omega (arith, s .same-case))
 says-refused (Finished figures) k s = absurd (omega (arith, s .same-case))
@@ -149,11 +149,11 @@ unfolding cause-of
 same-number i j e = ap (λ (y : Answer). cause-of (verdict-of y)) e
 
 -- each number on its own cause and on no other
-pub refused : (h : Held) (c : Call) (k : ℕ) → Says (made h c .answer) (Refused k) ↔ first-failing (tests-of h c) ≡ refused-with k
+pub refused : (h : Held) (c : Call) (k : ℕ) → Same-answer (made h c .answer) (Refused k) ↔ first-failing (tests-of h c) ≡ refused-with k
 unfolding cause-of
 refused h c k = (λ s. sym (decided h c .verdict-is) ∙ ap verdict-of (says-refused (made h c .answer) k s), λ e. go (made h c .answer) (decided h c .verdict-is ∙ e))
   where
-    go : (y : Answer) → verdict-of y ≡ refused-with k → Says y (Refused k)
+    go : (y : Answer) → verdict-of y ≡ refused-with k → Same-answer y (Refused k)
     go (Evaluate s b) e = absurd (subst is-refused (sym e) tt)
     go (Finished s) e = absurd (subst is-refused (sym e) tt)
     go Ready e = absurd (subst is-refused (sym e) tt)
@@ -218,7 +218,7 @@ within h Accept = more _ _ _ (more _ _ _ (more _ _ _ (more _ _ _ (last []))))
 within h (Accept-with-callback y t) = more _ _ _ (more _ _ _ (more _ _ _ (more _ _ _ (more _ _ _ (more _ _ _ (last []))))))
 within h Abandon = more _ _ _ (more _ _ _ (more _ _ _ (more _ _ _ (last []))))
 
-pub listed : (h : Held) (c : Call) (k : ℕ) → Says (made h c .answer) (Refused k) → k ∈ numbers-of c
+pub listed : (h : Held) (c : Call) (k : ℕ) → Same-answer (made h c .answer) (Refused k) → k ∈ numbers-of c
 listed h c k s = subst (λ (x : Verdict). Among x (numbers-of c)) (refused h c k .0 s) (within h c .among)
 
 -- every number of the lists is one of the table
@@ -231,7 +231,7 @@ lists-refuse Accept = refl
 lists-refuse (Accept-with-callback y t) = refl
 lists-refuse Abandon = refl
 
-pub one-of-the-table : (h : Held) (c : Call) (k : ℕ) → Says (made h c .answer) (Refused k) → k ∈ refusal-numbers
+pub one-of-the-table : (h : Held) (c : Call) (k : ℕ) → Same-answer (made h c .answer) (Refused k) → k ∈ refusal-numbers
 one-of-the-table h c k s = is-in refusal-numbers k (each (one-of refusal-numbers) (numbers-of c) (lists-refuse c) (listed h c k s))
 
 -- ---- number 8's two causes

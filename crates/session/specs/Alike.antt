@@ -35,14 +35,14 @@ Same-end R (refused i v) (refused j w) = Same-stop i v j w
 
 -- ---- vectors alike, with or without a history
 
--- every vector, but of the state before only where there is a history
+-- every vector, but of the older state only where there is a history
 abbrev pub compared : Bool → Vector → Bool
 compared history b = cond (eqb (number b) (number older-state)) history true
 
 abbrev pub Same-vectors : Bool → Vectors → Vectors → Type 0
 Same-vectors history v w = (b : Vector) → compared history b ≡ true → v b ≡ w b
 
--- equal where an attempt reads before it writes: the kept state, its derivative, the eigenvector, and with a history the state before
+-- equal where an attempt reads before it writes: the kept state, its derivative, the eigenvector, and with a history the older state
 pub record Same-start (history : Bool) (v w : Vectors) : Type 0 where
   pub state-same : v state ≡ w state
   pub first-same : v first-derivative ≡ w first-derivative

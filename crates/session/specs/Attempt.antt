@@ -152,13 +152,13 @@ reaches-candidate (ask why t p k) d i = closes why || reaches-candidate (k (d i)
 
 -- ---- what a stop fixes of the vectors, by its number
 
--- all but the last derivative and the state before, in the area's order
+-- all but the last derivative and the older state, in the area's order
 abbrev pub all-but-last : Vectors → List (List Float)
 all-but-last v =
     v first-derivative ∷ v derivative ∷ v previous-two ∷ v previous-one ∷ v next-stage
     ∷ v eigenvector ∷ v perturbed-state ∷ v perturbed-derivative ∷ v state ∷ v candidate ∷ []
 
 -- With 10 "area as the Rust's vectors are when its test of the candidate fails, but the last derivative stands" (document 01's table): these ten; that the
--- last derivative stands, and the state before, is `leaves` (proofs/Leaves.antt). With 9 nothing: the area stands, whatever it held.
+-- last derivative stands, and the older state, is `leaves` (proofs/Leaves.antt). With 9 nothing: the area stands, whatever it held.
 unfoldable pub fixed-at : ℕ → Vectors → List (List Float)
 fixed-at i v = cond (eqb i 10) (all-but-last v) []

@@ -13,7 +13,7 @@ use Rattle.driver.specs.declared.Phase.the-variants as P
 use Rattle.driver.specs.declared.Need.the-variants.{Met}
 use Rattle.driver.specs.declared.Answer.{Answer}
 use Rattle.driver.specs.declared.Answer.the-variants.{Evaluate, Finished, Ready, Refused, Empty}
-use Rattle.driver.specs.Answers.{case-number, Says}
+use Rattle.driver.specs.Answers.{case-number, Same-answer}
 use Rattle.driver.specs.Numbers.{ending-numbers}
 use Rattle.driver.specs.Calls.{Held, Called, in-phase, setting-of, permits, stage-need, sized, whole-area, awaiting, has-room, may-attempt, good-times, good-tolerances}
 use Rattle.driver.specs.Calls.{figures-of, attempt, reply, Call, Reply}
@@ -150,7 +150,7 @@ pub record Took (h : Held) (a : Arguments) (d : ℕ → List Float) (o : Finishe
   pub twelve-passes : o .passes ≤ 12
   pub stages-are : o .stages ≡ stage-count (family-of (h .kept .family)) (o .scaled-radius)
   pub each-evaluates : (j : ℕ) → j < o .stages + o .passes → case-number (after j d 0 (attempt h a) .answer) ≡ 1
-  pub answer-is : Says (x .answer) (Finished (figures-of (o .norm)))
+  pub answer-is : Same-answer (x .answer) (Finished (figures-of (o .norm)))
   pub evaluations-are : x .held .counters .evaluations ≡ h .counters .evaluations + (o .stages + o .passes)
   pub attempts-are : x .held .counters .«finished_attempts» ≡ h .counters .«finished_attempts» + 1
 

@@ -79,7 +79,7 @@ unfoldable pub vectors-of : Resting → Vectors
 vectors-of (ready-with v) = v
 vectors-of (tried o) = o .vectors
 
--- whether their state before is a history that an attempt may read (no family reads one yet)
+-- whether their older state is a history that an attempt may read (no family reads one yet)
 unfoldable pub has-history : Resting → Bool
 has-history (ready-with v) = false
 has-history (tried o) = false

@@ -55,8 +55,8 @@ line-turn text count from at i readings value next {x} h l e f inv =
     ∙ ap (λ (l : List Float). lines-from text (count - (i + 1)) next (i + 1 + 2) l) xs
 
 -- the count of the lines, as the slice has it
-pub counted : (text : List ℕ) (from : ℕ) {count : ℕ} {l : Lined} → count ≡ minutes-a-day → lines-from text count from 2 [] ≡ l → lines-from text minutes-a-day from 2 [] ≡ l
-counted text from e h = ap (λ (k : ℕ). lines-from text k from 2 []) (sym e) ∙ h
+pub lines-of-a-day : (text : List ℕ) (from : ℕ) {count : ℕ} {l : Lined} → count ≡ minutes-a-day → lines-from text count from 2 [] ≡ l → lines-from text minutes-a-day from 2 [] ≡ l
+lines-of-a-day text from e h = ap (λ (k : ℕ). lines-from text k from 2 []) (sym e) ∙ h
 
 -- a slice that the lines fill
 pub fills-read : {l : Lined} {xs filled : List Float} {at : ℕ} → l ≡ Readings xs at → filled ≡ xs → Fills l (Read at) filled

@@ -50,7 +50,7 @@ pub fn same(x: f64, y: f64) -> bool
 }
 
 // The tally with one more record, which is as it should be or not.
-pub fn counted(tally: Tally, right: bool) -> Tally
+pub fn tallied(tally: Tally, right: bool) -> Tally
     ensures { λ r. ⌜ (r .seen ≡ (tally .seen + 1) % 2 ^ 64) × (r .differ ≡ (tally .differ + cond right 0 1) % 2 ^ 64) ⌝ }
 {
     let seen = std::num::wrapping_add_u64(tally.seen, 1);

@@ -1,7 +1,7 @@
 -- `reply_elsewhere` meets its contract, as driver's does.
 use Rattle.driver.specs.Calls.{Held, reply}
-use Rattle.capi.specs.Told.{counting}
-use Rattle.capi.proofs.Telling.{told, at-place}
+use Rattle.capi.specs.Promises.{counting}
+use Rattle.capi.proofs.Promised.{meets-lent, at-place}
 use borrow.Author.Needs.{needs}
 use Rattle.capi.proofs.reply_elsewhere.Statement.{statement}
 use Rattle.capi.proofs.reply_elsewhere.Tie as tie
@@ -26,7 +26,7 @@ returns : tie.Need-returns
 returns c =
     let t = c .before .before .before .before .before .before in
     let a = t .before .before .before .before .before .before .before .before .before .args in
-    told _ (λ (h : Held). reply h (a .derivative .now)) (t .before .before .read .ensures) (t .reply-elsewhere .ensures) (c .leave .ensures)
+    meets-lent _ (λ (h : Held). reply h (a .derivative .now)) (t .before .before .read .ensures) (t .reply-elsewhere .ensures) (c .leave .ensures)
 
 pub reply-elsewhere-spec : {M : Type 1} → statement M
 reply-elsewhere-spec =

@@ -3,8 +3,8 @@ use native.Mathlib.Omega.{arith}
 use Rattle.driver.specs.Calls.{Held, reply}
 use Rattle.driver.proofs.Going.{has-one}
 use Rattle.lent.specs.Lent.{place-of}
-use Rattle.capi.specs.Told.{counting}
-use Rattle.capi.proofs.Telling.{told-in-stages, at-place}
+use Rattle.capi.specs.Promises.{counting}
+use Rattle.capi.proofs.Promised.{meets-in-stages, at-place}
 use borrow.Author.Needs.{needs}
 use Rattle.capi.proofs.reply_in_stages.Statement.{statement}
 use Rattle.capi.proofs.reply_in_stages.Tie as tie
@@ -35,7 +35,7 @@ returns : tie.Need-returns
 returns c =
     let t = c .before .before .before .before .before .before in
     let a = t .before .before .before .before .before .before .before .before .args in
-    told-in-stages (λ (h : Held). reply h (a .derivative .now))
+    meets-in-stages (λ (h : Held). reply h (a .derivative .now))
     (t .before .before .read .ensures) (t .reply-in-stages .ensures) (c .leave-staged .ensures)
 
 pub reply-in-stages-spec : {M : Type 1} → statement M

@@ -1,6 +1,6 @@
 -- `stabilized_abandon` meets its contract, as driver's call does.
 use Rattle.driver.specs.Calls.{abandon}
-use Rattle.capi.proofs.Telling.{tells}
+use Rattle.capi.proofs.Promised.{keeps-lent}
 use borrow.Author.Needs.{needs}
 use Rattle.capi.proofs.stabilized_abandon.Statement.{statement}
 use Rattle.capi.proofs.stabilized_abandon.Tie as tie
@@ -17,7 +17,7 @@ leave-requires c κs = search needs
 returns : tie.Need-returns
 returns c =
     let t = c .before .before .before in
-    tells _ (abandon) (t .before .read .ensures) (t .abandon .ensures) (c .leave .ensures)
+    keeps-lent _ (abandon) (t .before .read .ensures) (t .abandon .ensures) (c .leave .ensures)
 
 pub stabilized-abandon-spec : {M : Type 1} → statement M
 stabilized-abandon-spec =

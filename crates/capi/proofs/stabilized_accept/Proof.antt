@@ -1,6 +1,6 @@
 -- `stabilized_accept` meets its contract, as driver's call does.
 use Rattle.driver.specs.Calls.{accept}
-use Rattle.capi.proofs.Telling.{tells}
+use Rattle.capi.proofs.Promised.{keeps-lent}
 use borrow.Author.Needs.{needs}
 use Rattle.capi.proofs.stabilized_accept.Statement.{statement}
 use Rattle.capi.proofs.stabilized_accept.Tie as tie
@@ -20,7 +20,7 @@ same-length c = search needs
 returns : tie.Need-returns
 returns c =
     let t = c .before .before .before .before .before in
-    tells _ (accept) (t .before .before .read .ensures) (t .accept .ensures) (c .leave .ensures)
+    keeps-lent _ (accept) (t .before .before .read .ensures) (t .accept .ensures) (c .leave .ensures)
 
 pub stabilized-accept-spec : {M : Type 1} → statement M
 stabilized-accept-spec =

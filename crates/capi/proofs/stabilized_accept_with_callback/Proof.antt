@@ -1,6 +1,6 @@
 -- `stabilized_accept_with_callback` meets its contract, as driver's call does.
 use Rattle.driver.specs.Calls.{Held, accept-with-callback}
-use Rattle.capi.proofs.Telling.{tells}
+use Rattle.capi.proofs.Promised.{keeps-lent}
 use borrow.Author.Needs.{needs}
 use Rattle.capi.proofs.stabilized_accept_with_callback.Statement.{statement}
 use Rattle.capi.proofs.stabilized_accept_with_callback.Tie as tie
@@ -21,7 +21,7 @@ returns : tie.Need-returns
 returns c =
     let t = c .before .before .before .before .before in
     let a = t .before .before .before .before .before .before .before .args in
-    tells _ (λ (h : Held). accept-with-callback h (a .state .now) (a .time))
+    keeps-lent _ (λ (h : Held). accept-with-callback h (a .state .now) (a .time))
     (t .before .before .read .ensures) (t .accept-with-callback .ensures) (c .leave .ensures)
 
 pub stabilized-accept-with-callback-spec : {M : Type 1} → statement M

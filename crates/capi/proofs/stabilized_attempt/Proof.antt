@@ -1,7 +1,7 @@
 -- `stabilized_attempt` meets its contract, as driver's call does.
 use Rattle.workspace.specs.declared.Arguments.{Arguments as Brought}
 use Rattle.driver.specs.Calls.{Held, attempt}
-use Rattle.capi.proofs.Telling.{tells, bringing}
+use Rattle.capi.proofs.Promised.{keeps-lent, bringing}
 use borrow.Author.Needs.{needs}
 use Rattle.capi.proofs.stabilized_attempt.Statement.{statement}
 use Rattle.capi.proofs.stabilized_attempt.Tie as tie
@@ -26,7 +26,7 @@ returns c =
     let t = c .before .before .before .before .before in
     let k = t .before .before .brought in
     bringing (λ (b : Brought) (h : Held). attempt h b) (k .ensures)
-    (tells _ (λ (h : Held). attempt h (k .result)) (t .before .before .before .read .ensures) (t .attempt .ensures) (c .leave-with .ensures))
+    (keeps-lent _ (λ (h : Held). attempt h (k .result)) (t .before .before .before .read .ensures) (t .attempt .ensures) (c .leave-with .ensures))
 
 pub stabilized-attempt-spec : {M : Type 1} → statement M
 stabilized-attempt-spec =

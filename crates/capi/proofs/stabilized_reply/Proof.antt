@@ -1,6 +1,6 @@
 -- `stabilized_reply` meets its contract: by the tests of a stage's reply, as the one or as the other of the two.
-use Rattle.capi.specs.Told.{counting}
-use Rattle.capi.proofs.Telling.{as-tested}
+use Rattle.capi.specs.Promises.{counting}
+use Rattle.capi.proofs.Promised.{as-tested}
 use borrow.Author.Needs.{needs}
 use Rattle.capi.proofs.stabilized_reply.Statement.{statement}
 use Rattle.capi.proofs.stabilized_reply.Tie as tie

@@ -1,6 +1,6 @@
 -- `stabilized_start` meets its contract, as driver's call does.
 use Rattle.driver.specs.Calls.{Held, start}
-use Rattle.capi.proofs.Telling.{tells}
+use Rattle.capi.proofs.Promised.{keeps-lent}
 use borrow.Author.Needs.{needs}
 use Rattle.capi.proofs.stabilized_start.Statement.{statement}
 use Rattle.capi.proofs.stabilized_start.Tie as tie
@@ -21,7 +21,7 @@ returns : tie.Need-returns
 returns c =
     let t = c .before .before .before .before .before in
     let a = t .before .before .before .before .before .before .before .args in
-    tells _ (λ (h : Held). start h (a .family) (a .n) (a .state .now) (a .time))
+    keeps-lent _ (λ (h : Held). start h (a .family) (a .n) (a .state .now) (a .time))
     (t .before .before .read .ensures) (t .start .ensures) (c .leave .ensures)
 
 pub stabilized-start-spec : {M : Type 1} → statement M

@@ -16,8 +16,8 @@ loop-holds c = search needs
 interval-agrees-requires : tie.Need-interval-agrees-requires Inv-loop μ-loop
 interval-agrees-requires c κs = search needs
 
-counted-requires : tie.Need-counted-requires Inv-loop μ-loop
-counted-requires c κs = search needs
+tallied-requires : tie.Need-tallied-requires Inv-loop μ-loop
+tallied-requires c κs = search needs
 
 add-s : tie.Need-add-s Inv-loop μ-loop
 add-s c = search needs
@@ -39,7 +39,7 @@ intervals-spec =
     μ-loop
     loop-holds
     interval-agrees-requires
-    counted-requires
+    tallied-requires
     add-s
     loop-less
     loop-again

@@ -16,8 +16,8 @@ loop-holds c = search needs
 reach-agrees-requires : tie.Need-reach-agrees-requires Inv-loop μ-loop
 reach-agrees-requires c κs = search needs
 
-counted-requires : tie.Need-counted-requires Inv-loop μ-loop
-counted-requires c κs = search needs
+tallied-requires : tie.Need-tallied-requires Inv-loop μ-loop
+tallied-requires c κs = search needs
 
 add-s : tie.Need-add-s Inv-loop μ-loop
 add-s c = search needs
@@ -39,7 +39,7 @@ reaches-spec =
     μ-loop
     loop-holds
     reach-agrees-requires
-    counted-requires
+    tallied-requires
     add-s
     loop-less
     loop-again

@@ -22,8 +22,8 @@ row-coefficients-requires c κs = search needs
 time-agrees-requires : tie.Need-time-agrees-requires Inv-loop μ-loop
 time-agrees-requires c κs = search needs
 
-counted-requires : tie.Need-counted-requires Inv-loop μ-loop
-counted-requires c κs = search needs
+tallied-requires : tie.Need-tallied-requires Inv-loop μ-loop
+tallied-requires c κs = search needs
 
 next-recurrence-requires : tie.Need-next-recurrence-requires Inv-loop μ-loop
 next-recurrence-requires c κs = search needs
@@ -50,7 +50,7 @@ times-of-spec =
     loop-holds
     row-coefficients-requires
     time-agrees-requires
-    counted-requires
+    tallied-requires
     next-recurrence-requires
     add-j
     loop-less

@@ -1,7 +1,7 @@
 -- `sheet::read` meets its contract, by those of `first_line` and `read_lines`. Assumes nothing.
 use mathlib.Core.Path.{sym, _∙_}
 use borrow.Author.Needs.{needs}
-use Rattle.sheet.proofs.Readings.{counted, read-filled, bad-filled, reads-whole, reads-broken, bad-head, whole, goes-on, bad-line}
+use Rattle.sheet.proofs.Readings.{lines-of-a-day, read-filled, bad-filled, reads-whole, reads-broken, bad-head, whole, goes-on, bad-line}
 use Rattle.sheet.proofs.read.Statement.{statement}
 use Rattle.sheet.proofs.read.Tie as tie
 
@@ -31,7 +31,7 @@ returns-2 c =
     let d = c .before .before .before .before .before .before in
     let s = d .before .before .before .before .before .before .before .before in
     let head = sym (d .before .before .before .before .before .first-line .ensures) ∙ d .before .before .before .inverter .given .1 in
-    let said = counted (s .args .text .now) _ (s .pre) (read-filled _ (d .read-lines .ensures) (c .before .before .next .given .1)) in
+    let said = lines-of-a-day (s .args .text .now) _ (s .pre) (read-filled _ (d .read-lines .ensures) (c .before .before .next .given .1)) in
     reads-whole (whole _ head said (c .if1 .taken))
 
 enum-known-line : tie.Need-enum-known-line
@@ -45,7 +45,7 @@ returns-3 c =
     let d = c .before .before .before .before .before .before in
     let s = d .before .before .before .before .before .before .before .before in
     let head = sym (d .before .before .before .before .before .first-line .ensures) ∙ d .before .before .before .inverter .given .1 in
-    let said = counted (s .args .text .now) _ (s .pre) (read-filled _ (d .read-lines .ensures) (c .before .before .next .given .1)) in
+    let said = lines-of-a-day (s .args .text .now) _ (s .pre) (read-filled _ (d .read-lines .ensures) (c .before .before .next .given .1)) in
     reads-broken _ (goes-on _ head said (c .if1 .left))
 
 same-length-3 : tie.Need-same-length-3
@@ -56,7 +56,7 @@ returns-4 c =
     let d = c .before .before .before .before .before in
     let s = d .before .before .before .before .before .before .before .before in
     let head = sym (d .before .before .before .before .before .first-line .ensures) ∙ d .before .before .before .inverter .given .1 in
-    let said = counted (s .args .text .now) _ (s .pre) (bad-filled _ _ (d .read-lines .ensures) (c .before .line .given .1)) in
+    let said = lines-of-a-day (s .args .text .now) _ (s .pre) (bad-filled _ _ (d .read-lines .ensures) (c .before .line .given .1)) in
     reads-broken _ (bad-line _ head said)
 
 pub read-spec : {M : Type 1} → statement M

@@ -9,9 +9,9 @@ use Rattle.driver.specs.declared.Replied.{Replied}
 use Rattle.driver.specs.Calls.{reply, attempt}
 use Rattle.driver.specs.Promises.{holding}
 use Rattle.heat_sink.specs.Model.{rates}
-use Rattle.inverter.specs.Day.{given, settled}
+use Rattle.inverter.specs.Day.{given, asks-nothing}
 use Rattle.inverter.proofs.Said.{met}
-use Rattle.inverter.proofs.Calls.{asked-vector, next-reply, next-attempt, next-settled}
+use Rattle.inverter.proofs.Calls.{asked-vector, next-reply, next-attempt, next-stays}
 use Rattle.inverter.proofs.minute.next.Statement.{statement}
 use Rattle.inverter.proofs.minute.next.Tie as tie
 
@@ -76,19 +76,19 @@ returns-2 c = let s = c .before .before .before .before .before .before .before 
     ∙ next-attempt (s .args .m) (s .args .minute) (s .args .reading) (s .args .upcoming) h (c .before .before .before .before .before .before .enum-told .given .1)
 
 returns-3 : tie.Need-returns-3
-unfolding settled
+unfolding asks-nothing
 returns-3 c = let a = c .before .before .before .before .before .before .args in
-    sym (next-settled (a .m) (a .minute) (a .reading) (a .upcoming) (given (a .reply) (a .area .now)) (ap settled (c .enum-told2 .given .1)))
+    sym (next-stays (a .m) (a .minute) (a .reading) (a .upcoming) (given (a .reply) (a .area .now)) (ap asks-nothing (c .enum-told2 .given .1)))
 
 returns-4 : tie.Need-returns-4
-unfolding settled
+unfolding asks-nothing
 returns-4 c = let a = c .before .before .before .before .before .before .args in
-    sym (next-settled (a .m) (a .minute) (a .reading) (a .upcoming) (given (a .reply) (a .area .now)) (ap settled (c .enum-told3 .given .1)))
+    sym (next-stays (a .m) (a .minute) (a .reading) (a .upcoming) (given (a .reply) (a .area .now)) (ap asks-nothing (c .enum-told3 .given .1)))
 
 returns-5 : tie.Need-returns-5
-unfolding settled
+unfolding asks-nothing
 returns-5 c = let a = c .before .before .before .before .before .before .args in
-    sym (next-settled (a .m) (a .minute) (a .reading) (a .upcoming) (given (a .reply) (a .area .now)) (ap settled (c .enum-told4 .given .1)))
+    sym (next-stays (a .m) (a .minute) (a .reading) (a .upcoming) (given (a .reply) (a .area .now)) (ap asks-nothing (c .enum-told4 .given .1)))
 
 pub next-spec : {M : Type 1} → statement M
 next-spec =

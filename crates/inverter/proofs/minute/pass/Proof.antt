@@ -5,7 +5,7 @@ use native.Mathlib.Omega.{arith}
 use lib.ListN.{length}
 use Rattle.driver.specs.Promises.{holding}
 use Rattle.inverter.specs.Day.{given, driven, passed, most-calls}
-use Rattle.inverter.proofs.Calls.{driven-settled, driven-none, driven-turn}
+use Rattle.inverter.proofs.Calls.{driven-stays, driven-none, driven-turn}
 use Rattle.inverter.proofs.Ends.{Follows, asked-below, begun-follows, turn-follows}
 use Rattle.inverter.proofs.minute.pass.Statement.{statement}
 use Rattle.inverter.proofs.minute.pass.Tie as tie
@@ -27,8 +27,8 @@ loop-holds c = let s = c .before .before .before .before .before .before .before
     let f = begun-follows (s .args .m) (s .args .minute) (holding (s .args .«record») (s .args .counters) (s .args .area .now)) in
     (omega (arith, b .kept .1 .1 .1 .0, s .pre .0), b .kept .1 .1 .1 .1 .0 ∙ s .pre .1 .0, s .pre .1 .1, refl, subst (Follows most-calls) (sym (b .ensures)) f, refl)
 
-settled-requires : tie.Need-settled-requires Inv-loop μ-loop
-settled-requires c κs = tt
+asks-nothing-requires : tie.Need-asks-nothing-requires Inv-loop μ-loop
+asks-nothing-requires c κs = tt
 
 same-length : tie.Need-same-length Inv-loop μ-loop
 same-length c = c .before .before .before .loop .inv .3 ∙ c .before .before .before .before .before .before .before .before .begin .kept .1 .1 .1 .0
@@ -43,7 +43,7 @@ returns c = let a = c .before .before .before .before .before .before .before .b
     sym
     (ap (driven (a .m) (a .minute) (a .reading) (a .upcoming) most-calls) (sym (c .before .before .before .before .before .before .before .before .begin .ensures))
     ∙ l .inv .5
-    ∙ driven-settled (a .m) (a .minute) (a .reading) (a .upcoming) (l .left) (given (l .reply) (l .area)) (sym (c .before .settled .ensures) ∙ c .if1 .taken))
+    ∙ driven-stays (a .m) (a .minute) (a .reading) (a .upcoming) (l .left) (given (l .reply) (l .area)) (sym (c .before .asks-nothing .ensures) ∙ c .if1 .taken))
 
 next-requires : tie.Need-next-requires Inv-loop μ-loop
 next-requires c κs = let l = c .before .before .before .before .before .loop in (l .inv .0, (l .inv .1, (l .inv .2, asked-below _ _ _ (l .inv .4))))
@@ -95,7 +95,7 @@ pass-spec =
     μ-loop
     begin-requires
     loop-holds
-    settled-requires
+    asks-nothing-requires
     same-length
     same-length-2
     returns

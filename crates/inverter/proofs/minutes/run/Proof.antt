@@ -79,8 +79,8 @@ slice-write-junctions : tie.Need-slice-write-junctions Inv-loop μ-loop
 slice-write-junctions c = let t = c .before .before .before .before .before .before .before .before .before .before .before .before .before .before .before in
     omega (arith, t .loop-test .taken, t .before .loop .inv .5)
 
-counted-requires : tie.Need-counted-requires Inv-loop μ-loop
-counted-requires c κs = let t = c .before .before .before .before .before .before .before .before .before .before .before .before .before .before .before in
+count-after-requires : tie.Need-count-after-requires Inv-loop μ-loop
+count-after-requires c κs = let t = c .before .before .before .before .before .before .before .before .before .before .before .before .before .before .before in
     let l = t .before .loop in
     let most = t .before .before .before .before .before .before .before .before .pre .1 .1 .1 .0 in
     (omega (arith, most, t .loop-test .taken, l .inv .6), omega (arith, most, t .loop-test .taken, l .inv .7))
@@ -101,7 +101,7 @@ loop-again c = let test = c .before .before .before .before .before .before .bef
     let p = c .before .before .before .before .before .before .before .before .before .take in
     let after = c .before .before .before .before .before .before .before .before .before .before .before .before .before .upcoming in
     let x = c .before .before .junction in
-    let t = c .counted .ensures in
+    let t = c .count-after .ensures in
     let end = given (p .result) (p .last .1 .1 .1 .0) in
     let h : l .i < length (a .readings .now) = test .loop-test .taken in (
       omega arith,
@@ -156,7 +156,7 @@ run-spec =
     slice-write-refusals
     mul-junctions
     slice-write-junctions
-    counted-requires
+    count-after-requires
     add-i
     loop-less
     loop-again

@@ -14,10 +14,10 @@ use borrow.Author.Needs.{needs}
 use Rattle.workspace.proofs.error.last.Statement.{statement}
 use Rattle.workspace.proofs.error.last.Tie as tie
 
-taken : (m : Setting) (n : ℕ) (a : Arguments) (v : Vectors) (d : List Float) {t : Bool} → a .adaptive ≡ t
+by-adaptive : (m : Setting) (n : ℕ) (a : Arguments) (v : Vectors) (d : List Float) {t : Bool} → a .adaptive ≡ t
     → (let w = v with last-derivative ≔ d in cond t (w with derivative ≔ each n w (error m (a .step))) w) ≡ with-last m n a v d
 unfolding with-last
-taken m n a v d e = let w = v with last-derivative ≔ d in sym (ap (λ (t : Bool). cond t (w with derivative ≔ each n w (error m (a .step))) w) e)
+by-adaptive m n a v d e = let w = v with last-derivative ≔ d in sym (ap (λ (t : Bool). cond t (w with derivative ≔ each n w (error m (a .step))) w) e)
 
 of-form : {n : ℕ} {l m : List Float} (h : Float) {f g : ErrorForm} → f ≡ g → Becomes n l m (λ w. w with derivative ≔ each n w (error-in f h))
     → Becomes n l m (λ w. w with derivative ≔ each n w (error-in g h))
@@ -42,7 +42,7 @@ returns c =
     let g : Vectors → Vectors = λ w. w with derivative ≔ each (x .n) w (error (x .setting) (x .arguments .step)) in
     becomes-as (becomes-then {g = g} (c .before .before .before .before .before .before .before .before .put-vector .ensures)
     (of-form (x .arguments .step) e (c .before .before .put-error .ensures)))
-    (taken (x .setting) (x .n) (x .arguments) (unpack (x .n) (x .area .now)) (x .derivative .now) (c .before .before .before .before .before .if1 .taken))
+    (by-adaptive (x .setting) (x .n) (x .arguments) (unpack (x .n) (x .area .now)) (x .derivative .now) (c .before .before .before .before .before .if1 .taken))
 
 same-length-2 : tie.Need-same-length-2
 same-length-2 c = search needs
@@ -51,7 +51,7 @@ returns-2 : tie.Need-returns-2
 returns-2 c =
     let x = c .before .before .before .before .before .before .before .args in
     becomes-as (c .before .before .before .put-vector .ensures)
-    (taken (x .setting) (x .n) (x .arguments) (unpack (x .n) (x .area .now)) (x .derivative .now) (c .if1 .left))
+    (by-adaptive (x .setting) (x .n) (x .arguments) (unpack (x .n) (x .area .now)) (x .derivative .now) (c .if1 .left))
 
 pub last-spec : {M : Type 1} → statement M
 last-spec =

@@ -1,11 +1,11 @@
--- `stored::counted` meets its contract, from those of the sums. Assumes nothing.
+-- `stored::tallied` meets its contract, from those of the sums. Assumes nothing.
 use mathlib.Core.Path.{_≡_, sym, ap, _∙_}
 use mathlib.Core.Logic.{⊎-elim}
 use Prim.Native.Nat.{ℕ, _+_, _%_, _^_}
 use mathlib.Core.Bool.{Bool, cond}
 use borrow.Author.Needs.{needs}
-use Rattle.stored.proofs.counted.Statement.{statement}
-use Rattle.stored.proofs.counted.Tie as tie
+use Rattle.stored.proofs.tallied.Statement.{statement}
+use Rattle.stored.proofs.tallied.Tie as tie
 
 wrapping-add-u64-requires : tie.Need-wrapping-add-u64-requires
 wrapping-add-u64-requires c κs = search needs
@@ -19,5 +19,5 @@ more c = ⊎-elim (λ w. w .1 ∙ sym (ap (λ (b : Bool). cond b 0 1) (w .0 .tak
 returns : tie.Need-returns
 returns c = (c .before .before .wrapping-add-u64 .ensures, c .wrapping-add-u642 .ensures ∙ ap (λ (n : ℕ). (c .before .before .before .args .tally .differ + n) % 2 ^ 64) (more (c .before)))
 
-pub counted-spec : {M : Type 1} → statement M
-counted-spec = tie.close (tie.spec wrapping-add-u64-requires wrapping-add-u64-requires-2 returns)
+pub tallied-spec : {M : Type 1} → statement M
+tallied-spec = tie.close (tie.spec wrapping-add-u64-requires wrapping-add-u64-requires-2 returns)

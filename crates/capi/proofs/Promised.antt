@@ -9,22 +9,22 @@ use Rattle.driver.specs.declared.Record.{Record as Kept}
 use Rattle.driver.specs.declared.Counters.{Counters}
 use Rattle.driver.specs.declared.Next.{Next}
 use Rattle.driver.specs.declared.Staged.{Staged}
-use Rattle.driver.specs.Answers.{Values, Says, case-number, case-values}
+use Rattle.driver.specs.Answers.{Values, Same-answer, case-number, case-values}
 use Rattle.driver.specs.Calls.{Held, Called, one-more}
 use Rattle.driver.specs.Promises.{Meets, Keeps, Stands-for, holding, stage-taken, outcome-of}
-use Rattle.lent.specs.Numbers.{Record, Outcome, meaning, coded, in-numbers, handed-back}
-use Rattle.lent.specs.Lent.{lent, place-of, in-stages}
-use Rattle.capi.specs.Told.{Told, Tells}
+use Rattle.lent.specs.Numbers.{Record, Answered, meaning, coded, in-numbers, handed-back}
+use Rattle.lent.specs.Lent.{lent, place-of, staged-outcome}
+use Rattle.capi.specs.Promises.{Meets-lent, Keeps-lent}
 
-same-numbers : {a b : Case} → Says a b → in-numbers a ≡ in-numbers b
+same-numbers : {a b : Case} → Same-answer a b → in-numbers a ≡ in-numbers b
 same-numbers {a} {b} s = ap (λ (k : ℕ). coded k (case-values a)) (s .same-case) ∙ ap (λ (v : Values). coded (case-number b) v) (s .same-values)
 
-pub told : {before : Record} (adaptive : ℕ) (call : Held → Called) {area left : List Float} {kept after : Kept} {a : Case} {c d : Counters} {given : Outcome}
+pub meets-lent : {before : Record} (adaptive : ℕ) (call : Held → Called) {area left : List Float} {kept after : Kept} {a : Case} {c d : Counters} {given : Answered}
     → kept ≡ meaning before → Meets (call (holding kept c area)) a after d left → given ≡ handed-back before adaptive (in-numbers a) after
-    → Told before adaptive (call (holding (meaning before) c area)) given d left
-told {before} adaptive call {area} {left} {kept} {after} {a} {c} {d} {given} is m e =
+    → Meets-lent before adaptive (call (holding (meaning before) c area)) given d left
+meets-lent {before} adaptive call {area} {left} {kept} {after} {a} {c} {d} {given} is m e =
     let at : Called = call (holding kept c area) in
-    subst (λ (r : Kept). Told before adaptive (call (holding r c area)) given d left) is
+    subst (λ (r : Kept). Meets-lent before adaptive (call (holding r c area)) given d left) is
     (record {
       outcome-is =
           e
@@ -35,23 +35,23 @@ told {before} adaptive call {area} {left} {kept} {after} {a} {c} {d} {given} is 
     })
 
 -- of a reply to a stage's evaluation
-pub told-in-stages : {before : Record} (call : Held → Called) {area left : List Float} {kept : Kept} {c : Counters} {x : Staged} {given : Outcome}
-    → kept ≡ meaning before → Stands-for (call (holding kept c area)) kept c x left → given ≡ in-stages before x
-    → Told before (before .arguments .adaptive) (call (holding (meaning before) c area)) given (one-more c) left
-told-in-stages {before} call {x = x} is w e =
-    let handed : Kept → Outcome = λ m. handed-back before (before .arguments .adaptive) (in-numbers (outcome-of x m .answer)) (outcome-of x m .«record») in
-    told (before .arguments .adaptive) call is (w .meets) (e ∙ ap handed (sym is))
+pub meets-in-stages : {before : Record} (call : Held → Called) {area left : List Float} {kept : Kept} {c : Counters} {x : Staged} {given : Answered}
+    → kept ≡ meaning before → Stands-for (call (holding kept c area)) kept c x left → given ≡ staged-outcome before x
+    → Meets-lent before (before .arguments .adaptive) (call (holding (meaning before) c area)) given (one-more c) left
+meets-in-stages {before} call {x = x} is w e =
+    let handed : Kept → Answered = λ m. handed-back before (before .arguments .adaptive) (in-numbers (outcome-of x m .answer)) (outcome-of x m .«record») in
+    meets-lent (before .arguments .adaptive) call is (w .meets) (e ∙ ap handed (sym is))
 
 -- of a call that is lent no counters
-pub tells : {before : Record} (adaptive : ℕ) (call : Held → Called) {area left : List Float} {kept : Kept} {x : Next} {given : Outcome}
+pub keeps-lent : {before : Record} (adaptive : ℕ) (call : Held → Called) {area left : List Float} {kept : Kept} {x : Next} {given : Answered}
     → kept ≡ meaning before → Keeps (λ c. call (holding kept c area)) x left → given ≡ handed-back before adaptive (in-numbers (x .answer)) (x .«record»)
-    → Tells before adaptive call area given left
-tells adaptive call is m e = λ c. told adaptive call is (m c) e
+    → Keeps-lent before adaptive call area given left
+keeps-lent adaptive call is m e = λ c. meets-lent adaptive call is (m c) e
 
 -- what the call brings is worked out first
-pub bringing : {A : Type 0} (call : A → Held → Called) {x y : A} {before : Record} {adaptive : ℕ} {area left : List Float} {given : Outcome}
-    → x ≡ y → Tells before adaptive (call x) area given left → Tells before adaptive (call y) area given left
-bringing {A} call {before = before} {adaptive} {area} {left} {given} e t = subst (λ (b : A). Tells before adaptive (call b) area given left) e t
+pub bringing : {A : Type 0} (call : A → Held → Called) {x y : A} {before : Record} {adaptive : ℕ} {area left : List Float} {given : Answered}
+    → x ≡ y → Keeps-lent before adaptive (call x) area given left → Keeps-lent before adaptive (call y) area given left
+bringing {A} call {before = before} {adaptive} {area} {left} {given} e t = subst (λ (b : A). Keeps-lent before adaptive (call b) area given left) e t
 
 -- ---- the tests of a stage's reply
 
