@@ -19,7 +19,8 @@ use Rattle.sheet.specs.Text.{minutes-a-day}
 use Rattle.sheet.proofs.Soundness.{day-minutes}
 use Rattle.inverter.specs.declared.Total.{Total}
 use Rattle.inverter.specs.declared.DayResult.the-variants.{Day}
-use Rattle.inverter.specs.Day.{one-if, whole-minute, upcoming, finished, junction, is-above, refusal, count-after, end-of, So-far, held, with-minute, run, no-count, outset, first-area, total-of, total, reported, day, Reports}
+use Rattle.inverter.specs.Day.{one-if, whole-minute, upcoming, finished, junction, is-above, refusal, count-after, end-of, So-far, held, with-minute, run}
+use Rattle.inverter.specs.Day.{no-count, outset, first-area, total-of, total, reported, day, Reports}
 use Rattle.inverter.proofs.Run.{one-most}
 use Rattle.accounts.specs.Accounts.{Acceptable, Ended, Completed, Given-up, Kept-out, listed, Rising, Numbered, Accounts}
 use Rattle.accounts.proofs.Minute.{minute-ended}
@@ -132,7 +133,8 @@ after-accounts t a =
       a-number-each = a .a-number-each;
       a-junction-each = a .a-junction-each;
       all-listed = a .all-listed;
-      in-order = subst (λ (k : ℕ). Rising 0 k (listed 0 (t .refusals))) (let e : 0 + length (t .refusals) ≡ minutes-a-day = omega (arith, a .a-number-each) in e) (listed-rising 0 (t .refusals));
+      in-order = subst (λ (k : ℕ). Rising 0 k (listed 0 (t .refusals))) (let e : 0 + length (t .refusals) ≡ minutes-a-day = omega (arith, a .a-number-each) in
+          e) (listed-rising 0 (t .refusals));
       numbered = a .numbered;
       hours-are = refl;
       minutes-told = minutes-told (t .count .above) (omega (arith, a .every-minute, a .above-finished));
@@ -151,7 +153,8 @@ module _ (text before : List ℕ) (temperatures : List Float) (r : Total) where
   parsed-accounts (Text.Bad-at line) e o = let z : _≡_ {A = ℕ} 0 1 = cc in absurd (omega arith)
 
   -- of a report that gives a total, whatever the two lists held before
-  pub accounts : {refusals : List ℕ} {junctions : List Float} → Reports (day text before temperatures) (Day r) refusals junctions → Accounts r refusals junctions
+  pub accounts : {refusals : List ℕ} {junctions : List Float} → Reports (day text before temperatures) (Day r) refusals junctions
+      → Accounts r refusals junctions
   unfolding day
   accounts {refusals} {junctions} h =
       let p = Text.parsed text in

@@ -17,7 +17,8 @@ use Rattle.sheet.specs.Text as Text
 use Rattle.inverter.specs.declared.Total.{Total}
 use Rattle.inverter.specs.declared.DayResult.{DayResult}
 use Rattle.inverter.specs.declared.DayResult.the-variants.{Day}
-use Rattle.inverter.specs.Day.{whole-minute, upcoming, junction, refusal, count-after, So-far, held, with-minute, run, no-count, outset, first-area, total-of, total, reported, day, Reports}
+use Rattle.inverter.specs.Day.{whole-minute, upcoming, junction, refusal, count-after, So-far, held, with-minute, run, no-count, outset, first-area, total-of}
+use Rattle.inverter.specs.Day.{total, reported, day, Reports}
 use Rattle.inverter.specs.Finite.{kept-out}
 use Rattle.inverter.proofs.Finite.{kept-out-minute, left-by-finite, above-by-finite}
 use Rattle.accounts.specs.Accounts.{engine-alone, Keeps-out}

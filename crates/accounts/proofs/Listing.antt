@@ -25,7 +25,8 @@ listed-more i (y ∷ l) x =
     last = cond (eqb x 0) [] (refused-minute (i + suc (length l)) x ∷ [])
 
     go : (b : Bool) → listed (i + 1) (l ++ (x ∷ [])) ≡ listed (i + 1) l ++ last
-        → cond b (listed (i + 1) (l ++ (x ∷ []))) (refused-minute i y ∷ listed (i + 1) (l ++ (x ∷ []))) ≡ cond b (listed (i + 1) l) (refused-minute i y ∷ listed (i + 1) l) ++ last
+        → cond b (listed (i + 1) (l ++ (x ∷ []))) (refused-minute i y ∷ listed (i + 1) (l ++ (x ∷ [])))
+        ≡ cond b (listed (i + 1) l) (refused-minute i y ∷ listed (i + 1) l) ++ last
     go true h = h
     go false h = ap (λ (es : List Refused-minute). refused-minute i y ∷ es) h
 
@@ -47,7 +48,8 @@ numbered-grown i [] x h n = go (eqb x 0) refl
     go false e = (h (eqb-false x 0 e), tt)
 numbered-grown i (y ∷ l) x h n = go (eqb y 0) (λ m. numbered-grown (i + 1) l x h m) n
   where
-    go : (b : Bool) → (Numbered (listed (i + 1) l) → Numbered (listed (i + 1) (l ++ (x ∷ [])))) → Numbered (cond b (listed (i + 1) l) (refused-minute i y ∷ listed (i + 1) l))
+    go : (b : Bool) → (Numbered (listed (i + 1) l) → Numbered (listed (i + 1) (l ++ (x ∷ []))))
+        → Numbered (cond b (listed (i + 1) l) (refused-minute i y ∷ listed (i + 1) l))
         → Numbered (cond b (listed (i + 1) (l ++ (x ∷ []))) (refused-minute i y ∷ listed (i + 1) (l ++ (x ∷ []))))
     go true f n = f n
     go false f n = (n .0, f (n .1))
@@ -65,6 +67,7 @@ listed-rising i [] = omega arith
 listed-rising i (y ∷ l) = let n : i + 1 + length l ≡ i + suc (length l) = omega arith in
     go (eqb y 0) (subst (λ (k : ℕ). Rising (i + 1) k (listed (i + 1) l)) n (listed-rising (i + 1) l))
   where
-    go : (b : Bool) → Rising (i + 1) (i + suc (length l)) (listed (i + 1) l) → Rising i (i + suc (length l)) (cond b (listed (i + 1) l) (refused-minute i y ∷ listed (i + 1) l))
+    go : (b : Bool) → Rising (i + 1) (i + suc (length l)) (listed (i + 1) l)
+        → Rising i (i + suc (length l)) (cond b (listed (i + 1) l) (refused-minute i y ∷ listed (i + 1) l))
     go true r = earlier i (i + 1) (i + suc (length l)) (listed (i + 1) l) (omega arith) r
     go false r = (omega arith, r)

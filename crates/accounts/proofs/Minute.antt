@@ -64,7 +64,8 @@ module _ (r : Record) where
   unfolding Answer-of calls.ask-candidate calls.in-phase calls.may-accept
   at-candidate v = go (all-finite (v candidate))
     where
-      go : (t : Bool) → Answers (cond t (calls.step-to (Evaluate (r .arguments .time ⊕ r .arguments .step) (number candidate)) (calls.in-phase P.Candidate r) v) (calls.step-to (Refused 10) (calls.in-phase P.Empty r) v))
+      go : (t : Bool) → Answers (cond t (calls.step-to (Evaluate (r .arguments .time ⊕ r .arguments .step) (number candidate)) (calls.in-phase P.Candidate r) v)
+          (calls.step-to (Refused 10) (calls.in-phase P.Empty r) v))
       go true = refl
       go false = (ending-refuses (later here), refl)
 
@@ -81,7 +82,8 @@ module _ (r : Record) where
   after-stage false k v w e = at-candidate v
 
   replied-answers : (p : Phase) (v : Vectors) (d : List Float) → Answers (calls.replied p r v d)
-  unfolding Answer-of calls.replied calls.take-first calls.take-callback calls.take-pass calls.take-stage calls.take-candidate calls.in-phase calls.at-pass calls.at-stage calls.may-accept
+  unfolding Answer-of calls.replied calls.take-first calls.take-callback calls.take-pass calls.take-stage calls.take-candidate calls.in-phase calls.at-pass
+      calls.at-stage calls.may-accept
   replied-answers P.Empty v d = refl
   replied-answers P.First v d = refl
   replied-answers P.Ready v d = refl
@@ -108,7 +110,8 @@ module _ (r : Record) where
 accept-goes : (h : Held) → known (h .kept .family) ≡ true → calls.sized (h .kept .n) ≡ true → calls.whole-area (h .kept .family) (h .kept .n) (h .area) ≡ true
     → calls.may-accept (h .kept .phase) ≡ true → calls.accept h .answer ≡ Ready
 unfolding calls.accept calls.accept-tests calls.going-on calls.accepted
-accept-goes h f n w p = ap (λ (x : Called). x .answer) (goes-ahead h (calls.accept-tests (h .kept) (h .area)) _ (admits (calls.accept-tests (h .kept) (h .area)) (f, (n, (w, (p, tt))))))
+accept-goes h f n w p = ap (λ (x : Called). x .answer)
+    (goes-ahead h (calls.accept-tests (h .kept) (h .area)) _ (admits (calls.accept-tests (h .kept) (h .area)) (f, (n, (w, (p, tt))))))
 
 -- ---- where a call stands, in a minute that began with so many finished attempts
 
@@ -187,7 +190,8 @@ module _ (m : Inverter) (minute : ℕ) where
   begun-stands h o = go (calls.may-accept (h .kept .phase)) refl
     where
       go : (b : Bool) → calls.may-accept (h .kept .phase) ≡ b
-          → Stands (h .counters .«finished_attempts») (cond b (calls.accept h) (calls.start h (m .family) (m .n) (unpack (m .n) (h .area) state) (time-of minute)))
+          → Stands (h .counters .«finished_attempts») (cond b (calls.accept h)
+          (calls.start h (m .family) (m .n) (unpack (m .n) (h .area) state) (time-of minute)))
       go true e = accept-stands (h .counters .«finished_attempts») h refl (o e)
       go false e = start-stands (h .counters .«finished_attempts») h refl e _ _ _ _
 
@@ -218,7 +222,8 @@ module _ (m : Inverter) (minute : ℕ) where
     last h c Empty r e g s = absurd s
 
     -- from what can be accepted if it is finished, and so again
-    pub minute-ended : (h : Held) → Acceptable h → Ended reading h (whole-minute m minute reading upcoming h) × Acceptable (whole-minute m minute reading upcoming h .held)
+    pub minute-ended : (h : Held) → Acceptable h → Ended reading h (whole-minute m minute reading upcoming h)
+        × Acceptable (whole-minute m minute reading upcoming h .held)
     unfolding whole-minute passed
     minute-ended h o = go (finite reading) refl
       where

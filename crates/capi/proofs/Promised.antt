@@ -19,7 +19,8 @@ use Rattle.capi.specs.Promises.{Meets-lent, Keeps-lent}
 same-numbers : {a b : Case} → Same-answer a b → in-numbers a ≡ in-numbers b
 same-numbers {a} {b} s = ap (λ (k : ℕ). coded k (case-values a)) (s .same-case) ∙ ap (λ (v : Values). coded (case-number b) v) (s .same-values)
 
-pub meets-lent : {before : Record} (adaptive : ℕ) (call : Held → Called) {area left : List Float} {kept after : Kept} {a : Case} {c d : Counters} {given : Answered}
+pub meets-lent : {before : Record} (adaptive : ℕ) (call : Held → Called) {area left : List Float} {kept after : Kept} {a : Case} {c d : Counters}
+    {given : Answered}
     → kept ≡ meaning before → Meets (call (holding kept c area)) a after d left → given ≡ handed-back before adaptive (in-numbers a) after
     → Meets-lent before adaptive (call (holding (meaning before) c area)) given d left
 meets-lent {before} adaptive call {area} {left} {kept} {after} {a} {c} {d} {given} is m e =

@@ -23,7 +23,8 @@ pub extern "C" fn stabilized_start(
     state: &[f64],
     time: f64,
 ) -> Answer
-    ensures { λ r. ⌜ Keeps-as-found (lent (now (wholes .entry)) (now (doubles .entry))) (λ h. calls.start h family n (now (state .entry)) time) (now (area .entry)) (leaves r (now (wholes .exit)) (now (doubles .exit))) (now (area .exit)) ⌝ }
+    ensures { λ r. ⌜ Keeps-as-found (lent (now (wholes .entry)) (now (doubles .entry))) (λ h. calls.start h family n (now (state .entry)) time)
+        (now (area .entry)) (leaves r (now (wholes .exit)) (now (doubles .exit))) (now (area .exit)) ⌝ }
 {
     let kept = lent::read(wholes, doubles);
     let next = driver::start(kept, area, family, n as usize, state, time);
@@ -41,7 +42,9 @@ pub extern "C" fn stabilized_attempt(
     relative_tolerance: f64,
     adaptive: u64,
 ) -> Answer
-    ensures { λ r. ⌜ Keeps-lent (lent (now (wholes .entry)) (now (doubles .entry))) adaptive (λ h. calls.attempt h (numbers.brought time step «absolute_tolerance» «relative_tolerance» adaptive)) (now (area .entry)) (leaves r (now (wholes .exit)) (now (doubles .exit))) (now (area .exit)) ⌝ }
+    ensures { λ r. ⌜ Keeps-lent (lent (now (wholes .entry)) (now (doubles .entry))) adaptive
+        (λ h. calls.attempt h (numbers.brought time step «absolute_tolerance» «relative_tolerance» adaptive)) (now (area .entry))
+        (leaves r (now (wholes .exit)) (now (doubles .exit))) (now (area .exit)) ⌝ }
 {
     let kept = lent::read(wholes, doubles);
     let arguments = lent::brought(time, step, absolute_tolerance, relative_tolerance, adaptive);
@@ -59,7 +62,9 @@ fn reply_in_stages(
     derivative: &[f64],
 ) -> Answer
     requires { ⌜ stage-taken (place-of (now wholes)) (counting (now evaluations) «finished_attempts») (now area) (now derivative) ≡ true ⌝ }
-    ensures { λ r. ⌜ Replies (lent (now (wholes .entry)) (now (doubles .entry))) (counting (now (evaluations .entry)) «finished_attempts») (now (area .entry)) (now (derivative .entry)) (leaves r (now (wholes .exit)) (now (doubles .exit))) (counting (now (evaluations .exit)) «finished_attempts») (now (area .exit)) ⌝ }
+    ensures { λ r. ⌜ Replies (lent (now (wholes .entry)) (now (doubles .entry))) (counting (now (evaluations .entry)) «finished_attempts») (now (area .entry))
+        (now (derivative .entry)) (leaves r (now (wholes .exit)) (now (doubles .exit))) (counting (now (evaluations .exit)) «finished_attempts»)
+        (now (area .exit)) ⌝ }
 {
     let counters = Counters {
         evaluations: *evaluations,
@@ -81,7 +86,9 @@ fn reply_elsewhere(
     derivative: &[f64],
 ) -> Answer
     requires { ⌜ stage-taken (place-of (now wholes)) (counting (now evaluations) (now «finished_attempts»)) (now area) (now derivative) ≡ false ⌝ }
-    ensures { λ r. ⌜ Replies (lent (now (wholes .entry)) (now (doubles .entry))) (counting (now (evaluations .entry)) (now («finished_attempts» .entry))) (now (area .entry)) (now (derivative .entry)) (leaves r (now (wholes .exit)) (now (doubles .exit))) (counting (now (evaluations .exit)) (now («finished_attempts» .exit))) (now (area .exit)) ⌝ }
+    ensures { λ r. ⌜ Replies (lent (now (wholes .entry)) (now (doubles .entry))) (counting (now (evaluations .entry)) (now («finished_attempts» .entry)))
+        (now (area .entry)) (now (derivative .entry)) (leaves r (now (wholes .exit)) (now (doubles .exit)))
+        (counting (now (evaluations .exit)) (now («finished_attempts» .exit))) (now (area .exit)) ⌝ }
 {
     let counters = Counters {
         evaluations: *evaluations,
@@ -106,7 +113,9 @@ pub extern "C" fn stabilized_reply(
     area: &mut [f64],
     derivative: &[f64],
 ) -> Answer
-    ensures { λ r. ⌜ Replies (lent (now (wholes .entry)) (now (doubles .entry))) (counting (now (evaluations .entry)) (now («finished_attempts» .entry))) (now (area .entry)) (now (derivative .entry)) (leaves r (now (wholes .exit)) (now (doubles .exit))) (counting (now (evaluations .exit)) (now («finished_attempts» .exit))) (now (area .exit)) ⌝ }
+    ensures { λ r. ⌜ Replies (lent (now (wholes .entry)) (now (doubles .entry))) (counting (now (evaluations .entry)) (now («finished_attempts» .entry)))
+        (now (area .entry)) (now (derivative .entry)) (leaves r (now (wholes .exit)) (now (doubles .exit)))
+        (counting (now (evaluations .exit)) (now («finished_attempts» .exit))) (now (area .exit)) ⌝ }
 {
     let counters = Counters {
         evaluations: *evaluations,
@@ -139,7 +148,8 @@ pub extern "C" fn stabilized_accept(
     doubles: &mut [f64; DOUBLES],
     area: &mut [f64],
 ) -> Answer
-    ensures { λ r. ⌜ Keeps-as-found (lent (now (wholes .entry)) (now (doubles .entry))) calls.accept (now (area .entry)) (leaves r (now (wholes .exit)) (now (doubles .exit))) (now (area .exit)) ⌝ }
+    ensures { λ r. ⌜ Keeps-as-found (lent (now (wholes .entry)) (now (doubles .entry))) calls.accept (now (area .entry))
+        (leaves r (now (wholes .exit)) (now (doubles .exit))) (now (area .exit)) ⌝ }
 {
     let kept = lent::read(wholes, doubles);
     let next = driver::accept(kept, area);
@@ -154,7 +164,8 @@ pub extern "C" fn stabilized_accept_with_callback(
     state: &[f64],
     time: f64,
 ) -> Answer
-    ensures { λ r. ⌜ Keeps-as-found (lent (now (wholes .entry)) (now (doubles .entry))) (λ h. calls.accept-with-callback h (now (state .entry)) time) (now (area .entry)) (leaves r (now (wholes .exit)) (now (doubles .exit))) (now (area .exit)) ⌝ }
+    ensures { λ r. ⌜ Keeps-as-found (lent (now (wholes .entry)) (now (doubles .entry))) (λ h. calls.accept-with-callback h (now (state .entry)) time)
+        (now (area .entry)) (leaves r (now (wholes .exit)) (now (doubles .exit))) (now (area .exit)) ⌝ }
 {
     let kept = lent::read(wholes, doubles);
     let next = driver::accept_with_callback(kept, area, state, time);
@@ -167,7 +178,8 @@ pub extern "C" fn stabilized_abandon(
     doubles: &mut [f64; DOUBLES],
     area: &[f64],
 ) -> Answer
-    ensures { λ r. ⌜ Keeps-as-found (lent (now (wholes .entry)) (now (doubles .entry))) calls.abandon (now (area .entry)) (leaves r (now (wholes .exit)) (now (doubles .exit))) (now (area .entry)) ⌝ }
+    ensures { λ r. ⌜ Keeps-as-found (lent (now (wholes .entry)) (now (doubles .entry))) calls.abandon (now (area .entry))
+        (leaves r (now (wholes .exit)) (now (doubles .exit))) (now (area .entry)) ⌝ }
 {
     let kept = lent::read(wholes, doubles);
     let next = driver::abandon(kept, area);

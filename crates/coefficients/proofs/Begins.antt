@@ -1,4 +1,5 @@
--- How the multiplier begins: 1 + z, and in the second-order families 1 + z + z²/2. By the recurrence of one coefficient from stage to stage: with e of Normalized, the first is b̂ ω1 n1/(2 + e) and the second b̂ ω1² n2/(2 (4 + e) (2 + e)).
+-- How the multiplier begins: 1 + z, and in the second-order families 1 + z + z²/2. By the recurrence of one coefficient from stage to stage: with e of
+-- Normalized, the first is b̂ ω1 n1/(2 + e) and the second b̂ ω1² n2/(2 (4 + e) (2 + e)).
 use mathlib.Core.Path.{_≡_, ap₂}
 use mathlib.Core.List.{List, [], _∷_}
 use Prim.Native.Nat.{ℕ, zero, suc, _+_, _*_}
@@ -16,7 +17,8 @@ use Rattle.family.specs.Family.{Orthogonal, Legendre1, Legendre2, Gegenbauer1, 
 use Rattle.coefficients.specs.Paper.{omega-one, mu, nu, mu-tilde, gamma-tilde, first-mu-tilde}
 use Rattle.coefficients.specs.Exact.{row, stage, multiplier}
 use Rattle.coefficients.proofs.Normalized.{α, β}
-use Rattle.coefficients.proofs.PaperValues.{extra, b-hat, mu-is, nu-is, first-is, gamma-is, b-hat-L1, b-hat-L2, b-hat-G1, b-hat-G2, ω-L1, ω-L2, ω-G1, ω-G2}
+use Rattle.coefficients.proofs.PaperValues.{extra, b-hat, mu-is, nu-is, first-is, gamma-is, b-hat-L1, b-hat-L2, b-hat-G1, b-hat-G2, ω-L1, ω-L2, ω-G1}
+use Rattle.coefficients.proofs.PaperValues.{ω-G2}
 
 module _ (f : Orthogonal) (t : ℕ) where
   abbrev poly : ℕ → List Frac
@@ -31,7 +33,8 @@ module _ (f : Orthogonal) (t : ℕ) where
 
   row-at : (i k : ℕ) → let j = suc (suc i) in at j k ≈ mu f j ⊗ at (suc i) k ⊕ nu f j ⊗ at i k ⊕ (1# ⊖ mu f j ⊖ nu f j) ⊗ nth (1# ∷ []) k ⊕ nth (0# ∷ tail i) k
   unfolding stage row tail times-variable
-  row-at i k = nth-⊞ (A ⊞ B ⊞ C) (0# ∷ tail i) k ▹ ⊕-cong (nth-⊞ (A ⊞ B) C k ▹ ⊕-cong (nth-⊞ A B k ▹ ⊕-cong (nth-· (mu f j) (poly (suc i)) k) (nth-· (nu f j) (poly i) k)) (nth-· _ (1# ∷ []) k)) (≈-refl _)
+  row-at i k = nth-⊞ (A ⊞ B ⊞ C) (0# ∷ tail i) k ▹ ⊕-cong (nth-⊞ (A ⊞ B) C k
+      ▹ ⊕-cong (nth-⊞ A B k ▹ ⊕-cong (nth-· (mu f j) (poly (suc i)) k) (nth-· (nu f j) (poly i) k)) (nth-· _ (1# ∷ []) k)) (≈-refl _)
     where
       j : ℕ
       j = suc (suc i)
@@ -47,7 +50,8 @@ module _ (f : Orthogonal) (t : ℕ) where
 
   tail-at : (i k : ℕ) → let j = suc (suc i) in nth (tail i) k ≈ omega-one f t ⊗ mu f j ⊗ at (suc i) k ⊕ gamma-tilde f t j ⊗ nth (1# ∷ []) k
   unfolding tail mu-tilde
-  tail-at i k = nth-⊞ (mu-tilde f t (suc (suc i)) · poly (suc i)) (gamma-tilde f t (suc (suc i)) · (1# ∷ [])) k ▹ ⊕-cong (nth-· _ (poly (suc i)) k) (nth-· _ (1# ∷ []) k)
+  tail-at i k = nth-⊞ (mu-tilde f t (suc (suc i)) · poly (suc i)) (gamma-tilde f t (suc (suc i)) · (1# ∷ [])) k
+      ▹ ⊕-cong (nth-· _ (poly (suc i)) k) (nth-· _ (1# ∷ []) k)
 
   zeroth-step : (i : ℕ) → at (suc i) 0 ≈ 1# → at i 0 ≈ 1# → at (suc (suc i)) 0 ≈ 1#
   unfolding nth
@@ -92,7 +96,8 @@ n2-rec e (suc k) = ℕ-ring (k ∷ e ∷ []) ((sₙ (sₙ (sₙ (vₙ 0) +ₙ v�
 
 -- p is a multiple of the recursion's right side
 nat-rec : (m n p q r : ℕ) → (m + n) * p ≡ m * q + n * r → (nat m ⊕ nat n) ⊗ nat p ≈ nat m ⊗ nat q ⊕ nat n ⊗ nat r
-nat-rec m n p q r h = ⊗-cong (≈-sym (nat-+ m n)) (≈-refl (nat p)) ▹ ≈-sym (nat-* (m + n) p) ▹ nat-is _ _ h ▹ nat-+ (m * q) (n * r) ▹ ⊕-cong (nat-* m q) (nat-* n r)
+nat-rec m n p q r h = ⊗-cong (≈-sym (nat-+ m n)) (≈-refl (nat p)) ▹ ≈-sym (nat-* (m + n) p) ▹ nat-is _ _ h ▹ nat-+ (m * q) (n * r)
+    ▹ ⊕-cong (nat-* m q) (nat-* n r)
 
 module _ (f : Orthogonal) (t : ℕ) where
   abbrev e : ℕ
@@ -110,13 +115,15 @@ module _ (f : Orthogonal) (t : ℕ) where
   abbrev Second : ℕ → Type 0
   Second j = nat (L * K1) ⊗ at f t j 2 ≈ b-hat f j ⊗ (omega-one f t ⊗ omega-one f t ⊗ nat (n2 e j))
 
-  first-step : (i : ℕ) → First (suc i) → First i → α e i ⊗ (nat K1 ⊗ at f t (suc (suc i)) 1) ≈ α e i ⊗ (b-hat f (suc (suc i)) ⊗ (omega-one f t ⊗ nat (n1 e (suc (suc i)))))
+  first-step : (i : ℕ) → First (suc i) → First i → α e i ⊗ (nat K1 ⊗ at f t (suc (suc i)) 1) ≈ α e i
+      ⊗ (b-hat f (suc (suc i)) ⊗ (omega-one f t ⊗ nat (n1 e (suc (suc i)))))
   unfolding nth
   first-step i h k =
       let A = var 0 in let B = var 1 in let K = var 2 in let m = var 3 in let n = var 4 in let B0 = var 5 in let B1 = var 6 in let B2 = var 7 in
       let w = var 8 in let c1 = var 9 in let c0 = var 10 in let c2 = var 11 in let z1 = var 12 in let g = var 13 in let N0 = var 14 in let N1 = var 15 in
       let N2 = var 16 in let NK = var 17 in let T = var 18 in
-      combine (α e i ∷ β e i ∷ nat K1 ∷ mu f j ∷ nu f j ∷ b-hat f i ∷ b-hat f (suc i) ∷ b-hat f j ∷ ω ∷ at f t (suc i) 1 ∷ at f t i 1 ∷ at f t j 1 ∷ at f t (suc i) 0 ∷ gamma-tilde f t j ∷ nat (n1 e i) ∷ nat (n1 e (suc i)) ∷ nat (n1 e j) ∷ nat (n1 e (suc i) + K1) ∷ nth (tail f t i) 0 ∷ [])
+      combine (α e i ∷ β e i ∷ nat K1 ∷ mu f j ∷ nu f j ∷ b-hat f i ∷ b-hat f (suc i) ∷ b-hat f j ∷ ω ∷ at f t (suc i) 1 ∷ at f t i 1 ∷ at f t j 1
+      ∷ at f t (suc i) 0 ∷ gamma-tilde f t j ∷ nat (n1 e i) ∷ nat (n1 e (suc i)) ∷ nat (n1 e j) ∷ nat (n1 e (suc i) + K1) ∷ nth (tail f t i) 0 ∷ [])
       (A :* (K :* c2)) (A :* (B2 :* (w :* N2)))
       (given (A :* K) c2 (m :* c1 :+ n :* c0 :+ (1ₑ :- m :- n) :* 0ₑ :+ T) (row-at f t i 1)
       ∷ given (A :* K) T (w :* m :* z1 :+ g :* 1ₑ) (tail-at f t i 0)
@@ -146,13 +153,16 @@ module _ (f : Orthogonal) (t : ℕ) where
       ∷ []) tt
   first (suc (suc i)) = cancel-nat (suc (suc (i + e))) (omega arith) (first-step i (first (suc i)) (first i))
 
-  second-step : (i : ℕ) → Second (suc i) → Second i → α e i ⊗ (nat (L * K1) ⊗ at f t (suc (suc i)) 2) ≈ α e i ⊗ (b-hat f (suc (suc i)) ⊗ (omega-one f t ⊗ omega-one f t ⊗ nat (n2 e (suc (suc i)))))
+  second-step : (i : ℕ) → Second (suc i) → Second i → α e i ⊗ (nat (L * K1) ⊗ at f t (suc (suc i)) 2) ≈ α e i
+      ⊗ (b-hat f (suc (suc i)) ⊗ (omega-one f t ⊗ omega-one f t ⊗ nat (n2 e (suc (suc i)))))
   unfolding nth
   second-step i h k =
       let A = var 0 in let B = var 1 in let K = var 2 in let m = var 3 in let n = var 4 in let B0 = var 5 in let B1 = var 6 in let B2 = var 7 in
       let w = var 8 in let c1 = var 9 in let c0 = var 10 in let c2 = var 11 in let N0 = var 12 in let N1 = var 13 in let N2 = var 14 in let NK = var 15 in
       let T = var 16 in let d1 = var 17 in let l = var 18 in let k1 = var 19 in let M1 = var 20 in let LM = var 21 in let g = var 22 in
-      combine (α e i ∷ β e i ∷ nat (L * K1) ∷ mu f j ∷ nu f j ∷ b-hat f i ∷ b-hat f (suc i) ∷ b-hat f j ∷ ω ∷ at f t (suc i) 2 ∷ at f t i 2 ∷ at f t j 2 ∷ nat (n2 e i) ∷ nat (n2 e (suc i)) ∷ nat (n2 e j) ∷ nat (n2 e (suc i) + L * n1 e (suc i)) ∷ nth (tail f t i) 1 ∷ at f t (suc i) 1 ∷ nat L ∷ nat K1 ∷ nat (n1 e (suc i)) ∷ nat (L * n1 e (suc i)) ∷ gamma-tilde f t j ∷ [])
+      combine (α e i ∷ β e i ∷ nat (L * K1) ∷ mu f j ∷ nu f j ∷ b-hat f i ∷ b-hat f (suc i) ∷ b-hat f j ∷ ω ∷ at f t (suc i) 2 ∷ at f t i 2 ∷ at f t j 2
+      ∷ nat (n2 e i) ∷ nat (n2 e (suc i)) ∷ nat (n2 e j) ∷ nat (n2 e (suc i) + L * n1 e (suc i)) ∷ nth (tail f t i) 1 ∷ at f t (suc i) 1 ∷ nat L ∷ nat K1
+      ∷ nat (n1 e (suc i)) ∷ nat (L * n1 e (suc i)) ∷ gamma-tilde f t j ∷ [])
       (A :* (K :* c2)) (A :* (B2 :* (w :* w :* N2)))
       (given (A :* K) c2 (m :* c1 :+ n :* c0 :+ (1ₑ :- m :- n) :* 0ₑ :+ T) (row-at f t i 2)
       ∷ given (A :* K) T (w :* m :* d1 :+ g :* 0ₑ) (tail-at f t i 1)
@@ -196,15 +206,20 @@ first-end Legendre1 i = is-same (is-* (b-hat-L1 i) (is-* (ω-L1 i) (n1-is 0 i (i
 first-end Legendre2 i = is-same (is-* (b-hat-L2 i) (is-* (ω-L2 i) (n1-is 0 i (i + 3) (omega arith)))) (is-nat _) (omega arith)
 first-end Gegenbauer1 i = is-same (is-* (b-hat-G1 i) (is-* (ω-G1 i) (n1-is 2 i (i + 5) (omega arith)))) (is-nat _) (omega arith)
 first-end Gegenbauer2 i = is-same (is-* (b-hat-G2 i) (is-* (ω-G2 i) (n1-is 2 i (i + 5) (omega arith)))) (is-nat _)
-    (ℕ-ring (i ∷ []) (cₙ 4 *ₙ I 1 *ₙ I 6 *ₙ (I 3 *ₙ I 4) *ₙ (cₙ 6 *ₙ (I 2 *ₙ I 5)) *ₙ cₙ 1) (cₙ 4 *ₙ (cₙ 3 *ₙ I 2 *ₙ I 3 *ₙ I 4 *ₙ I 5 *ₙ cₙ 2 *ₙ (I 1 *ₙ I 6 *ₙ cₙ 1))) tt)
+    (ℕ-ring (i ∷ []) (cₙ 4 *ₙ I 1 *ₙ I 6 *ₙ (I 3 *ₙ I 4) *ₙ (cₙ 6 *ₙ (I 2 *ₙ I 5)) *ₙ cₙ 1)
+    (cₙ 4 *ₙ (cₙ 3 *ₙ I 2 *ₙ I 3 *ₙ I 4 *ₙ I 5 *ₙ cₙ 2 *ₙ (I 1 *ₙ I 6 *ₙ cₙ 1))) tt)
 
-second-L2 : (i : ℕ) → b-hat Legendre2 (suc (suc i)) ⊗ (omega-one Legendre2 (suc (suc i)) ⊗ omega-one Legendre2 (suc (suc i)) ⊗ nat (n2 0 (suc (suc i)))) ≈ nat (2 * (4 + 0) * (2 + 0)) ⊗ frac 1 2
-second-L2 i = is-same (is-* (b-hat-L2 i) (is-* (is-* (ω-L2 i) (ω-L2 i)) (n2-is 0 i (i + 3) (i + 4) (omega arith) (omega arith)))) (is-* (is-nat _) (is-frac 1 2 (omega arith)))
+second-L2 : (i : ℕ) → b-hat Legendre2 (suc (suc i)) ⊗ (omega-one Legendre2 (suc (suc i)) ⊗ omega-one Legendre2 (suc (suc i)) ⊗ nat (n2 0 (suc (suc i))))
+    ≈ nat (2 * (4 + 0) * (2 + 0)) ⊗ frac 1 2
+second-L2 i = is-same (is-* (b-hat-L2 i) (is-* (is-* (ω-L2 i) (ω-L2 i)) (n2-is 0 i (i + 3) (i + 4) (omega arith) (omega arith))))
+    (is-* (is-nat _) (is-frac 1 2 (omega arith)))
     (ℕ-ring (i ∷ []) (I 1 *ₙ I 4 *ₙ cₙ 1 *ₙ (cₙ 4 *ₙ cₙ 4 *ₙ (I 1 *ₙ I 2 *ₙ (I 3 *ₙ I 4))) *ₙ (cₙ 1 *ₙ cₙ 2))
     (cₙ 16 *ₙ cₙ 1 *ₙ (cₙ 2 *ₙ I 2 *ₙ I 3 *ₙ cₙ 1 *ₙ (I 1 *ₙ I 4 *ₙ (I 1 *ₙ I 4) *ₙ cₙ 1))) tt)
 
-second-G2 : (i : ℕ) → b-hat Gegenbauer2 (suc (suc i)) ⊗ (omega-one Gegenbauer2 (suc (suc i)) ⊗ omega-one Gegenbauer2 (suc (suc i)) ⊗ nat (n2 2 (suc (suc i)))) ≈ nat (2 * (4 + 2) * (2 + 2)) ⊗ frac 1 2
-second-G2 i = is-same (is-* (b-hat-G2 i) (is-* (is-* (ω-G2 i) (ω-G2 i)) (n2-is 2 i (i + 5) (i + 6) (omega arith) (omega arith)))) (is-* (is-nat _) (is-frac 1 2 (omega arith)))
+second-G2 : (i : ℕ) → b-hat Gegenbauer2 (suc (suc i)) ⊗ (omega-one Gegenbauer2 (suc (suc i)) ⊗ omega-one Gegenbauer2 (suc (suc i)) ⊗ nat (n2 2 (suc (suc i))))
+    ≈ nat (2 * (4 + 2) * (2 + 2)) ⊗ frac 1 2
+second-G2 i = is-same (is-* (b-hat-G2 i) (is-* (is-* (ω-G2 i) (ω-G2 i)) (n2-is 2 i (i + 5) (i + 6) (omega arith) (omega arith))))
+    (is-* (is-nat _) (is-frac 1 2 (omega arith)))
     (ℕ-ring (i ∷ []) (cₙ 4 *ₙ I 1 *ₙ I 6 *ₙ (I 3 *ₙ I 4) *ₙ (cₙ 6 *ₙ cₙ 6 *ₙ (I 1 *ₙ I 2 *ₙ (I 5 *ₙ I 6))) *ₙ (cₙ 1 *ₙ cₙ 2))
     (cₙ 48 *ₙ cₙ 1 *ₙ (cₙ 3 *ₙ I 2 *ₙ I 3 *ₙ I 4 *ₙ I 5 *ₙ cₙ 2 *ₙ (I 1 *ₙ I 6 *ₙ (I 1 *ₙ I 6) *ₙ cₙ 1))) tt)
 
@@ -214,7 +229,8 @@ begins-0 f s = zeroth f s s
 
 pub begins-1 : (f : Orthogonal) (i : ℕ) → nth (multiplier f (suc (suc i))) 1 ≈ 1#
 unfolding multiplier
-begins-1 f i = cancel-nat (2 + extra f) (omega arith) (first f (suc (suc i)) (suc (suc i)) ▹ first-end f i ▹ ring (nat (2 + extra f) ∷ []) (var 0) (var 0 :* 1ₑ) tt)
+begins-1 f i = cancel-nat (2 + extra f) (omega arith) (first f (suc (suc i)) (suc (suc i)) ▹ first-end f i
+    ▹ ring (nat (2 + extra f) ∷ []) (var 0) (var 0 :* 1ₑ) tt)
 
 pub begins-2-L : (i : ℕ) → nth (multiplier Legendre2 (suc (suc i))) 2 ≈ frac 1 2
 unfolding multiplier

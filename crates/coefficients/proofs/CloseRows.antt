@@ -1,4 +1,5 @@
--- Every coefficient of RKL1, RKL2, RKG1 and RKG2 is within 2 ^ -48, relatively, of the papers' fraction, for every permitted s and stage 2 to s: `close-row`, `close-first`. Assumes nothing.
+-- Every coefficient of RKL1, RKL2, RKG1 and RKG2 is within 2 ^ -48, relatively, of the papers' fraction, for every permitted s and stage 2 to s: `close-row`,
+-- `close-first`. Assumes nothing.
 use mathlib.Core.Path.{_≡_, refl, sym, ap, _∙_, subst}
 use mathlib.Core.List.{[], _∷_}
 use Prim.Native.Nat.{ℕ, zero, suc, _+_, _-_, _*_, _^_, _≤_, _<_}
@@ -32,7 +33,8 @@ use Rattle.coefficients.proofs.Doubles.{b-of, mu-with, nu-with, a-with,
 use Rattle.coefficients.proofs.RowTable.{Zero-or-fit, mu-fit, nu-fit, a-fit, omega-fit, stage-one-of, first-fit}
 
 -- ---- mu_tilde is mu · omega_one
-mu-tilde-fit : (f : Orthogonal) (s j : ℕ) → 2 ≤ s → s ≤ 200 → 2 ≤ j → j ≤ 200 → Fit 201 17 false (mul binary64 (mu-of f j) (omega-one-of (made-of f) s)) (mu-tilde f s j)
+mu-tilde-fit : (f : Orthogonal) (s j : ℕ) → 2 ≤ s → s ≤ 200 → 2 ≤ j → j ≤ 200
+    → Fit 201 17 false (mul binary64 (mu-of f j) (omega-one-of (made-of f) s)) (mu-tilde f s j)
 unfolding mu-tilde _⊗_
 mu-tilde-fit f s j l h l' h' =
     fit-same (*ℤ-comm (mu f j .num) (omega-one f s .num)) (mul-comm (mu f j .den) (omega-one f s .den))
@@ -61,7 +63,8 @@ times-zero (inf s) y i k e = absurd i
 times-zero (fin s m d) nan i k e = absurd k
 times-zero (fin s m d) (inf t) i k e = absurd k
 times-zero (fin s m d) (fin t n c) i k e =
-    subst (λ (z : Float). T (finite z) × (num z ≡ 0)) (sym (round-none (unlike s t) (m * up d * (n * up c)) (down d * down c) (mul-pos (down-pos d) (down-pos c)) e)) (tt, refl)
+    subst (λ (z : Float). T (finite z) × (num z ≡ 0))
+    (sym (round-none (unlike s t) (m * up d * (n * up c)) (down d * down c) (mul-pos (down-pos d) (down-pos c)) e)) (tt, refl)
 
 neg-num : (x : Float) → num (neg x) ≡ num x
 unfolding neg
@@ -85,7 +88,8 @@ module _ (f : Orthogonal) (s j : ℕ) (x : Float) (m : Fit 201 17 false x (mu-ti
   a-first : (z : Bool) → Zero-or-fit z 100 8 false (a-of f j) (a f (j - 1)) → Zero-or-fit z 302 26 true (mul binary64 (neg (a-of f j)) x) (gamma-tilde f s j)
   unfolding Zero-or-fit
   a-first true z =
-      let t = times-zero (neg (a-of f j)) x (neg-finite (a-of f j) (z .number)) (m .near .number) (ap (λ (n : ℕ). n * num x) (neg-num (a-of f j) ∙ z .double-so) ∙ zero-mul (num x)) in
+      let t = times-zero (neg (a-of f j)) x (neg-finite (a-of f j) (z .number)) (m .near .number) (ap (λ (n : ℕ). n * num x) (neg-num (a-of f j) ∙ z .double-so)
+      ∙ zero-mul (num x)) in
       record { fraction = gamma-nought f s j (z .fraction); number = t .0; double-so = t .1 }
   a-first false h = unfold gamma-tilde in
       (fit-times 100 201 8 17 true false (neg (a-of f j)) x (opp (a f (j - 1))) (mu-tilde f s j) (lit≤ tt) (fit-neg (a-of f j) h) m)
@@ -93,10 +97,12 @@ module _ (f : Orthogonal) (s j : ℕ) (x : Float) (m : Fit 201 17 false x (mu-ti
   a-last : (z : Bool) → Zero-or-fit z 100 8 false (a-of f j) (a f (j - 1)) → Zero-or-fit z 302 26 true (mul binary64 (neg x) (a-of f j)) (gamma-tilde f s j)
   unfolding Zero-or-fit
   a-last true z =
-      let t = times-zero (neg x) (a-of f j) (neg-finite x (m .near .number)) (z .number) (ap (λ (n : ℕ). num (neg x) * n) (z .double-so) ∙ mul-zero (num (neg x))) in
+      let t = times-zero (neg x) (a-of f j) (neg-finite x (m .near .number)) (z .number) (ap (λ (n : ℕ). num (neg x) * n) (z .double-so)
+      ∙ mul-zero (num (neg x))) in
       record { fraction = gamma-nought f s j (z .fraction); number = t .0; double-so = t .1 }
   a-last false h = unfold gamma-tilde _⊗_ opp in
-      (fit-same {q = opp (mu-tilde f s j) ⊗ a f (j - 1)} {q' = gamma-tilde f s j} (exchange (mu-tilde f s j .num) (a f (j - 1) .num)) (mul-comm (mu-tilde f s j .den) (a f (j - 1) .den))
+      (fit-same {q = opp (mu-tilde f s j) ⊗ a f (j - 1)} {q' = gamma-tilde f s j} (exchange (mu-tilde f s j .num) (a f (j - 1) .num))
+      (mul-comm (mu-tilde f s j .den) (a f (j - 1) .den))
       (fit-times 201 100 17 8 true false (neg x) (a-of f j) (opp (mu-tilde f s j)) (a f (j - 1)) (lit≤ tt) (fit-neg x m) h))
 
 -- where the Rust writes 0.0
@@ -144,7 +150,8 @@ unfolding Zero-or-fit
 either-close true k n s x q l h = zero-close 48 x q (h .number) (h .double-so) (h .fraction)
 either-close false k n s x q l h = fit-close k n s x q l h
 
-pub close-row : (f : Orthogonal) (s j : ℕ) → T (permitted (made-of f) s) → 2 ≤ j → j ≤ s → (c : Recurrence) → Close-row f s j (coefficients-of (made-of f) s j c)
+pub close-row : (f : Orthogonal) (s j : ℕ) → T (permitted (made-of f) s) → 2 ≤ j → j ≤ s → (c : Recurrence)
+    → Close-row f s j (coefficients-of (made-of f) s j c)
 close-row f s j t l g c =
     let r = fit-row f s j t l g c in
     let row = coefficients-of (made-of f) s j c in
@@ -175,7 +182,8 @@ zero-where n x q c e = none (num x) (q .den) (2 ^ n) (q .positive) (pow-pos n) (
     (subst (λ (k : ℤ). natAbs (signed (sign x) (num x) *ℤ pos (q .den) +ℤ negℤ k *ℤ pos (den x)) * 2 ^ n * q .den ≤ natAbs k * (den x * q .den)) e (c .near)))
   where
     size : natAbs (signed (sign x) (num x) *ℤ pos (q .den) +ℤ pos 0 *ℤ pos (den x)) ≡ num x * q .den
-    size = ap natAbs (ap (λ (z : ℤ). signed (sign x) (num x) *ℤ pos (q .den) +ℤ z) (zero-*ℤ (pos (den x))) ∙ +ℤ-idr (signed (sign x) (num x) *ℤ pos (q .den)) ∙ times-signed (sign x) false (num x) (q .den)) ∙ natAbs-signed (unlike (sign x) false) (num x * q .den)
+    size = ap natAbs (ap (λ (z : ℤ). signed (sign x) (num x) *ℤ pos (q .den) +ℤ z) (zero-*ℤ (pos (den x))) ∙ +ℤ-idr (signed (sign x) (num x) *ℤ pos (q .den))
+        ∙ times-signed (sign x) false (num x) (q .den)) ∙ natAbs-signed (unlike (sign x) false) (num x * q .den)
 
     none : (u d p : ℕ) → 0 < d → 0 < p → u * d * p * d ≤ 0 * (den x * d) → u ≡ 0
     none zero d p D Q h = refl

@@ -4,7 +4,8 @@ use mathlib.Core.Path.{_≡_, refl, sym, ap, ap₂, _∙_, subst}
 use mathlib.Core.Logic.{inl, inr}
 use mathlib.Core.List.{[], _∷_}
 use Prim.Native.Nat.{ℕ, zero, suc, _+_, _-_, _*_, _^_, _≤_, _<_}
-use native.Mathlib.Nat.{le-trans, le-of-eq, mul-pos, mul-assoc, mul-comm, mul-left-comm, mul-le-mul-right, le-of-mul-le-mul-right, zero-lt-suc, mul-one, mul-right-comm, zero-add, add-mul, one-mul}
+use native.Mathlib.Nat.{le-trans, le-of-eq, mul-pos, mul-assoc, mul-comm, mul-left-comm, mul-le-mul-right, le-of-mul-le-mul-right, zero-lt-suc, mul-one}
+use native.Mathlib.Nat.{mul-right-comm, zero-add, add-mul, one-mul}
 use native.Mathlib.Omega.{arith}
 use mathlib.Core.Bool.{Bool, false, not, _&&_}
 use lib.Dec.{T, leb, leb→le, lit<}
@@ -33,7 +34,8 @@ use Rattle.ieee.proofs.Every.{every, among}
 -- y is within 2 ^ -36 of d / e, which is above 0
 unfoldable pub near : Float → ℤ → ℤ → Bool
 near y (pos d) (pos zero) = false
-near y (pos d) (pos (suc e)) = finite y && not (sign y) && leb (num y * suc e * 2 ^ 36) (d * den y * 2 ^ 36 + d * den y) && leb (d * den y * 2 ^ 36) (num y * suc e * 2 ^ 36 + d * den y)
+near y (pos d) (pos (suc e)) = finite y && not (sign y) && leb (num y * suc e * 2 ^ 36) (d * den y * 2 ^ 36 + d * den y)
+    && leb (d * den y * 2 ^ 36) (num y * suc e * 2 ^ 36 + d * den y)
 near y (pos d) (negsuc e) = false
 near y (negsuc d) e = false
 
@@ -41,7 +43,8 @@ near y (negsuc d) e = false
 unfoldable pub climb : ℕ → (n m t₀ t₁ d₀ d₁ e₀ e₁ : ℤ) → Float → Bool
 climb zero n m t₀ t₁ d₀ d₁ e₀ e₁ y = near y d₁ e₁
 climb (suc k) n m t₀ t₁ d₀ d₁ e₀ e₁ y =
-    climb k n m t₁ (n *ℤ t₁ +ℤ negℤ (m *ℤ m *ℤ t₀)) d₁ (n *ℤ d₁ +ℤ negℤ (m *ℤ m *ℤ d₀) +ℤ pos 2 *ℤ m *ℤ t₁) e₁ (n *ℤ e₁ +ℤ negℤ (m *ℤ m *ℤ e₀) +ℤ pos 4 *ℤ m *ℤ d₁) y
+    climb k n m t₁ (n *ℤ t₁ +ℤ negℤ (m *ℤ m *ℤ t₀)) d₁ (n *ℤ d₁ +ℤ negℤ (m *ℤ m *ℤ d₀) +ℤ pos 2 *ℤ m *ℤ t₁) e₁
+    (n *ℤ e₁ +ℤ negℤ (m *ℤ m *ℤ e₀) +ℤ pos 4 *ℤ m *ℤ d₁) y
 
 unfoldable pub entry-test : ℕ → Bool
 entry-test s = let m = pos (13 * s * s) in climb (s - 1) (pos (2 * (13 * s * s + 2))) m (pos 1) (pos (13 * s * s + 2)) (pos 0) m (pos 0) (pos 0) (Table.omega s)
@@ -63,10 +66,14 @@ record At (w : Frac) (M p j : ℕ) (t₀ t₁ d₀ d₁ e₀ e₁ : ℤ) : Type 
 
 int-two : (n m a b : ℤ) → int (n *ℤ a +ℤ negℤ (m *ℤ m *ℤ b)) ≈ int n ⊗ int a ⊖ int m ⊗ int m ⊗ int b
 unfolding int _⊗_ _⊕_ opp
-int-two n m a b = record { cross = ℤ-ring (n ∷ m ∷ a ∷ b ∷ []) ((var 0 :* var 2 :+ Ring.neg (var 1 :* var 1 :* var 3)) :* con (pos 1)) ((var 0 :* var 2 :* con (pos 1) :+ Ring.neg (var 1 :* var 1 :* var 3) :* con (pos 1)) :* con (pos 1)) tt }
+int-two n m a b = record {
+  cross = ℤ-ring (n ∷ m ∷ a ∷ b ∷ []) ((var 0 :* var 2 :+ Ring.neg (var 1 :* var 1 :* var 3)) :* con (pos 1))
+      ((var 0 :* var 2 :* con (pos 1) :+ Ring.neg (var 1 :* var 1 :* var 3) :* con (pos 1)) :* con (pos 1)) tt;
+}
 
 int-three : (n m a b k c : ℤ) → int (n *ℤ a +ℤ negℤ (m *ℤ m *ℤ b) +ℤ k *ℤ m *ℤ c) ≈ int n ⊗ int a ⊖ int m ⊗ int m ⊗ int b ⊕ int k ⊗ int m ⊗ int c
-int-three n m a b k c = combine (int (n *ℤ a +ℤ negℤ (m *ℤ m *ℤ b)) ∷ int (k *ℤ m *ℤ c) ∷ int (k *ℤ m) ∷ int k ∷ int m ∷ int c ∷ int n ∷ int a ∷ int b ∷ int (n *ℤ a +ℤ negℤ (m *ℤ m *ℤ b) +ℤ k *ℤ m *ℤ c) ∷ [])
+int-three n m a b k c = combine (int (n *ℤ a +ℤ negℤ (m *ℤ m *ℤ b)) ∷ int (k *ℤ m *ℤ c) ∷ int (k *ℤ m) ∷ int k ∷ int m ∷ int c ∷ int n ∷ int a ∷ int b
+    ∷ int (n *ℤ a +ℤ negℤ (m *ℤ m *ℤ b) +ℤ k *ℤ m *ℤ c) ∷ [])
     (var 9) (var 6 :* var 7 :- var 4 :* var 4 :* var 8 :+ var 3 :* var 4 :* var 5)
     (given 1ₑ (var 9) (var 0 :+ var 1) (int-+ (n *ℤ a +ℤ negℤ (m *ℤ m *ℤ b)) (k *ℤ m *ℤ c))
     ∷ given 1ₑ (var 0) (var 6 :* var 7 :- var 4 :* var 4 :* var 8) (int-two n m a b)
@@ -92,7 +99,8 @@ module _ (w : Frac) (M p : ℕ) (n : ℤ) (twice : int (pos 2) ⊗ nat M ⊗ w �
   recur-with : (v v' u : Frac) (a b c k : ℤ) → nat p ⊗ v ≈ int b → nat (p * M) ⊗ v' ≈ int a → nat (p * M) ⊗ u ≈ int c
       → nat (p * M * M) ⊗ (int (pos 2) ⊗ w ⊗ v' ⊖ v ⊕ int k ⊗ u) ≈ int (n *ℤ a +ℤ negℤ (pos M *ℤ pos M *ℤ b) +ℤ k *ℤ pos M *ℤ c)
   recur-with v v' u a b c k h h' g =
-      combine (w ∷ v ∷ v' ∷ nat p ∷ nat M ∷ nat (p * M) ∷ nat (p * M * M) ∷ int n ∷ int a ∷ int b ∷ int (n *ℤ a +ℤ negℤ (pos M *ℤ pos M *ℤ b) +ℤ k *ℤ pos M *ℤ c) ∷ u ∷ int c ∷ int k ∷ [])
+      combine (w ∷ v ∷ v' ∷ nat p ∷ nat M ∷ nat (p * M) ∷ nat (p * M * M) ∷ int n ∷ int a ∷ int b
+      ∷ int (n *ℤ a +ℤ negℤ (pos M *ℤ pos M *ℤ b) +ℤ k *ℤ pos M *ℤ c) ∷ u ∷ int c ∷ int k ∷ [])
       (var 6 :* (2ₑ :* var 0 :* var 2 :- var 1 :+ var 13 :* var 11)) (var 10)
       (given (2ₑ :* var 0 :* var 2 :- var 1 :+ var 13 :* var 11) (var 6) (var 5 :* var 4) (nat-* (p * M) M)
       ∷ given (var 5 :* var 2) (2ₑ :* var 4 :* var 0) (var 7) twice
@@ -139,7 +147,8 @@ numerator q d e h = go (q .num) (h .value .cross)
       where
         flat : (b : ℕ) → suc e * m * 1 ≡ d * (1 * b) → m * suc e ≡ d * b
         flat b h = omega arith
-    go (negsuc m) g = absurd (pos-ne-negsuc (d * (1 * q .den)) (m + e * suc m) (sym g ∙ ap (λ (y : ℕ). negℤ (pos y) *ℤ pos 1) product ∙ ap (λ (y : ℕ). negℤ (pos y)) (mul-one (suc (m + e * suc m)))))
+    go (negsuc m) g = absurd (pos-ne-negsuc (d * (1 * q .den)) (m + e * suc m) (sym g ∙ ap (λ (y : ℕ). negℤ (pos y) *ℤ pos 1) product
+        ∙ ap (λ (y : ℕ). negℤ (pos y)) (mul-one (suc (m + e * suc m)))))
       where
         product : suc e * suc m ≡ suc (m + e * suc m)
         product = omega arith
@@ -151,7 +160,8 @@ module _ (x q k y m d e : ℕ) (h : m * e ≡ d * q) where
 
   -- (d y k + d y and its like, times q)
   whole : (d * y * k + d * y) * q ≡ (m * y * k + m * y) * e
-  whole = ap (λ (u : ℕ). (u + d * y) * q) (mul-assoc d y k) ∙ add-mul (d * (y * k)) (d * y) q ∙ ap₂ _+_ (part (y * k)) (part y) ∙ sym (add-mul (m * (y * k)) (m * y) e) ∙ ap (λ (u : ℕ). (u + m * y) * e) (sym (mul-assoc m y k))
+  whole = ap (λ (u : ℕ). (u + d * y) * q) (mul-assoc d y k) ∙ add-mul (d * (y * k)) (d * y) q ∙ ap₂ _+_ (part (y * k)) (part y)
+      ∙ sym (add-mul (m * (y * k)) (m * y) e) ∙ ap (λ (u : ℕ). (u + m * y) * e) (sym (mul-assoc m y k))
 
   turn : x * e * k * q ≡ x * q * k * e
   turn = simp (mul-assoc, mul-comm, mul-left-comm)
@@ -179,13 +189,16 @@ near-close y (pos d) (pos (suc e)) f s p z h g t =
     let q = f ⊘ s in
     let n = numerator q d e (quotient f s d e p z h g) in
     close-of 36 false y q (n .0) (and-l b₁ b₂ t₂) (is-false (sign y) (and-r b₁ b₂ t₂)) (n .1)
-    (carry (num y) (q .den) (2 ^ 36) (den y) (n .0) d (suc e) (n .2) (zero-lt-suc e) (leb→le (num y * suc e * 2 ^ 36) (d * den y * 2 ^ 36 + d * den y) (and-r (b₁ && b₂) b₃ t₃)))
-    (carry' (num y) (q .den) (2 ^ 36) (den y) (n .0) d (suc e) (n .2) (zero-lt-suc e) (leb→le (d * den y * 2 ^ 36) (num y * suc e * 2 ^ 36 + d * den y) (and-r (b₁ && b₂ && b₃) b₄ t)))
+    (carry (num y) (q .den) (2 ^ 36) (den y) (n .0) d (suc e) (n .2) (zero-lt-suc e)
+    (leb→le (num y * suc e * 2 ^ 36) (d * den y * 2 ^ 36 + d * den y) (and-r (b₁ && b₂) b₃ t₃)))
+    (carry' (num y) (q .den) (2 ^ 36) (den y) (n .0) d (suc e) (n .2) (zero-lt-suc e)
+    (leb→le (d * den y * 2 ^ 36) (num y * suc e * 2 ^ 36 + d * den y) (and-r (b₁ && b₂ && b₃) b₄ t)))
 
 -- ---- along the climb
 module _ (w : Frac) (M : ℕ) (some-M : 0 < M) (n : ℤ) (twice : int (pos 2) ⊗ nat M ⊗ w ≈ int n) where
   step : (p j : ℕ) (t₀ t₁ d₀ d₁ e₀ e₁ : ℤ) → At w M p j t₀ t₁ d₀ d₁ e₀ e₁
-      → At w M (p * M) (suc j) t₁ (n *ℤ t₁ +ℤ negℤ (pos M *ℤ pos M *ℤ t₀)) d₁ (n *ℤ d₁ +ℤ negℤ (pos M *ℤ pos M *ℤ d₀) +ℤ pos 2 *ℤ pos M *ℤ t₁) e₁ (n *ℤ e₁ +ℤ negℤ (pos M *ℤ pos M *ℤ e₀) +ℤ pos 4 *ℤ pos M *ℤ d₁)
+      → At w M (p * M) (suc j) t₁ (n *ℤ t₁ +ℤ negℤ (pos M *ℤ pos M *ℤ t₀)) d₁ (n *ℤ d₁ +ℤ negℤ (pos M *ℤ pos M *ℤ d₀) +ℤ pos 2 *ℤ pos M *ℤ t₁) e₁
+      (n *ℤ e₁ +ℤ negℤ (pos M *ℤ pos M *ℤ e₀) +ℤ pos 4 *ℤ pos M *ℤ d₁)
   unfolding chebyshev first second
   step p j t₀ t₁ d₀ d₁ e₀ e₁ a = record {
     some = mul-pos (a .some) some-M;
@@ -197,12 +210,15 @@ module _ (w : Frac) (M : ℕ) (some-M : 0 < M) (n : ℤ) (twice : int (pos 2) �
     s₁ = recur-with w M p n twice (second w j) (second w (suc j)) (first w (suc j)) e₁ e₀ d₁ (pos 4) (a .s₀) (a .s₁) (a .f₁);
   }
 
-  climbs : (k p j : ℕ) (t₀ t₁ d₀ d₁ e₀ e₁ : ℤ) (y : Float) → At w M p j t₀ t₁ d₀ d₁ e₀ e₁ → T (climb k n (pos M) t₀ t₁ d₀ d₁ e₀ e₁ y) → Close 36 y (first w (k + suc j) ⊘ second w (k + suc j))
+  climbs : (k p j : ℕ) (t₀ t₁ d₀ d₁ e₀ e₁ : ℤ) (y : Float) → At w M p j t₀ t₁ d₀ d₁ e₀ e₁ → T (climb k n (pos M) t₀ t₁ d₀ d₁ e₀ e₁ y)
+      → Close 36 y (first w (k + suc j) ⊘ second w (k + suc j))
   unfolding climb
-  climbs zero p j t₀ t₁ d₀ d₁ e₀ e₁ y a t = rw zero-add (near-close y d₁ e₁ (first w (suc j)) (second w (suc j)) (p * M) (mul-pos (a .some) some-M) (a .f₁) (a .s₁) t)
+  climbs zero p j t₀ t₁ d₀ d₁ e₀ e₁ y a t = rw zero-add (near-close y d₁ e₁ (first w (suc j)) (second w (suc j)) (p * M) (mul-pos (a .some) some-M)
+      (a .f₁) (a .s₁) t)
   climbs (suc k) p j t₀ t₁ d₀ d₁ e₀ e₁ y a t =
       subst (λ (i : ℕ). Close 36 y (first w i ⊘ second w i)) (shift k j)
-      (climbs k (p * M) (suc j) t₁ (n *ℤ t₁ +ℤ negℤ (pos M *ℤ pos M *ℤ t₀)) d₁ (n *ℤ d₁ +ℤ negℤ (pos M *ℤ pos M *ℤ d₀) +ℤ pos 2 *ℤ pos M *ℤ t₁) e₁ (n *ℤ e₁ +ℤ negℤ (pos M *ℤ pos M *ℤ e₀) +ℤ pos 4 *ℤ pos M *ℤ d₁) y (step p j t₀ t₁ d₀ d₁ e₀ e₁ a) t)
+      (climbs k (p * M) (suc j) t₁ (n *ℤ t₁ +ℤ negℤ (pos M *ℤ pos M *ℤ t₀)) d₁ (n *ℤ d₁ +ℤ negℤ (pos M *ℤ pos M *ℤ d₀) +ℤ pos 2 *ℤ pos M *ℤ t₁) e₁
+      (n *ℤ e₁ +ℤ negℤ (pos M *ℤ pos M *ℤ e₀) +ℤ pos 4 *ℤ pos M *ℤ d₁) y (step p j t₀ t₁ d₀ d₁ e₀ e₁ a) t)
     where
       shift : (k j : ℕ) → k + suc (suc j) ≡ suc k + suc j
       shift k j = omega arith
@@ -240,7 +256,8 @@ unfolding omega-one omega-zero entry-test
 close-omega s l h =
     let M = 13 * s * s in
     subst (λ (i : ℕ). Close 36 (Table.omega s) (first (1# ⊕ frac 2 M) i ⊘ second (1# ⊕ frac 2 M) i)) last
-    (climbs (1# ⊕ frac 2 M) M (weight s l) (pos (2 * (M + 2))) (start-twice M (weight s l)) (s - 1) 1 0 (pos 1) (pos (M + 2)) (pos 0) (pos M) (pos 0) (pos 0) (Table.omega s) (begin M (weight s l))
+    (climbs (1# ⊕ frac 2 M) M (weight s l) (pos (2 * (M + 2))) (start-twice M (weight s l)) (s - 1) 1 0 (pos 1) (pos (M + 2)) (pos 0) (pos M) (pos 0) (pos 0)
+    (Table.omega s) (begin M (weight s l))
     (among entry-test 199 2 s entries l (omega arith)))
   where
     last : s - 1 + 1 ≡ s

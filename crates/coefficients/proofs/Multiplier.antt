@@ -1,4 +1,5 @@
--- Each stage is y times 1 − b̂ + b̂ D(1 + ω1 z), with D the polynomial of Normalized: by entries in the attempt, by values in the multiplier. So the attempt is y times the multiplier, and the multiplier is between −1 and 1 for z from −2/ω1 to 0.
+-- Each stage is y times 1 − b̂ + b̂ D(1 + ω1 z), with D the polynomial of Normalized: by entries in the attempt, by values in the multiplier. So the attempt is
+-- y times the multiplier, and the multiplier is between −1 and 1 for z from −2/ω1 to 0.
 use mathlib.Core.Path.{refl, sym, _∙_}
 use mathlib.Core.List.{List, [], _∷_}
 use Prim.Native.Nat.{ℕ, zero, suc, _+_}
@@ -40,9 +41,11 @@ module _ (read : List Frac → Frac) (times-z : List Frac → List Frac) (z : Fr
   abbrev e : ℕ
   e = extra f
 
-  row-is : (i : ℕ) → let j = suc (suc i) in at j ≈ mu f j ⊗ at (suc i) ⊕ nu f j ⊗ at i ⊕ (1# ⊖ mu f j ⊖ nu f j) ⊗ read y ⊕ z ⊗ (mu-tilde f s j ⊗ at (suc i) ⊕ gamma-tilde f s j ⊗ read y)
+  row-is : (i : ℕ) → let j = suc (suc i) in at j ≈ mu f j ⊗ at (suc i) ⊕ nu f j ⊗ at i ⊕ (1# ⊖ mu f j ⊖ nu f j) ⊗ read y ⊕ z
+      ⊗ (mu-tilde f s j ⊗ at (suc i) ⊕ gamma-tilde f s j ⊗ read y)
   unfolding stage row
-  row-is i = combine (at j ∷ read ABC ∷ read AB ∷ read A ∷ read B ∷ read C ∷ read (times-z W) ∷ read W ∷ read M ∷ read G ∷ z ∷ mu f j ∷ nu f j ∷ mu-tilde f s j ∷ gamma-tilde f s j ∷ read p ∷ read q ∷ read y ∷ [])
+  row-is i = combine (at j ∷ read ABC ∷ read AB ∷ read A ∷ read B ∷ read C ∷ read (times-z W) ∷ read W ∷ read M ∷ read G ∷ z ∷ mu f j ∷ nu f j ∷ mu-tilde f s j
+      ∷ gamma-tilde f s j ∷ read p ∷ read q ∷ read y ∷ [])
       (var 0) (var 11 :* var 15 :+ var 12 :* var 16 :+ (1ₑ :- var 11 :- var 12) :* var 17 :+ var 10 :* (var 13 :* var 15 :+ var 14 :* var 17))
       (given 1ₑ (var 0) (var 1 :+ var 6) (l .of-sum ABC (times-z W))
       ∷ given 1ₑ (var 1) (var 2 :+ var 5) (l .of-sum AB C)
@@ -95,7 +98,8 @@ module _ (read : List Frac → Frac) (times-z : List Frac → List Frac) (z : Fr
       let A = var 0 in let B = var 1 in let m = var 2 in let n = var 3 in let B0 = var 4 in let B1 = var 5 in let B2 = var 6 in let D0 = var 7 in
       let D1 = var 8 in let D2 = var 9 in let z′ = var 10 in let w = var 11 in let P = var 12 in let Q = var 13 in let E = var 14 in let g = var 15 in
       let Y = var 16 in let X = 1ₑ :+ w :* z′ in
-      combine (α e i ∷ β e i ∷ mu f j ∷ nu f j ∷ b-hat f i ∷ b-hat f (suc i) ∷ b-hat f j ∷ D e x′ i ∷ D e x′ (suc i) ∷ D e x′ j ∷ z ∷ omega-one f s ∷ at (suc i) ∷ at i ∷ at j ∷ gamma-tilde f s j ∷ read y ∷ [])
+      combine (α e i ∷ β e i ∷ mu f j ∷ nu f j ∷ b-hat f i ∷ b-hat f (suc i) ∷ b-hat f j ∷ D e x′ i ∷ D e x′ (suc i) ∷ D e x′ j ∷ z ∷ omega-one f s ∷ at (suc i)
+      ∷ at i ∷ at j ∷ gamma-tilde f s j ∷ read y ∷ [])
       (A :* E) (A :* (Y :* (1ₑ :+ B2 :* (D2 :- 1ₑ))))
       (given A E (m :* P :+ n :* Q :+ (1ₑ :- m :- n) :* Y :+ z′ :* (w :* m :* P :+ g :* Y)) (row-is i)
       ∷ given (A :* z′ :* Y) g (neg (1ₑ :- B1) :* (w :* m)) (gamma-is f s i)
@@ -115,7 +119,8 @@ module _ (read : List Frac → Frac) (times-z : List Frac → List Frac) (z : Fr
   stage-is : (j : ℕ) → at j ≈ read y ⊗ factor f s z j
   unfolding stage D
   stage-is zero = ring (read y ∷ b-hat f 0 ∷ []) (var 0) (var 0 :* (1ₑ :+ var 1 :* (1ₑ :- 1ₑ))) tt
-  stage-is (suc zero) = combine (z ∷ b-hat f 1 ∷ omega-one f s ∷ first-mu-tilde f s ∷ read y ∷ read (times-z y) ∷ read (first-mu-tilde f s · times-z y) ∷ at 1 ∷ [])
+  stage-is (suc zero) = combine (z ∷ b-hat f 1 ∷ omega-one f s ∷ first-mu-tilde f s ∷ read y ∷ read (times-z y)
+      ∷ read (first-mu-tilde f s · times-z y) ∷ at 1 ∷ [])
       (var 7) (var 4 :* (1ₑ :+ var 1 :* (1ₑ :+ var 2 :* var 0 :- 1ₑ)))
       (given 1ₑ (var 7) (var 4 :+ var 6) (l .of-sum y (first-mu-tilde f s · times-z y))
       ∷ given 1ₑ (var 6) (var 3 :* var 5) (l .of-multiple _ (times-z y))
@@ -130,7 +135,8 @@ unfolding multiplier eval
 multiplier-is f s z = combine (eval (multiplier f s) z ∷ z ∷ factor f s z s ∷ [])
     (var 0) (var 2)
     (given 1ₑ (var 0) ((1ₑ :+ var 1 :* 0ₑ) :* var 2)
-    (stage-is (λ p. eval p z) times-variable z (record { of-sum = λ p q. eval-⊞ p q z; of-multiple = λ k p. eval-· k p z; of-times-z = λ p. eval-times p z }) f s (1# ∷ []) s)
+    (stage-is (λ p. eval p z) times-variable z (record { of-sum = λ p q. eval-⊞ p q z; of-multiple = λ k p. eval-· k p z; of-times-z = λ p. eval-times p z }) f
+    s (1# ∷ []) s)
     ∷ []) tt
 
 -- ---- the attempt
@@ -147,7 +153,11 @@ pub attempt-is : (f : Orthogonal) (s : ℕ) (c step : Frac) (y : List Frac) → 
 unfolding attempt
 attempt-is f s c step y = record {
   lengths = stage-long z f s y s .is ∙ sym (length-· (eval (multiplier f s) z) y);
-  entries = λ k. stage-is (λ p. nth p k) (λ p. z · p) z (record { of-sum = λ p q. nth-⊞ p q k; of-multiple = λ a p. nth-· a p k; of-times-z = λ p. nth-· z p k }) f s y s
+  entries = λ k. stage-is (λ p. nth p k) (λ p. z · p) z (record {
+    of-sum = λ p q. nth-⊞ p q k;
+    of-multiple = λ a p. nth-· a p k;
+    of-times-z = λ p. nth-· z p k;
+  }) f s y s
       ▹ ring (nth y k ∷ factor f s z s ∷ []) (var 0 :* var 1) (var 1 :* var 0) tt
       ▹ ⊗-cong (≈-sym (multiplier-is f s z)) (≈-refl (nth y k)) ▹ ≈-sym (nth-· (eval (multiplier f s) z) y k);
 }
@@ -185,7 +195,9 @@ module _ (f : Orthogonal) (i : ℕ) (z : Frac) (range : Between (opp (nat 2 ⊘ 
         (given (neg 1ₑ) (var 0) (1ₑ :+ var 1 :* (var 2 :- 1ₑ)) (multiplier-is f s z)
         ∷ []) tt)
         (nonneg-+ (nonneg-* (nonneg-nat 2) (b-hat-fits f i .high)) (nonneg-* (b-hat-fits f i .low) (at-least-minus-one d (square s)))));
-    to = ≼-of (nonneg-≈ (combine (p ∷ B ∷ d ∷ []) (var 1 :* (1ₑ :- var 2)) (1ₑ :- var 0) (given 1ₑ (var 0) (1ₑ :+ var 1 :* (var 2 :- 1ₑ)) (multiplier-is f s z) ∷ []) tt)
+    to =
+        ≼-of (nonneg-≈ (combine (p ∷ B ∷ d ∷ []) (var 1 :* (1ₑ :- var 2)) (1ₑ :- var 0)
+        (given 1ₑ (var 0) (1ₑ :+ var 1 :* (var 2 :- 1ₑ)) (multiplier-is f s z) ∷ []) tt)
         (nonneg-* (b-hat-fits f i .low) (at-most-one d (square s))));
   }
     where

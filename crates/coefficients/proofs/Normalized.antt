@@ -1,5 +1,6 @@
--- Legendre's polynomials (e = 0) and Gegenbauer's of index 3/2 (e = 2), divided by their values at 1, are between −1 and 1 on [−1, 1]. From their recurrence alone, without analysis:
--- for α D(i+2) = (α + β) x D(i+1) − β D(i), with β ≤ α, the form v² − 2xvw + w² at two neighbors v, w falls as i grows: its fall is (α² − β²)(v − xw)²/α². It begins at 1 − x² and is at least (1 − x²)v².
+-- Legendre's polynomials (e = 0) and Gegenbauer's of index 3/2 (e = 2), divided by their values at 1, are between −1 and 1 on [−1, 1]. From their recurrence
+-- alone, without analysis: for α D(i+2) = (α + β) x D(i+1) − β D(i), with β ≤ α, the form v² − 2xvw + w² at two neighbors v, w falls as i grows: its fall is
+-- (α² − β²)(v − xw)²/α². It begins at 1 − x² and is at least (1 − x²)v².
 use mathlib.Core.Path.{_≡_, subst}
 use mathlib.Core.List.{[], _∷_}
 use mathlib.Core.Logic.{inl, inr}
@@ -26,7 +27,8 @@ module _ (e : ℕ) where
   D x (suc (suc i)) = ((α i ⊕ β i) ⊗ x ⊗ D x (suc i) ⊖ β i ⊗ D x i) ⊗ 1 over (suc (i + e))
 
   α-is : (i : ℕ) → α i ≈ β i ⊕ int (pos (suc e))
-  α-is i = subst (λ (n : ℕ). int (pos n) ≈ β i ⊕ int (pos (suc e))) (let p : suc i + suc e ≡ suc (suc (i + e)) = omega arith in p) (int-+ (pos (suc i)) (pos (suc e)))
+  α-is i = subst (λ (n : ℕ). int (pos n) ≈ β i ⊕ int (pos (suc e))) (let p : suc i + suc e ≡ suc (suc (i + e)) = omega arith in
+      p) (int-+ (pos (suc i)) (pos (suc e)))
 
   pub D-rec : (x : Frac) (i : ℕ) → α i ⊗ D x (suc (suc i)) ≈ (α i ⊕ β i) ⊗ x ⊗ D x (suc i) ⊖ β i ⊗ D x i
   unfolding D

@@ -1,4 +1,5 @@
--- What the papers' fractions come to, multiplied out: mu, nu, gamma-tilde and first-mu-tilde by ω1 and b̂, which is b times the polynomial's value at 1; and ω1 and b̂ in whole numbers. From specs/Paper alone.
+-- What the papers' fractions come to, multiplied out: mu, nu, gamma-tilde and first-mu-tilde by ω1 and b̂, which is b times the polynomial's value at 1; and ω1
+-- and b̂ in whole numbers. From specs/Paper alone.
 use mathlib.Core.Path.{_≡_, refl, ap, ap₂, subst}
 use mathlib.Core.List.{[], _∷_}
 use Prim.Native.Nat.{ℕ, zero, suc, _+_, _*_, _-_}
@@ -12,7 +13,8 @@ use Rattle.fractions.proofs.Order.{Above, above-nat}
 use Rattle.fractions.proofs.Values.{nat, nat-+, Is, is-nat, is-frac, is-nat≡, is-quotient, is-*, is-same, Fits, fits, above-frac, divided}
 use Rattle.coefficients.proofs.Normalized.{α, β}
 use Rattle.family.specs.Family.{Orthogonal, Legendre1, Legendre2, Gegenbauer1, Gegenbauer2}
-use Rattle.coefficients.specs.Paper.{omega-one, b, b-later, b-zero, b-one, value-at-one, a, mu-factor, nu-factor, mu, nu, mu-tilde, gamma-tilde, first-mu-tilde}
+use Rattle.coefficients.specs.Paper.{omega-one, b, b-later, b-zero, b-one, value-at-one, a, mu-factor, nu-factor, mu, nu, mu-tilde, gamma-tilde}
+use Rattle.coefficients.specs.Paper.{first-mu-tilde}
 
 -- the e of Normalized
 abbrev pub extra : Orthogonal → ℕ
@@ -44,14 +46,18 @@ value-at-one-G : (j : ℕ) {m n : ℕ} → j + 1 ≡ m → j + 2 ≡ n → Is (f
 value-at-one-G j p q = is-quotient _ _ (ap₂ _*_ p q) refl (omega arith)
 
 mu-L : (i : ℕ) → nat (suc (suc (i + 0))) ⊗ (frac (2 * suc (suc i) - 1) (suc (suc i)) ⊗ nat 1) ≈ nat (suc (suc (i + 0)) + suc i) ⊗ nat 1
-mu-L i = is-same (is-* (is-nat _) (is-* (is-quotient _ _ {m′ = 2 * i + 3} (omega arith) refl (omega arith)) (is-nat 1))) (is-* (is-nat _) (is-nat 1)) (omega arith)
+mu-L i = is-same (is-* (is-nat _) (is-* (is-quotient _ _ {m′ = 2 * i + 3} (omega arith) refl (omega arith)) (is-nat 1)))
+    (is-* (is-nat _) (is-nat 1)) (omega arith)
 
-mu-G : (i : ℕ) → nat (suc (suc (i + 2))) ⊗ (frac (2 * suc (suc i) + 1) (suc (suc i)) ⊗ frac ((suc i + 1) * (suc i + 2)) 2) ≈ nat (suc (suc (i + 2)) + suc i) ⊗ frac ((suc (suc i) + 1) * (suc (suc i) + 2)) 2
+mu-G : (i : ℕ) → nat (suc (suc (i + 2))) ⊗ (frac (2 * suc (suc i) + 1) (suc (suc i)) ⊗ frac ((suc i + 1) * (suc i + 2)) 2) ≈ nat (suc (suc (i + 2)) + suc i)
+    ⊗ frac ((suc (suc i) + 1) * (suc (suc i) + 2)) 2
 mu-G i = is-same
-    (is-* (is-nat≡ _ {m′ = i + 4} (omega arith)) (is-* (is-quotient _ _ {m′ = 2 * i + 5} {n′ = i + 2} (omega arith) (omega arith) (omega arith)) (value-at-one-G _ {m = i + 2} {n = i + 3} (omega arith) (omega arith))))
+    (is-* (is-nat≡ _ {m′ = i + 4} (omega arith)) (is-* (is-quotient _ _ {m′ = 2 * i + 5} {n′ = i + 2} (omega arith) (omega arith) (omega arith))
+    (value-at-one-G _ {m = i + 2} {n = i + 3} (omega arith) (omega arith))))
     (is-* (is-nat≡ _ {m′ = 2 * i + 5} (omega arith)) (value-at-one-G _ {m = i + 3} {n = i + 4} (omega arith) (omega arith))) (omega arith)
 
-mu-value-at-one : (f : Orthogonal) (i : ℕ) → nat (suc (suc (i + extra f))) ⊗ (mu-factor f (suc (suc i)) ⊗ value-at-one f (suc i)) ≈ nat (suc (suc (i + extra f)) + suc i) ⊗ value-at-one f (suc (suc i))
+mu-value-at-one : (f : Orthogonal) (i : ℕ) → nat (suc (suc (i + extra f))) ⊗ (mu-factor f (suc (suc i)) ⊗ value-at-one f (suc i))
+    ≈ nat (suc (suc (i + extra f)) + suc i) ⊗ value-at-one f (suc (suc i))
 unfolding mu-factor value-at-one
 mu-value-at-one Legendre1 i = mu-L i
 mu-value-at-one Legendre2 i = mu-L i
@@ -61,12 +67,15 @@ mu-value-at-one Gegenbauer2 i = mu-G i
 nu-L : (i : ℕ) → nat (suc (suc (i + 0))) ⊗ (frac (suc (suc i) - 1) (suc (suc i)) ⊗ nat 1) ≈ nat (suc i) ⊗ nat 1
 nu-L i = is-same (is-* (is-nat _) (is-* (is-quotient _ _ {m′ = i + 1} (omega arith) refl (omega arith)) (is-nat 1))) (is-* (is-nat _) (is-nat 1)) (omega arith)
 
-nu-G : (i : ℕ) → nat (suc (suc (i + 2))) ⊗ (frac (suc (suc i) + 1) (suc (suc i)) ⊗ frac ((i + 1) * (i + 2)) 2) ≈ nat (suc i) ⊗ frac ((suc (suc i) + 1) * (suc (suc i) + 2)) 2
+nu-G : (i : ℕ) → nat (suc (suc (i + 2))) ⊗ (frac (suc (suc i) + 1) (suc (suc i)) ⊗ frac ((i + 1) * (i + 2)) 2) ≈ nat (suc i)
+    ⊗ frac ((suc (suc i) + 1) * (suc (suc i) + 2)) 2
 nu-G i = is-same
-    (is-* (is-nat≡ _ {m′ = i + 4} (omega arith)) (is-* (is-quotient _ _ {m′ = i + 3} {n′ = i + 2} (omega arith) (omega arith) (omega arith)) (value-at-one-G _ {m = i + 1} {n = i + 2} refl refl)))
+    (is-* (is-nat≡ _ {m′ = i + 4} (omega arith)) (is-* (is-quotient _ _ {m′ = i + 3} {n′ = i + 2} (omega arith) (omega arith) (omega arith))
+    (value-at-one-G _ {m = i + 1} {n = i + 2} refl refl)))
     (is-* (is-nat≡ _ {m′ = i + 1} (omega arith)) (value-at-one-G _ {m = i + 3} {n = i + 4} (omega arith) (omega arith))) (omega arith)
 
-nu-value-at-one : (f : Orthogonal) (i : ℕ) → nat (suc (suc (i + extra f))) ⊗ (nu-factor f (suc (suc i)) ⊗ value-at-one f i) ≈ nat (suc i) ⊗ value-at-one f (suc (suc i))
+nu-value-at-one : (f : Orthogonal) (i : ℕ) → nat (suc (suc (i + extra f))) ⊗ (nu-factor f (suc (suc i)) ⊗ value-at-one f i) ≈ nat (suc i)
+    ⊗ value-at-one f (suc (suc i))
 unfolding nu-factor value-at-one
 nu-value-at-one Legendre1 i = nu-L i
 nu-value-at-one Legendre2 i = nu-L i
@@ -150,7 +159,9 @@ b-hat-G1 i = is-* (is-quotient _ _ refl (omega arith) (omega arith)) (value-at-o
 
 pub b-hat-G2 : (i : ℕ) → Is (b-hat Gegenbauer2 (suc (suc i))) (4 * (i + 1) * (i + 6) * ((i + 3) * (i + 4))) (3 * (i + 2) * (i + 3) * (i + 4) * (i + 5) * 2)
 unfolding b b-later value-at-one
-b-hat-G2 i = is-* (is-quotient _ _ (ap₂ _*_ (ap (λ n. 4 * n) (omega arith)) (omega arith)) (ap₂ _*_ (ap₂ _*_ (ap₂ _*_ (omega arith) (omega arith)) (omega arith)) (omega arith)) (one-le-mul (omega arith) (omega arith)))
+b-hat-G2 i =
+    is-* (is-quotient _ _ (ap₂ _*_ (ap (λ n. 4 * n) (omega arith)) (omega arith)) (ap₂ _*_ (ap₂ _*_ (ap₂ _*_ (omega arith) (omega arith)) (omega arith))
+    (omega arith)) (one-le-mul (omega arith) (omega arith)))
     (value-at-one-G (suc (suc i)) (omega arith) (omega arith))
 
 pub b-hat-fits : (f : Orthogonal) (i : ℕ) → Fits (b-hat f (suc (suc i)))
@@ -199,4 +210,5 @@ unfolding omega-one
 
 pub gamma-is : (f : Orthogonal) (s i : ℕ) → gamma-tilde f s (suc (suc i)) ≈ opp (1# ⊖ b-hat f (suc i)) ⊗ (omega-one f s ⊗ mu f (suc (suc i)))
 unfolding gamma-tilde mu-tilde a
-gamma-is f s i = subst (λ (k : ℕ). opp (1# ⊖ b-hat f k) ⊗ (omega-one f s ⊗ mu f (suc (suc i))) ≈ opp (1# ⊖ b-hat f (suc i)) ⊗ (omega-one f s ⊗ mu f (suc (suc i)))) (let p : suc i ≡ suc (suc i) - 1 = omega arith in p) (≈-refl _)
+gamma-is f s i = subst (λ (k : ℕ). opp (1# ⊖ b-hat f k) ⊗ (omega-one f s ⊗ mu f (suc (suc i))) ≈ opp (1# ⊖ b-hat f (suc i))
+    ⊗ (omega-one f s ⊗ mu f (suc (suc i)))) (let p : suc i ≡ suc (suc i) - 1 = omega arith in p) (≈-refl _)

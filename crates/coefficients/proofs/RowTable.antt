@@ -112,19 +112,23 @@ unfoldable pub s-fits : Orthogonal → ℕ → Bool
 s-fits f s = fits false (omega-one-of (made-of f) s) (omega-one f s)
 
 rows-Legendre1 : T (every₃ (b-of Legendre1) (row-fits Legendre1) 199 2 (b-of Legendre1 0) (b-of Legendre1 1))
-unfolding every₃ row-fits fits a-fits gamma-zero is-zero b-of mu-with nu-with a-with negative double add sub mul div neg legendre-two-b gegenbauer-one-b gegenbauer-two-b mu nu a value-at-one mu-factor nu-factor b b-later b-zero b-one _⊘_ _⊗_ _⊕_ opp frac int inverse-of _over_
+unfolding every₃ row-fits fits a-fits gamma-zero is-zero b-of mu-with nu-with a-with negative double add sub mul div neg legendre-two-b gegenbauer-one-b
+    gegenbauer-two-b mu nu a value-at-one mu-factor nu-factor b b-later b-zero b-one _⊘_ _⊗_ _⊕_ opp frac int inverse-of _over_
 rows-Legendre1 = tt
 
 rows-Legendre2 : T (every₃ (b-of Legendre2) (row-fits Legendre2) 199 2 (b-of Legendre2 0) (b-of Legendre2 1))
-unfolding every₃ row-fits fits a-fits gamma-zero is-zero b-of mu-with nu-with a-with negative double add sub mul div neg legendre-two-b gegenbauer-one-b gegenbauer-two-b mu nu a value-at-one mu-factor nu-factor b b-later b-zero b-one _⊘_ _⊗_ _⊕_ opp frac int inverse-of _over_
+unfolding every₃ row-fits fits a-fits gamma-zero is-zero b-of mu-with nu-with a-with negative double add sub mul div neg legendre-two-b gegenbauer-one-b
+    gegenbauer-two-b mu nu a value-at-one mu-factor nu-factor b b-later b-zero b-one _⊘_ _⊗_ _⊕_ opp frac int inverse-of _over_
 rows-Legendre2 = tt
 
 rows-Gegenbauer1 : T (every₃ (b-of Gegenbauer1) (row-fits Gegenbauer1) 199 2 (b-of Gegenbauer1 0) (b-of Gegenbauer1 1))
-unfolding every₃ row-fits fits a-fits gamma-zero is-zero b-of mu-with nu-with a-with negative double add sub mul div neg legendre-two-b gegenbauer-one-b gegenbauer-two-b mu nu a value-at-one mu-factor nu-factor b b-later b-zero b-one _⊘_ _⊗_ _⊕_ opp frac int inverse-of _over_
+unfolding every₃ row-fits fits a-fits gamma-zero is-zero b-of mu-with nu-with a-with negative double add sub mul div neg legendre-two-b gegenbauer-one-b
+    gegenbauer-two-b mu nu a value-at-one mu-factor nu-factor b b-later b-zero b-one _⊘_ _⊗_ _⊕_ opp frac int inverse-of _over_
 rows-Gegenbauer1 = tt
 
 rows-Gegenbauer2 : T (every₃ (b-of Gegenbauer2) (row-fits Gegenbauer2) 199 2 (b-of Gegenbauer2 0) (b-of Gegenbauer2 1))
-unfolding every₃ row-fits fits a-fits gamma-zero is-zero b-of mu-with nu-with a-with negative double add sub mul div neg legendre-two-b gegenbauer-one-b gegenbauer-two-b mu nu a value-at-one mu-factor nu-factor b b-later b-zero b-one _⊘_ _⊗_ _⊕_ opp frac int inverse-of _over_
+unfolding every₃ row-fits fits a-fits gamma-zero is-zero b-of mu-with nu-with a-with negative double add sub mul div neg legendre-two-b gegenbauer-one-b
+    gegenbauer-two-b mu nu a value-at-one mu-factor nu-factor b b-later b-zero b-one _⊘_ _⊗_ _⊕_ opp frac int inverse-of _over_
 rows-Gegenbauer2 = tt
 
 stages-Legendre1 : T (every (s-fits Legendre1) 199 2)
@@ -151,7 +155,8 @@ legendre2-first-fits : ℕ → Bool
 legendre2-first-fits s = fits false (stage-one-of Legendre2 s) (Paper.first-mu-tilde Legendre2 s)
 
 legendre2-firsts : T (every legendre2-first-fits 199 2)
-unfolding every legendre2-first-fits fits recurrence-of first-mu-tilde omega-one-of made-of negative double square add sub mul div omega-one Paper.first-mu-tilde _⊗_ frac int _over_
+unfolding every legendre2-first-fits fits recurrence-of first-mu-tilde omega-one-of made-of negative double square add sub mul div omega-one
+    Paper.first-mu-tilde _⊗_ frac int _over_
 legendre2-firsts = tt
 
 -- ---- what they say
@@ -173,7 +178,8 @@ module _ (f : Orthogonal) (j : ℕ) (l : 2 ≤ j) (h : j ≤ 200) where
       let e : j - 2 + 2 ≡ j = omega arith in
       let e' : j - 2 + 1 ≡ j - 1 = omega arith in
       subst (λ (i : ℕ). T (row-fits f i (b-of f (j - 2)) (b-of f (j - 1)) (b-of f i))) e
-      (subst (λ (i : ℕ). T (row-fits f (j - 2 + 2) (b-of f (j - 2)) (b-of f i) (b-of f (j - 2 + 2)))) e' (among₃ (b-of f) (row-fits f) 199 0 (j - 2) (rows f) (omega arith) (omega arith)))
+      (subst (λ (i : ℕ). T (row-fits f (j - 2 + 2) (b-of f (j - 2)) (b-of f i) (b-of f (j - 2 + 2)))) e'
+      (among₃ (b-of f) (row-fits f) 199 0 (j - 2) (rows f) (omega arith) (omega arith)))
 
   abbrev mu-part : Bool
   mu-part = fits false (mu-of f j) (mu f j)

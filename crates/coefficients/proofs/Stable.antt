@@ -1,4 +1,5 @@
--- `Stable` holds of each family and each permitted number of stages, and in fact of any s from 2 on. From Multiplier (the attempt, the bound), Begins, and the reach against 2/ω1.
+-- `Stable` holds of each family and each permitted number of stages, and in fact of any s from 2 on. From Multiplier (the attempt, the bound), Begins, and the
+-- reach against 2/ω1.
 use mathlib.Core.Path.{refl, ap₂}
 use mathlib.Core.List.{[], _∷_}
 use Prim.Native.Nat.{ℕ, zero, suc, _+_, _*_, _≤_}
@@ -25,15 +26,24 @@ unfolding Begins
 begins-is Legendre1 i = record { constant = begins-0 Legendre1 (suc (suc i)); linear = begins-1 Legendre1 i }
 begins-is Legendre2 i = record { first-order = record { constant = begins-0 Legendre2 (suc (suc i)); linear = begins-1 Legendre2 i }; quadratic = begins-2-L i }
 begins-is Gegenbauer1 i = record { constant = begins-0 Gegenbauer1 (suc (suc i)); linear = begins-1 Gegenbauer1 i }
-begins-is Gegenbauer2 i = record { first-order = record { constant = begins-0 Gegenbauer2 (suc (suc i)); linear = begins-1 Gegenbauer2 i }; quadratic = begins-2-G i }
+begins-is Gegenbauer2 i = record {
+  first-order = record { constant = begins-0 Gegenbauer2 (suc (suc i)); linear = begins-1 Gegenbauer2 i };
+  quadratic = begins-2-G i;
+}
 
 -- half of ω1 times the reach: 1 in RKL, 1/2 in RKG
 share : (f : Orthogonal) (i : ℕ) → Nonneg (1# ⊖ frac 1 2 ⊗ (omega-one f (suc (suc i)) ⊗ reach f (suc (suc i))))
 unfolding reach
-share Legendre1 i = is-at-most-one (is-* (is-frac 1 2 (omega arith)) (is-* (ω-L1 i) (is-quotient _ _ {m′ = (i + 2) * (i + 3)} (omega arith) refl (omega arith)))) (omega arith)
-share Legendre2 i = is-at-most-one (is-* (is-frac 1 2 (omega arith)) (is-* (ω-L2 i) (is-quotient _ _ {m′ = (i + 1) * (i + 4)} (ap₂ _*_ (omega arith) (omega arith)) refl (omega arith)))) (omega arith)
-share Gegenbauer1 i = is-at-most-one (is-* (is-frac 1 2 (omega arith)) (is-* (ω-G1 i) (is-quotient _ _ {m′ = (i + 2) * (i + 5)} (omega arith) refl (omega arith)))) (omega arith)
-share Gegenbauer2 i = is-at-most-one (is-* (is-frac 1 2 (omega arith)) (is-* (ω-G2 i) (is-quotient _ _ {m′ = (i + 1) * (i + 6)} (ap₂ _*_ (omega arith) (omega arith)) refl (omega arith)))) (omega arith)
+share Legendre1 i =
+    is-at-most-one (is-* (is-frac 1 2 (omega arith)) (is-* (ω-L1 i) (is-quotient _ _ {m′ = (i + 2) * (i + 3)} (omega arith) refl (omega arith)))) (omega arith)
+share Legendre2 i =
+    is-at-most-one (is-* (is-frac 1 2 (omega arith))
+    (is-* (ω-L2 i) (is-quotient _ _ {m′ = (i + 1) * (i + 4)} (ap₂ _*_ (omega arith) (omega arith)) refl (omega arith)))) (omega arith)
+share Gegenbauer1 i =
+    is-at-most-one (is-* (is-frac 1 2 (omega arith)) (is-* (ω-G1 i) (is-quotient _ _ {m′ = (i + 2) * (i + 5)} (omega arith) refl (omega arith)))) (omega arith)
+share Gegenbauer2 i =
+    is-at-most-one (is-* (is-frac 1 2 (omega arith))
+    (is-* (ω-G2 i) (is-quotient _ _ {m′ = (i + 1) * (i + 6)} (ap₂ _*_ (omega arith) (omega arith)) refl (omega arith)))) (omega arith)
 
 reach-is : (f : Orthogonal) (i : ℕ) → reach f (suc (suc i)) ≼ nat 2 ⊘ omega-one f (suc (suc i))
 reach-is f i = ≼-of (nonneg-cancel (ω-above f i) (nonneg-≈ (combine (ω ∷ R ∷ (nat 2 ⊘ ω) ∷ frac 1 2 ∷ [])
@@ -52,7 +62,8 @@ reach-is f i = ≼-of (nonneg-cancel (ω-above f i) (nonneg-≈ (combine (ω ∷
 -- a shorter interval
 within : {far z : Frac} (near : Frac) → near ≼ far → Between (opp near) z 0# → Between (opp far) z 0#
 within {far} {z} near h r = record {
-  from = ≼-of (nonneg-≈ (ring (far ∷ z ∷ near ∷ []) ((var 1 :- neg (var 2)) :+ (var 0 :- var 2)) (var 1 :- neg (var 0)) tt) (nonneg-+ (of-≼ (r .from)) (of-≼ h)));
+  from = ≼-of (nonneg-≈ (ring (far ∷ z ∷ near ∷ []) ((var 1 :- neg (var 2)) :+ (var 0 :- var 2)) (var 1 :- neg (var 0)) tt)
+      (nonneg-+ (of-≼ (r .from)) (of-≼ h)));
   to = r .to;
 }
 

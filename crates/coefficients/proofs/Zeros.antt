@@ -1,5 +1,6 @@
 -- Which coefficients of RKL1, RKL2, RKG1 and RKG2 are 0, for every permitted s and stage 2 to s: `gamma_tilde` where `gamma-zero` says so, and no other,
--- as fractions and as doubles: `zeros`, `first-zero`. From what fits (CloseRows): a double that fits is not 0, and close to its fraction it would be, were that 0.
+-- as fractions and as doubles: `zeros`, `first-zero`. From what fits (CloseRows): a double that fits is not 0, and close to its fraction it would be, were that
+-- 0.
 use mathlib.Core.Path.{_≡_, subst}
 use Prim.Native.Nat.{ℕ, _≤_, _<_}
 use native.Mathlib.Nat.{lt-irrefl}

@@ -1,4 +1,5 @@
--- The whole text: what is put from the start on is counted, and of a report it is the definition's. From the definitions, and from the theorem of a day's accounts.
+-- The whole text: what is put from the start on is counted, and of a report it is the definition's. From the definitions, and from the theorem of a day's
+-- accounts.
 use mathlib.Core.Path.{_≡_, refl, sym, ap, subst, _∙_}
 use mathlib.Core.List.{List, [], _++_}
 use Prim.Native.Nat.{ℕ, _+_, _≤_}
@@ -25,7 +26,8 @@ puts-counts {p} {q} {x} {r} h =
     (omega (arith, e, length-take r q), e)
 
 module _ (text before : List ℕ) (temperatures : List Float) (b : before ≡ replicate 1440 0) (t : temperatures ≡ replicate 1440 nought) where
-  reports : {r : DayResult} {refusals : List ℕ} {junctions : List Float} → Reports (day text before temperatures) r refusals junctions → Reports (report text) r refusals junctions
+  reports : {r : DayResult} {refusals : List ℕ} {junctions : List Float} → Reports (day text before temperatures) r refusals junctions
+      → Reports (report text) r refusals junctions
   unfolding report
   reports {r} {refusals} {junctions} h =
       subst (λ (x : List Float). Reports (day text (replicate 1440 0) x) r refusals junctions) t
@@ -45,7 +47,8 @@ module _ (text before : List ℕ) (temperatures : List Float) (b : before ≡ re
       ap (λ (x : DayResult). junctions-text x junctions) (sym e ∙ w .results) ∙ ap (junctions-text (report text .result)) (w .temperatures)
 
 -- a day's lists have an entry a minute
-module _ (text before : List ℕ) (temperatures : List Float) {r : DayResult} {t : Total} {refusals : List ℕ} {junctions : List Float} (e : r ≡ Day t) (h : Reports (day text before temperatures) r refusals junctions) where
+module _ (text before : List ℕ) (temperatures : List Float) {r : DayResult} {t : Total} {refusals : List ℕ} {junctions : List Float} (e : r ≡ Day t)
+    (h : Reports (day text before temperatures) r refusals junctions) where
   all : Accounts t refusals junctions
   all = accounts text before temperatures t (subst (λ (o : DayResult). Reports (day text before temperatures) o refusals junctions) e h)
 

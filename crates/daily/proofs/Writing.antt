@@ -15,7 +15,9 @@ use Rattle.page.proofs.Digits.{length-digits, length-decimal, length-word}
 use Rattle.inverter.specs.declared.Total.{Total}
 use Rattle.accounts.specs.Accounts.{Refused-minute, refused-minute, listed}
 use Rattle.accounts.proofs.Listing.{listed-more}
-use Rattle.daily.specs.Written.{bits-text, hours-text, count-line, heading, counts, refusal-line, refused-line, refusal-lines, junction-line, junction-lines, total-text, hours-above-text, point-text, minutes-above-text, evaluations-text, finished-attempts-text, refused-minutes-text, minute-text, refused-with-text, line-end}
+use Rattle.daily.specs.Written.{bits-text, hours-text, count-line, heading, counts, refusal-line, refused-line, refusal-lines, junction-line}
+use Rattle.daily.specs.Written.{junction-lines, total-text, hours-above-text, point-text, minutes-above-text, evaluations-text, finished-attempts-text}
+use Rattle.daily.specs.Written.{refused-minutes-text, minute-text, refused-with-text, line-end}
 
 -- ---- lengths
 
@@ -29,7 +31,8 @@ length-bits x = length-word (toBits binary64 x)
 pub length-hours : (minutes : ℕ) → length (hours-text minutes) ≤ 25
 unfolding hours-text
 length-hours minutes = let last = digits 10 4 (minutes % 60 * 10000 / 60) in
-    both (decimal (minutes / 60) ++ point-text) last 21 4 (both (decimal (minutes / 60)) point-text 20 1 (length-decimal (minutes / 60)) (omega arith)) (omega (arith, length-digits 10 4 (minutes % 60 * 10000 / 60)))
+    both (decimal (minutes / 60) ++ point-text) last 21 4 (both (decimal (minutes / 60)) point-text 20 1 (length-decimal (minutes / 60)) (omega arith))
+    (omega (arith, length-digits 10 4 (minutes % 60 * 10000 / 60)))
 
 pub length-count : (name : List ℕ) (n : ℕ) → length (count-line name n) ≤ length name + 21
 unfolding count-line
@@ -65,7 +68,8 @@ pub length-heading : (t : Total) → length (heading t) ≤ 60
 unfolding heading
 length-heading t =
     both (total-text ++ bits-text (t .hours) ++ hours-above-text) (hours-text (t .above)) 35 25
-    (both (total-text ++ bits-text (t .hours)) hours-above-text 22 13 (both total-text (bits-text (t .hours)) 6 16 (omega arith) (omega (arith, length-bits (t .hours)))) (omega arith))
+    (both (total-text ++ bits-text (t .hours)) hours-above-text 22 13
+    (both total-text (bits-text (t .hours)) 6 16 (omega arith) (omega (arith, length-bits (t .hours)))) (omega arith))
     (length-hours (t .above))
 
 pub length-counts : (t : Total) → length (counts t) ≤ 145
@@ -75,7 +79,8 @@ length-counts t =
     let b = count-line evaluations-text (t .evaluations) in
     let c = count-line finished-attempts-text (t .«finished_attempts») in
     both (a ++ b ++ c) (count-line refused-minutes-text (t .refused)) 108 37
-    (both (a ++ b) c 69 39 (both a b 36 33 (length-count minutes-above-text (t .above)) (length-count evaluations-text (t .evaluations))) (length-count finished-attempts-text (t .«finished_attempts»)))
+    (both (a ++ b) c 69 39 (both a b 36 33 (length-count minutes-above-text (t .above)) (length-count evaluations-text (t .evaluations)))
+    (length-count finished-attempts-text (t .«finished_attempts»)))
     (length-count refused-minutes-text (t .refused))
 
 pub length-junction : (x : Float) → length (junction-line x) ≡ 17
@@ -87,7 +92,8 @@ length-junction x = length-append (bits-text x) line-end ∙ ap (λ (k : ℕ). k
 lines-append : (xs ys : List Refused-minute) → refusal-lines (xs ++ ys) ≡ refusal-lines xs ++ refusal-lines ys
 unfolding refusal-lines
 lines-append [] ys = refl
-lines-append (e ∷ xs) ys = ap (λ (l : List ℕ). refusal-line e ++ l) (lines-append xs ys) ∙ sym (append-assoc (refusal-line e) (refusal-lines xs) (refusal-lines ys))
+lines-append (e ∷ xs) ys = ap (λ (l : List ℕ). refusal-line e ++ l) (lines-append xs ys)
+    ∙ sym (append-assoc (refusal-line e) (refusal-lines xs) (refusal-lines ys))
 
 pub refusals-start : [] ≡ refusal-lines (listed 0 [])
 unfolding refusal-lines listed
@@ -113,7 +119,8 @@ refusals-turn l i h =
 junctions-append : (xs ys : List Float) → junction-lines (xs ++ ys) ≡ junction-lines xs ++ junction-lines ys
 unfolding junction-lines
 junctions-append [] ys = refl
-junctions-append (x ∷ xs) ys = ap (λ (l : List ℕ). junction-line x ++ l) (junctions-append xs ys) ∙ sym (append-assoc (junction-line x) (junction-lines xs) (junction-lines ys))
+junctions-append (x ∷ xs) ys = ap (λ (l : List ℕ). junction-line x ++ l) (junctions-append xs ys)
+    ∙ sym (append-assoc (junction-line x) (junction-lines xs) (junction-lines ys))
 
 pub junctions-start : [] ≡ junction-lines []
 unfolding junction-lines

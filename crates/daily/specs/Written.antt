@@ -1,4 +1,5 @@
--- What the programs write of a day, byte for byte: the total, the counts and a line for each refused minute; or the line that makes the text no day. README, "Two commands". Definitions only.
+-- What the programs write of a day, byte for byte: the total, the counts and a line for each refused minute; or the line that makes the text no day. README,
+-- "Two commands". Definitions only.
 use Prim.Native.Nat.{ℕ, _*_, _/_, _%_}
 use mathlib.Core.Bool.{cond}
 use mathlib.Core.List.{List, [], _∷_, _++_}

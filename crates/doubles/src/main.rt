@@ -1,5 +1,5 @@
-// Works out the roots, floors, ceilings, maxima and casts of stored doubles and compares each bit with what the file says: data/ was made by vectors/doubles.rs.
-// It writes how many of each were compared, and how many differ.
+// Works out the roots, floors, ceilings, maxima and casts of stored doubles and compares each bit with what the file says: data/ was made by
+// vectors/doubles.rs. It writes how many of each were compared, and how many differ.
 ghost use mathlib.Core.Path.{_≡_};
 ghost use Prim.Native.Nat.{_+_, _^_, _<_};
 ghost use lib.Dec.{eqb};

@@ -25,7 +25,9 @@ use Rattle.driver.specs.declared.Replied.{Replied}
 use Rattle.driver.specs.declared.Answer.{Answer}
 use Rattle.driver.specs.declared.Answer.the-variants.{Evaluate, Finished, Ready, Refused, Empty}
 use Rattle.driver.specs.Answers.{case-number, Values, case-values, Same-answer}
-use Rattle.driver.specs.Calls.{Held, Called, Step, step-to, in-phase, at-pass, at-stage, stage-need, ask-pass, ask-stage, by-need, begin-stages, take-first, take-callback, take-pass, ask-candidate, take-stage, figures-of, replied, finishes, room, has-room, one-more, counted, going-on, spoiled, settled, setting-of}
+use Rattle.driver.specs.Calls.{Held, Called, Step, step-to, in-phase, at-pass, at-stage, stage-need, ask-pass, ask-stage, by-need, begin-stages}
+use Rattle.driver.specs.Calls.{take-first, take-callback, take-pass, ask-candidate, take-stage, figures-of, replied, finishes, room, has-room, one-more}
+use Rattle.driver.specs.Calls.{counted, going-on, spoiled, settled, setting-of}
 use Rattle.driver.specs.Promises.{Meets, Steps}
 use Rattle.driver.proofs.Ladder.{says}
 use Rattle.driver.proofs.Sizes.{both}
@@ -128,7 +130,8 @@ finishing P.Callback r v d e = absurd (omega arith)
 
 pub evaluations-room : (p : Phase) (c : Counters) → has-room p c ≡ true → c .evaluations < 2 ^ 64 - 1
 unfolding has-room room
-evaluations-room p c e = ltb-true (c .evaluations) (2 ^ 64 - 1) (both (ltb (c .evaluations) (2 ^ 64 - 1)) (not (finishes p) || ltb (c .«finished_attempts») (2 ^ 64 - 1)) e .0)
+evaluations-room p c e = ltb-true (c .evaluations) (2 ^ 64 - 1)
+    (both (ltb (c .evaluations) (2 ^ 64 - 1)) (not (finishes p) || ltb (c .«finished_attempts») (2 ^ 64 - 1)) e .0)
 
 pub attempts-room : (p : Phase) (c : Counters) → has-room p c ≡ true → finishes p ≡ true → c .«finished_attempts» < 2 ^ 64 - 1
 unfolding has-room room
@@ -140,14 +143,27 @@ attempts-room p c e f =
 
 -- a derivative that is not finite
 pub spoils : (h : Held) {test : Bool} (go : Called) {x : Replied} → test ≡ false
-    → x ≡ record { answer = Refused 9; «record» = in-phase P.Empty (h .kept); counters = one-more (h .counters) } → Meets (cond test go (spoiled h)) (x .answer) (x .«record») (x .counters) (h .area)
+    → x ≡ record { answer = Refused 9; «record» = in-phase P.Empty (h .kept); counters = one-more (h .counters) }
+    → Meets (cond test go (spoiled h)) (x .answer) (x .«record») (x .counters) (h .area)
 unfolding spoiled counted
 spoils h go e q = rw e
-    (record { answer = says (ap (λ (x : Replied). x .answer) q); kept = ap (λ (x : Replied). x .«record») q; counters = ap (λ (x : Replied). x .counters) q; area = refl })
+    (record {
+      answer = says (ap (λ (x : Replied). x .answer) q);
+      kept = ap (λ (x : Replied). x .«record») q;
+      counters = ap (λ (x : Replied). x .counters) q;
+      area = refl;
+    })
 
 -- a finite one
-pub settles : (h : Held) {test : Bool} (f : Family) (n : ℕ) {s : Step} {x : Next} {c : Counters} (left : List Float) → test ≡ true → length left ≡ vector-count f * n
-    → Steps s x (unpack n left) → c ≡ counted (x .answer) (h .counters) → Meets (cond test (settled (h .counters) s) (spoiled h)) (x .answer) (x .«record») c left
+pub settles : (h : Held) {test : Bool} (f : Family) (n : ℕ) {s : Step} {x : Next} {c : Counters} (left : List Float) → test ≡ true
+    → length left ≡ vector-count f * n
+    → Steps s x (unpack n left) → c ≡ counted (x .answer) (h .counters)
+    → Meets (cond test (settled (h .counters) s) (spoiled h)) (x .answer) (x .«record») c left
 unfolding settled going-on
 settles h f n left e l m k = rw e
-    (record { answer = m .answer; kept = m .kept; counters = k ∙ ap (λ (a : Answer). counted a (h .counters)) (said (m .answer)); area = packed f n left l (m .vectors) })
+    (record {
+      answer = m .answer;
+      kept = m .kept;
+      counters = k ∙ ap (λ (a : Answer). counted a (h .counters)) (said (m .answer));
+      area = packed f n left l (m .vectors);
+    })

@@ -24,14 +24,16 @@ use Rattle.driver.specs.declared.Phase.the-variants as P
 use Rattle.driver.specs.declared.Record.{Record}
 use Rattle.driver.specs.declared.Next.{Next}
 use Rattle.driver.specs.declared.Need.the-variants.{Met}
-use Rattle.driver.specs.Calls.{Step, going-on, with-radius, at-pass, at-stage, ask-pass, ask-stage, by-need, begin-stages, take-first, take-pass, ask-candidate, take-stage, replied, setting-of}
+use Rattle.driver.specs.Calls.{Step, going-on, with-radius, at-pass, at-stage, ask-pass, ask-stage, by-need, begin-stages, take-first, take-pass}
+use Rattle.driver.specs.Calls.{ask-candidate, take-stage, replied, setting-of}
 use Rattle.driver.proofs.Phase as Phases
 use Rattle.driver.specs.declared.Staged.the-variants.{Ended, NotFinite}
 use Rattle.driver.specs.Promises.{Keeps, Steps, in-stages, outcome-of}
 use Rattle.driver.proofs.Ladder.{says}
 
 -- what a call leaves, from its step
-pub keeps : (f : Family) (n : ℕ) {s : Step} {x : Next} (left : List Float) → length left ≡ vector-count f * n → Steps s x (unpack n left) → Keeps (λ c. going-on c s) x left
+pub keeps : (f : Family) (n : ℕ) {s : Step} {x : Next} (left : List Float) → length left ≡ vector-count f * n → Steps s x (unpack n left)
+    → Keeps (λ c. going-on c s) x left
 unfolding going-on
 keeps f n left h m = λ c. record { answer = m .answer; kept = m .kept; counters = refl; area = packed f n left h (m .vectors) }
 
@@ -40,7 +42,8 @@ pub as-step : {s t : Step} {x : Next} {v : Vectors} → s ≡ t → Steps s x v 
 as-step {x = x} {v} e m = subst (λ (s : Step). Steps s x v) e m
 
 -- the code measures the area by the record's own n
-pub measured : (r : Record) {n : ℕ} (area left : List Float) {x : Next} → r .n ≡ n → Steps (ask-pass r (unpack (r .n) area)) x (unpack (r .n) left) → Steps (ask-pass r (unpack n area)) x (unpack n left)
+pub measured : (r : Record) {n : ℕ} (area left : List Float) {x : Next} → r .n ≡ n → Steps (ask-pass r (unpack (r .n) area)) x (unpack (r .n) left)
+    → Steps (ask-pass r (unpack n area)) x (unpack n left)
 measured r area left {x} e m = subst (λ (k : ℕ). Steps (ask-pass r (unpack k area)) x (unpack k left)) e m
 
 -- the power iteration begins
@@ -73,31 +76,38 @@ module _ (r : Record) (v : Vectors) (d : List Float) where
   is-last radius = ended (r .iteration .pass) (r .iteration .«previous_radius») radius || eqb (r .iteration .pass) 12
 
   pass-is : (w : Vectors) (radius : Float) → w ≡ turned (r .n) v d → radius ≡ radius-of (r .iteration .perturbation) w
-      → cond (is-last radius) (begin-stages r w (scaled (r .arguments .step) radius)) (ask-pass (at-pass (r .arguments) (r .iteration .pass + 1) perturbation radius r) w)
+      → cond (is-last radius) (begin-stages r w (scaled (r .arguments .step) radius))
+      (ask-pass (at-pass (r .arguments) (r .iteration .pass + 1) perturbation radius r) w)
       ≡ take-pass r v d
   unfolding take-pass
-  pass-is w radius e f = let on : Float → Vectors → Step = λ z u. cond (is-last z) (begin-stages r u (scaled (r .arguments .step) z)) (ask-pass (at-pass (r .arguments) (r .iteration .pass + 1) perturbation z r) u) in
+  pass-is w radius e f = let on : Float → Vectors → Step =
+      λ z u. cond (is-last z) (begin-stages r u (scaled (r .arguments .step) z))
+      (ask-pass (at-pass (r .arguments) (r .iteration .pass + 1) perturbation z r) u) in
       ap (λ (z : Float). on z w) f ∙ ap (λ (u : Vectors). on (radius-of perturbation u) u) e
 
   -- after the last pass
-  pub iterated : (w : Vectors) (radius : Float) {b : Bool} {big : Float} {x : Next} {u : Vectors} → w ≡ turned (r .n) v d → radius ≡ radius-of (r .iteration .perturbation) w
+  pub iterated : (w : Vectors) (radius : Float) {b : Bool} {big : Float} {x : Next} {u : Vectors} → w ≡ turned (r .n) v d
+      → radius ≡ radius-of (r .iteration .perturbation) w
       → b ≡ (ended (r .iteration .pass) (r .iteration .«previous_radius») radius || eqb (r .iteration .pass) 12) → b ≡ true
       → big ≡ scaled (r .arguments .step) radius → Steps (begin-stages r w big) x u → Steps (take-pass r v d) x u
   iterated w radius e f b t g m =
       as-step
       (ap (begin-stages r w) g
-      ∙ sym (ap (λ (z : Bool). cond z (begin-stages r w (scaled (r .arguments .step) radius)) (ask-pass (at-pass (r .arguments) (r .iteration .pass + 1) perturbation radius r) w)) (sym b ∙ t))
+      ∙ sym (ap (λ (z : Bool). cond z (begin-stages r w (scaled (r .arguments .step) radius))
+      (ask-pass (at-pass (r .arguments) (r .iteration .pass + 1) perturbation radius r) w)) (sym b ∙ t))
       ∙ pass-is w radius e f)
       m
 
   -- before it
-  pub iterates : (w : Vectors) (radius : Float) {b : Bool} {on : Record} {x : Next} {u : Vectors} → w ≡ turned (r .n) v d → radius ≡ radius-of (r .iteration .perturbation) w
+  pub iterates : (w : Vectors) (radius : Float) {b : Bool} {on : Record} {x : Next} {u : Vectors} → w ≡ turned (r .n) v d
+      → radius ≡ radius-of (r .iteration .perturbation) w
       → b ≡ (ended (r .iteration .pass) (r .iteration .«previous_radius») radius || eqb (r .iteration .pass) 12) → b ≡ false
       → on ≡ at-pass (r .arguments) (r .iteration .pass + 1) (r .iteration .perturbation) radius r → Steps (ask-pass on w) x u → Steps (take-pass r v d) x u
   iterates w radius e f b t g m =
       as-step
       (ap (λ (y : Record). ask-pass y w) g
-      ∙ sym (ap (λ (z : Bool). cond z (begin-stages r w (scaled (r .arguments .step) radius)) (ask-pass (at-pass (r .arguments) (r .iteration .pass + 1) perturbation radius r) w)) (sym b ∙ t))
+      ∙ sym (ap (λ (z : Bool). cond z (begin-stages r w (scaled (r .arguments .step) radius))
+      (ask-pass (at-pass (r .arguments) (r .iteration .pass + 1) perturbation radius r) w)) (sym b ∙ t))
       ∙ pass-is w radius e f)
       m
 
@@ -113,7 +123,8 @@ module _ (r : Record) (v : Vectors) (d : List Float) where
   abbrev staged : Bool → Step
   staged b =
       cond b
-      (ask-stage (at-stage (r .staging .stages) (r .staging .stage + 1) (next (setting-of r) (r .staging .stages) (r .staging .recurrence) row-of) r) (exchanged (rowed (setting-of r) row-of)))
+      (ask-stage (at-stage (r .staging .stages) (r .staging .stage + 1) (next (setting-of r) (r .staging .stages) (r .staging .recurrence) row-of) r)
+      (exchanged (rowed (setting-of r) row-of)))
       (ask-candidate r (kept (setting-of r) row-of (rowed (setting-of r) row-of)))
 
   -- below stage s
@@ -139,7 +150,8 @@ module _ (r : Record) (v : Vectors) (d : List Float) where
   pub stages-end : {m : Setting} {c : Coefficients} {x : Next} {u w : Vectors} → m ≡ setting-of r
       → c ≡ coefficients m (r .staging .stages) (r .staging .stage) (r .staging .recurrence) → r .staging .stages ≤ r .staging .stage
       → u ≡ with-row m (r .n) (r .arguments .step) c v d
-      → w ≡ with-candidate m (r .n) (r .arguments .step) (r .staging .stages) (r .staging .recurrence) c u → Steps (ask-candidate r w) x w → Steps (take-stage r v d) x w
+      → w ≡ with-candidate m (r .n) (r .arguments .step) (r .staging .stages) (r .staging .recurrence) c u → Steps (ask-candidate r w) x w
+      → Steps (take-stage r v d) x w
   unfolding take-stage
   stages-end {m} {c} b e h p q t =
       let row = e ∙ ap (λ (y : Setting). coefficients y (r .staging .stages) (r .staging .stage) (r .staging .recurrence)) b in

@@ -1,4 +1,5 @@
--- The calls, one after another: what each answers, and what it leaves of record, counters and area. Document 01, "driver.rs: the calls" and "When a call is turned away".
+-- The calls, one after another: what each answers, and what it leaves of record, counters and area. Document 01, "driver.rs: the calls" and "When a call is
+-- turned away".
 use Prim.Native.Nat.{ℕ, _+_, _-_, _*_, _^_}
 use mathlib.Core.Bool.{Bool, true, false, cond, not, _&&_, _||_}
 use mathlib.Core.List.{List, [], _∷_}
@@ -12,8 +13,10 @@ use Rattle.family.specs.Family.{known, family-of, setting, kind, stage-count, p
 use Rattle.coefficients.specs.declared.Recurrence.{Recurrence}
 use Rattle.coefficients.specs.Rows.{recurrence, coefficients, next}
 use Rattle.workspace.specs.declared.Arguments.{Arguments}
-use Rattle.workspace.specs.Vectors.{Vector, Vectors, _with_≔_, number, vector-count, unpack, pack, all-finite, first-derivative, last-derivative, previous-one, eigenvector, perturbed-state, state, candidate}
-use Rattle.workspace.specs.Kernel.{with-direction, perturbation-of, perturbed, turned, radius-of, ended, scaled, first-stage, with-row, exchanged, with-candidate, with-last, error-norm}
+use Rattle.workspace.specs.Vectors.{Vector, Vectors, _with_≔_, number, vector-count, unpack, pack, all-finite, first-derivative, last-derivative, previous-one}
+use Rattle.workspace.specs.Vectors.{eigenvector, perturbed-state, state, candidate}
+use Rattle.workspace.specs.Kernel.{with-direction, perturbation-of, perturbed, turned, radius-of, ended, scaled, first-stage, with-row, exchanged}
+use Rattle.workspace.specs.Kernel.{with-candidate, with-last, error-norm}
 use Rattle.driver.specs.declared.Phase.{Phase}
 use Rattle.driver.specs.declared.Phase.the-variants as P
 use Rattle.driver.specs.declared.Iteration.{Iteration}
@@ -67,7 +70,13 @@ unfoldable pub in-phase : Phase → Record → Record
 in-phase p r = moved-to p (r .arguments) (r .iteration) (r .staging) r
 
 unfoldable pub at-time : Float → Arguments → Arguments
-at-time t a = record { time = t; step = a .step; «absolute_tolerance» = a .«absolute_tolerance»; «relative_tolerance» = a .«relative_tolerance»; adaptive = a .adaptive }
+at-time t a = record {
+  time = t;
+  step = a .step;
+  «absolute_tolerance» = a .«absolute_tolerance»;
+  «relative_tolerance» = a .«relative_tolerance»;
+  adaptive = a .adaptive;
+}
 
 -- waiting for the derivative of a state that is kept at this time
 unfoldable pub first-at : Phase → ℕ → ℕ → Float → Record → Record

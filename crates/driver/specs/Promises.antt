@@ -76,7 +76,17 @@ pub record Stands-for (promised : Called) (r : Record) (c : Counters) (x : Stage
 
 abbrev pub no-recurrence : Recurrence
 no-recurrence =
-    let p : Polynomials = record { «omega_one» = nought; «b_previous» = nought; «b_previous_two» = nought; «value_previous» = nought; «value_previous_two» = nought; «first_previous» = nought; «first_previous_two» = nought; «second_previous» = nought; «second_previous_two» = nought } in
+    let p : Polynomials = record {
+      «omega_one» = nought;
+      «b_previous» = nought;
+      «b_previous_two» = nought;
+      «value_previous» = nought;
+      «value_previous_two» = nought;
+      «first_previous» = nought;
+      «first_previous_two» = nought;
+      «second_previous» = nought;
+      «second_previous_two» = nought;
+    } in
     record { «theta_previous» = nought; «theta_previous_two» = nought; polynomials = p }
 
 abbrev pub new-record : Record

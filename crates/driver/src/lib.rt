@@ -280,7 +280,8 @@ pub fn reply_in_stages(
     derivative: &[f64],
 ) -> Staged
     requires { ⌜ stage-taken «record» counters (now area) (now derivative) ≡ true ⌝ }
-    ensures { λ r. ⌜ Stands-for (calls.reply (holding «record» counters (now (area .entry))) (now (derivative .entry))) «record» counters r (now (area .exit)) ⌝ }
+    ensures { λ r. ⌜ Stands-for (calls.reply (holding «record» counters (now (area .entry))) (now (derivative .entry))) «record» counters r
+        (now (area .exit)) ⌝ }
 {
     replies::take_stage(record, area, derivative)
 }
@@ -293,7 +294,8 @@ pub fn reply_elsewhere(
     derivative: &[f64],
 ) -> Replied
     requires { ⌜ stage-taken «record» counters (now area) (now derivative) ≡ false ⌝ }
-    ensures { λ r. ⌜ Meets (calls.reply (holding «record» counters (now (area .entry))) (now (derivative .entry))) (r .answer) (r .«record») (r .counters) (now (area .exit)) ⌝ }
+    ensures { λ r. ⌜ Meets (calls.reply (holding «record» counters (now (area .entry))) (now (derivative .entry))) (r .answer) (r .«record») (r .counters)
+        (now (area .exit)) ⌝ }
 {
     let cause = causes::of_reply(record, counters, area, derivative);
     if cause != 0 {
@@ -315,7 +317,8 @@ pub fn reply_elsewhere(
 
 // Brings the derivative that was asked for.
 pub fn reply(record: Record, counters: Counters, area: &mut [f64], derivative: &[f64]) -> Replied
-    ensures { λ r. ⌜ Meets (calls.reply (holding «record» counters (now (area .entry))) (now (derivative .entry))) (r .answer) (r .«record») (r .counters) (now (area .exit)) ⌝ }
+    ensures { λ r. ⌜ Meets (calls.reply (holding «record» counters (now (area .entry))) (now (derivative .entry))) (r .answer) (r .«record») (r .counters)
+        (now (area .exit)) ⌝ }
 {
     if !stage_taken(record, counters, area, derivative) {
         return reply_elsewhere(record, counters, area, derivative);

@@ -24,7 +24,8 @@ use family::Setting;
 pub fn take_first(record: Record, area: &mut [f64], derivative: &[f64]) -> Next
     requires { ⌜ 11 * «record» .n ≤ length (now area) ⌝ }
     requires { ⌜ length (now derivative) ≡ «record» .n ⌝ }
-    ensures { λ r. ⌜ Steps (calls.take-first «record» (unpack («record» .n) (now (area .entry))) (now (derivative .entry))) r (unpack («record» .n) (now (area .exit))) ⌝ }
+    ensures { λ r. ⌜ Steps (calls.take-first «record» (unpack («record» .n) (now (area .entry))) (now (derivative .entry))) r
+        (unpack («record» .n) (now (area .exit))) ⌝ }
 {
     let n = record.n;
     workspace::put_vector(area, n, workspace::FIRST_DERIVATIVE, derivative);
@@ -39,7 +40,8 @@ pub fn take_first(record: Record, area: &mut [f64], derivative: &[f64]) -> Next
 pub fn take_callback(record: Record, area: &mut [f64], derivative: &[f64]) -> Next
     requires { ⌜ 11 * «record» .n ≤ length (now area) ⌝ }
     requires { ⌜ length (now derivative) ≡ «record» .n ⌝ }
-    ensures { λ r. ⌜ Steps (calls.take-callback «record» (unpack («record» .n) (now (area .entry))) (now (derivative .entry))) r (unpack («record» .n) (now (area .exit))) ⌝ }
+    ensures { λ r. ⌜ Steps (calls.take-callback «record» (unpack («record» .n) (now (area .entry))) (now (derivative .entry))) r
+        (unpack («record» .n) (now (area .exit))) ⌝ }
 {
     let n = record.n;
     workspace::put_vector(area, n, workspace::FIRST_DERIVATIVE, derivative);
@@ -92,7 +94,8 @@ fn stage_need(setting: Setting, scaled_radius: f64) -> Need
 
 fn first_stage(record: Record, area: &mut [f64], scaled_radius: f64, stages: u64) -> Next
     requires { ⌜ 11 * «record» .n ≤ length (now area) ⌝ }
-    ensures { λ r. ⌜ Steps (calls.by-need (need.Need.Met stages) «record» (unpack («record» .n) (now (area .entry))) «scaled_radius») r (unpack («record» .n) (now (area .exit))) ⌝ }
+    ensures { λ r. ⌜ Steps (calls.by-need (need.Need.Met stages) «record» (unpack («record» .n) (now (area .entry))) «scaled_radius») r
+        (unpack («record» .n) (now (area .exit))) ⌝ }
 {
     let n = record.n;
     let c = coefficients::first_recurrence(position::setting_of(record), stages);
@@ -105,7 +108,8 @@ fn first_stage(record: Record, area: &mut [f64], scaled_radius: f64, stages: u64
 // The power iteration has ended. A need that is not met leaves the iteration's work and empties the phase.
 fn begin_stages(record: Record, area: &mut [f64], scaled_radius: f64) -> Next
     requires { ⌜ 11 * «record» .n ≤ length (now area) ⌝ }
-    ensures { λ r. ⌜ Steps (calls.begin-stages «record» (unpack («record» .n) (now (area .entry))) «scaled_radius») r (unpack («record» .n) (now (area .exit))) ⌝ }
+    ensures { λ r. ⌜ Steps (calls.begin-stages «record» (unpack («record» .n) (now (area .entry))) «scaled_radius») r
+        (unpack («record» .n) (now (area .exit))) ⌝ }
 {
     let need = stage_need(position::setting_of(record), scaled_radius);
     match need {
@@ -133,7 +137,8 @@ pub fn take_pass(record: Record, area: &mut [f64], derivative: &[f64]) -> Next
     requires { ⌜ 11 * «record» .n ≤ length (now area) ⌝ }
     requires { ⌜ length (now derivative) ≡ «record» .n ⌝ }
     requires { ⌜ «record» .iteration .pass ≤ 12 ⌝ }
-    ensures { λ r. ⌜ Steps (calls.take-pass «record» (unpack («record» .n) (now (area .entry))) (now (derivative .entry))) r (unpack («record» .n) (now (area .exit))) ⌝ }
+    ensures { λ r. ⌜ Steps (calls.take-pass «record» (unpack («record» .n) (now (area .entry))) (now (derivative .entry))) r
+        (unpack («record» .n) (now (area .exit))) ⌝ }
 {
     let n = record.n;
     let pass = record.iteration.pass;
@@ -156,7 +161,8 @@ pub fn take_stage(record: Record, area: &mut [f64], derivative: &[f64]) -> Stage
     requires { ⌜ 11 * «record» .n ≤ length (now area) ⌝ }
     requires { ⌜ length (now derivative) ≡ «record» .n ⌝ }
     requires { ⌜ (2 ≤ «record» .staging .stage) × («record» .staging .stage + 1 < 2 ^ 32) ⌝ }
-    ensures { λ r. ⌜ Steps (calls.take-stage «record» (unpack («record» .n) (now (area .entry))) (now (derivative .entry))) (outcome-of r «record») (unpack («record» .n) (now (area .exit))) ⌝ }
+    ensures { λ r. ⌜ Steps (calls.take-stage «record» (unpack («record» .n) (now (area .entry))) (now (derivative .entry))) (outcome-of r «record»)
+        (unpack («record» .n) (now (area .exit))) ⌝ }
 {
     let n = record.n;
     let setting = position::setting_of(record);
@@ -189,7 +195,8 @@ pub fn take_stage(record: Record, area: &mut [f64], derivative: &[f64]) -> Stage
 pub fn take_candidate(record: Record, area: &mut [f64], derivative: &[f64]) -> Next
     requires { ⌜ 11 * «record» .n ≤ length (now area) ⌝ }
     requires { ⌜ length (now derivative) ≡ «record» .n ⌝ }
-    ensures { λ r. ⌜ Steps (calls.take-candidate «record» (unpack («record» .n) (now (area .entry))) (now (derivative .entry))) r (unpack («record» .n) (now (area .exit))) ⌝ }
+    ensures { λ r. ⌜ Steps (calls.take-candidate «record» (unpack («record» .n) (now (area .entry))) (now (derivative .entry))) r
+        (unpack («record» .n) (now (area .exit))) ⌝ }
 {
     let n = record.n;
     let setting = position::setting_of(record);
@@ -209,7 +216,8 @@ pub fn replied(record: Record, area: &mut [f64], derivative: &[f64]) -> Next
     requires { ⌜ length (now derivative) ≡ «record» .n ⌝ }
     requires { ⌜ calls.in-range («record» .phase) «record» ≡ true ⌝ }
     requires { ⌜ in-stages («record» .phase) ≡ false ⌝ }
-    ensures { λ r. ⌜ Steps (calls.replied («record» .phase) «record» (unpack («record» .n) (now (area .entry))) (now (derivative .entry))) r (unpack («record» .n) (now (area .exit))) ⌝ }
+    ensures { λ r. ⌜ Steps (calls.replied («record» .phase) «record» (unpack («record» .n) (now (area .entry))) (now (derivative .entry))) r
+        (unpack («record» .n) (now (area .exit))) ⌝ }
 {
     let phase = record.phase;
     match phase {

@@ -1,8 +1,10 @@
--- The stage counts serve every finite r that is not below 0 (`serves`), and every count of every family is permitted (`stage-count-permitted`). Assumes nothing.
+-- The stage counts serve every finite r that is not below 0 (`serves`), and every count of every family is permitted (`stage-count-permitted`). Assumes
+-- nothing.
 use mathlib.Core.Path.{_≡_, sym, ap, _∙_, subst}
 use mathlib.Core.Logic.{_⊎_, inl, inr}
 use Prim.Native.Nat.{ℕ, zero, suc, _+_, _-_, _*_, _≤_, _<_}
-use native.Mathlib.Nat.{le-trans, le-of-eq, lt-of-lt-of-le, lt-of-not-le, not-le-of-lt, mul-right-comm, mul-assoc, mul-le-mul-left, mul-le-mul-right, le-of-mul-le-mul-right, mul-pos, zero-lt-suc}
+use native.Mathlib.Nat.{le-trans, le-of-eq, lt-of-lt-of-le, lt-of-not-le, not-le-of-lt, mul-right-comm, mul-assoc, mul-le-mul-left, mul-le-mul-right}
+use native.Mathlib.Nat.{le-of-mul-le-mul-right, mul-pos, zero-lt-suc}
 use native.Mathlib.Omega.{arith}
 use mathlib.Core.Bool.{Bool, true, false, cond, true≢false}
 use lib.IntN.{ℤ, pos}
@@ -18,7 +20,8 @@ use Rattle.ieee.specs.Whole as Whole
 use Rattle.ieee.proofs.Monotone.{NonNeg, infinite, number, le-of-cross}
 use Rattle.ieee.proofs.Logic.{le-or-le}
 use Rattle.ieee.proofs.Value.{round-none}
-use Rattle.family.specs.Family.{Family, Orthogonal, Legendre1, Legendre2, Gegenbauer1, Gegenbauer2, made-of, largest-count, permitted, before-limits, limited, stage-count}
+use Rattle.family.specs.Family.{Family, Orthogonal, Legendre1, Legendre2, Gegenbauer1, Gegenbauer2, made-of, largest-count, permitted, before-limits}
+use Rattle.family.specs.Family.{limited, stage-count}
 use Rattle.family.specs.Reach.{reach-num, reach-den, parts, Serves}
 use Rattle.family.proofs.Rule.{offset, slope, inner, after, rule-is, more-from, less-to, nearest-nonneg}
 use Rattle.family.proofs.Thresholds.{high, deep, past, full, Above, Below, thresholds}
@@ -34,18 +37,21 @@ regroup p under a b = ap (λ (x : ℕ). x * b) (mul-right-comm p a under) ∙ mu
 
 carry : (p q under n d n' d' : ℕ) → 0 < d' → n * d' ≤ n' * d → p * n' * under ≤ q * d' → p * n * under ≤ q * d
 carry p q under n d n' d' D h k = le-of-mul-le-mul-right
-    (le-trans (le-of-eq (regroup p under n d')) (le-trans (mul-le-mul-left (p * under) h) (le-trans (le-of-eq (sym (regroup p under n' d))) (le-trans (mul-le-mul-right d k) (le-of-eq (mul-right-comm q d' d)))))) D
+    (le-trans (le-of-eq (regroup p under n d')) (le-trans (mul-le-mul-left (p * under) h)
+    (le-trans (le-of-eq (sym (regroup p under n' d))) (le-trans (mul-le-mul-right d k) (le-of-eq (mul-right-comm q d' d)))))) D
 
 carry-back : (p q under n d n' d' : ℕ) → 0 < d' → n' * d ≤ n * d' → q * d' ≤ p * n' * under → q * d ≤ p * n * under
 carry-back p q under n d n' d' D h k = le-of-mul-le-mul-right
-    (le-trans (le-of-eq (mul-right-comm q d d')) (le-trans (mul-le-mul-right d k) (le-trans (le-of-eq (regroup p under n' d)) (le-trans (mul-le-mul-left (p * under) h) (le-of-eq (sym (regroup p under n d'))))))) D
+    (le-trans (le-of-eq (mul-right-comm q d d')) (le-trans (mul-le-mul-right d k)
+    (le-trans (le-of-eq (regroup p under n' d)) (le-trans (mul-le-mul-left (p * under) h) (le-of-eq (sym (regroup p under n d'))))))) D
 
 split : (x y : Float) → NonNeg x → NonNeg y → T (finite x) → T (finite y) → T (le x y) ⊎ (num y * den x ≤ num x * den y)
 split x y infinite q i j = absurd i
 split x y (number m e) infinite i j = absurd j
 split x y (number m e) (number n d) i j = go (le-or-le (m * up e * down d) (n * up d * down e))
   where
-    go : (m * up e * down d ≤ n * up d * down e) ⊎ (n * up d * down e ≤ m * up e * down d) → T (le (fin false m e) (fin false n d)) ⊎ (n * up d * down e ≤ m * up e * down d)
+    go : (m * up e * down d ≤ n * up d * down e) ⊎ (n * up d * down e ≤ m * up e * down d)
+        → T (le (fin false m e) (fin false n d)) ⊎ (n * up d * down e ≤ m * up e * down d)
     go (inl h) = inl (le-of-cross m e n d h)
     go (inr h) = inr h
 
@@ -67,7 +73,8 @@ module _ (f : Orthogonal) (r : Float) (p : NonNeg r) (i : T (finite r)) where
       let a = thresholds f k t .0 in
       go (parts - 1) (parts * reach-num f k) (a .near) a (split (high f k) r (high-nonneg f k) p (a .finite-u) i)
     where
-      go : (P Q : ℕ) → P * num (high f k) * reach-den f k ≤ Q * den (high f k) → Above f k (high f k) (past f k) → T (le (high f k) r) ⊎ (num r * den (high f k) ≤ num (high f k) * den r) → P * num r * reach-den f k ≤ Q * den r
+      go : (P Q : ℕ) → P * num (high f k) * reach-den f k ≤ Q * den (high f k) → Above f k (high f k) (past f k)
+          → T (le (high f k) r) ⊎ (num r * den (high f k) ≤ num (high f k) * den r) → P * num r * reach-den f k ≤ Q * den r
       go P Q z a (inl l) = absurd (not-le-of-lt (lt-of-lt-of-le (a .count) (more-from f (high f k) r (past f k) (high-nonneg f k) p l (a .root) (a .from))) h)
       go P Q z a (inr l) = carry P Q (reach-den f k) (num r) (den r) (num (high f k)) (den (high f k)) (den-pos (high f k)) l z
 
@@ -76,8 +83,10 @@ module _ (f : Orthogonal) (r : Float) (p : NonNeg r) (i : T (finite r)) where
       let a = thresholds f k t .1 in
       go (parts + 1) (parts * reach-num f k) (a .near) a (split r (deep f k) p (deep-nonneg f k) i (a .finite-u))
     where
-      go : (P Q : ℕ) → Q * den (deep f k) ≤ P * num (deep f k) * reach-den f k → Below f k (deep f k) (full f k) → T (le r (deep f k)) ⊎ (num (deep f k) * den r ≤ num r * den (deep f k)) → Q * den r ≤ P * num r * reach-den f k
-      go P Q z a (inl l) = absurd (not-le-of-lt h (le-trans (less-to f (deep f k) r (full f k) (deep-nonneg f k) p l (a .finite-x) (a .root) (a .from)) (a .count)))
+      go : (P Q : ℕ) → Q * den (deep f k) ≤ P * num (deep f k) * reach-den f k → Below f k (deep f k) (full f k)
+          → T (le r (deep f k)) ⊎ (num (deep f k) * den r ≤ num r * den (deep f k)) → Q * den r ≤ P * num r * reach-den f k
+      go P Q z a (inl l) =
+          absurd (not-le-of-lt h (le-trans (less-to f (deep f k) r (full f k) (deep-nonneg f k) p l (a .finite-x) (a .root) (a .from)) (a .count)))
       go P Q z a (inr l) = carry-back P Q (reach-den f k) (num r) (den r) (num (deep f k)) (den (deep f k)) (den-pos (deep f k)) l z
 
   limited-serves : Serves f r (limited (made-of f) (before-limits (made-of f) r))
@@ -89,7 +98,8 @@ module _ (f : Orthogonal) (r : Float) (p : NonNeg r) (i : T (finite r)) where
         least = λ k t h. needed k t (lt-of-not-le (λ (g : n ≤ k). not-le-of-lt h (l .lowest k t g)));
       }
     where
-      go : {s : ℕ} → (s ≡ largest-count (made-of f)) ⊎ (n ≤ s) → T (permitted (made-of f) s) → (s ≡ largest-count (made-of f)) ⊎ ((parts - 1) * num r * reach-den f s ≤ parts * reach-num f s * den r)
+      go : {s : ℕ} → (s ≡ largest-count (made-of f)) ⊎ (n ≤ s) → T (permitted (made-of f) s)
+          → (s ≡ largest-count (made-of f)) ⊎ ((parts - 1) * num r * reach-den f s ≤ parts * reach-num f s * den r)
       go (inl e) t = inl e
       go {s} (inr h) t = inr (covers s t h)
 
@@ -134,7 +144,8 @@ zero-serves f e s v = record {
 -- ---- the count
 negative-below : (m : ℕ) (e : ℤ) → lt (fin true (suc m) e) nought ≡ true
 unfolding lt
-negative-below m e = is-true (ltb 0 (suc m * up e * 1 + 0 * 1 * down e)) (lt→ltb 0 (suc m * up e * 1 + 0 * 1 * down e) (some (suc m * up e) (down e) (mul-pos (zero-lt-suc m) (up-pos e))))
+negative-below m e = is-true (ltb 0 (suc m * up e * 1 + 0 * 1 * down e))
+    (lt→ltb 0 (suc m * up e * 1 + 0 * 1 * down e) (some (suc m * up e) (down e) (mul-pos (zero-lt-suc m) (up-pos e))))
   where
     some : (a d : ℕ) → 0 < a → 0 < a * 1 + 0 * 1 * d
     some a d h = omega arith
@@ -152,5 +163,6 @@ serves f r i h = subst (λ (s : ℕ). Serves f r s) (sym (not-below f r h i)) (g
     go nan i h = absurd i
     go (inf s) i h = absurd i
     go (fin false m e) i h = limited-serves f (fin false m e) (number m e) tt
-    go (fin true zero e) i h = subst (λ (k : ℕ). Serves f (fin true 0 e) (limited (made-of f) k)) (sym (rule-zero f e)) (zero-serves f e (limited (made-of f) (before-limits (made-of f) nought)) (limited-serves f nought (number 0 (pos 0)) tt))
+    go (fin true zero e) i h = subst (λ (k : ℕ). Serves f (fin true 0 e) (limited (made-of f) k)) (sym (rule-zero f e))
+        (zero-serves f e (limited (made-of f) (before-limits (made-of f) nought)) (limited-serves f nought (number 0 (pos 0)) tt))
     go (fin true (suc m) e) i h = absurd (true≢false (sym (negative-below m e) ∙ h))

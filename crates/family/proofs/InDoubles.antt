@@ -1,4 +1,5 @@
--- The Rust takes RKG's smallest count in doubles, `.max(2.0) as usize`, and the definition in whole numbers, as document 01 has it. They agree on every double. Assumes nothing.
+-- The Rust takes RKG's smallest count in doubles, `.max(2.0) as usize`, and the definition in whole numbers, as document 01 has it. They agree on every double.
+-- Assumes nothing.
 use mathlib.Core.Path.{_≡_, refl, ap, _∙_}
 use Prim.Native.Nat.{ℕ, min}
 use mathlib.Core.Bool.{Bool, true, false, cond}

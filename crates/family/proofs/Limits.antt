@@ -1,4 +1,5 @@
--- The limits: what `limited` does to a number n. The result is permitted; it is the largest, or n at least; and no smaller permitted count is n at least. Assumes nothing.
+-- The limits: what `limited` does to a number n. The result is permitted; it is the largest, or n at least; and no smaller permitted count is n at least.
+-- Assumes nothing.
 use mathlib.Core.Path.{_≡_, refl, sym, subst}
 use mathlib.Core.Logic.{_⊎_, inl, inr}
 use Prim.Native.Nat.{ℕ, zero, suc, _%_, _≤_, _<_, min, max}
@@ -41,8 +42,17 @@ limits f n = go (odd-step f m) (odd-step-is f m) (largest-permitted f)
 
     go : (q : ℕ) → Stepped (odd-only f) m q → Permitted f (largest-count f) → Limited f n (min q (largest-count f))
     go q i l = elim (le-or-le (largest-count f) q) [
-      | inl h ↦ subst (λ (s : ℕ). Limited f n s) (sym (min-eq-right h)) (record { allowed = permitted-if f (largest-count f) l; own = inl refl; lowest = lowest-from (largest-count f) h })
-      | inr h ↦ subst (λ (s : ℕ). Limited f n s) (sym (min-eq-left h)) (record { allowed = permitted-if f q (record { from = omega arith; to = h; odd = i .odd }); own = inr (omega arith); lowest = lowest-from q (omega arith) })
+      | inl h ↦ subst (λ (s : ℕ). Limited f n s) (sym (min-eq-right h)) (record {
+        allowed = permitted-if f (largest-count f) l;
+        own = inl refl;
+        lowest = lowest-from (largest-count f) h;
+      })
+      | inr h ↦ subst (λ (s : ℕ). Limited f n s) (sym (min-eq-left h))
+          (record {
+            allowed = permitted-if f q (record { from = omega arith; to = h; odd = i .odd });
+            own = inr (omega arith);
+            lowest = lowest-from q (omega arith);
+          })
     ]
       where
         lowest-from : (s : ℕ) → s ≤ q → (k : ℕ) → T (permitted f k) → n ≤ k → s ≤ k

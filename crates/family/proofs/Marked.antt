@@ -9,5 +9,6 @@ use Rattle.family.specs.Family.{smallest-count, largest-count, odd-only,
 use Rattle.family.specs.Marked.{marked, right, all-right}
 
 pub marked-right : T (all-right marked)
-unfolding all-right right marked stage-count before-limits limited odd-step odd-only smallest-count largest-count Whole.max lt nearest add sub mul div sqrt floor ceil toUnsigned by-rule facts-of
+unfolding all-right right marked stage-count before-limits limited odd-step odd-only smallest-count largest-count Whole.max lt nearest add sub mul div sqrt
+    floor ceil toUnsigned by-rule facts-of
 marked-right = tt

@@ -85,7 +85,11 @@ sound-says f =
 
 -- the largest count is permitted
 pub largest-permitted : (f : Family) → Permitted f (largest-count f)
-largest-permitted f = let x = sound-says f in record { from = x .ordered; to = le-refl (largest-count f); odd = odd-so (odd-only f) (largest-count f) (x .odd-largest) }
+largest-permitted f = let x = sound-says f in record {
+  from = x .ordered;
+  to = le-refl (largest-count f);
+  odd = odd-so (odd-only f) (largest-count f) (x .odd-largest);
+}
 
 pub largest-to : (f : Family) → largest-count f ≤ most-stages
 largest-to f = sound-says f .to-most

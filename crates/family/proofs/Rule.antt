@@ -1,5 +1,5 @@
--- The stage rule of the four families as ⌈(√(offset + slope · r) − shift) / 2⌉: `inner`, the root, `after`. Each step keeps the order of the doubles that are not
--- negative, so a bound of the count at one double is a bound of it at another (`more-from`, `less-to`). Assumes nothing.
+-- The stage rule of the four families as ⌈(√(offset + slope · r) − shift) / 2⌉: `inner`, the root, `after`. Each step keeps the order of the doubles that are
+-- not negative, so a bound of the count at one double is a bound of it at another (`more-from`, `less-to`). Assumes nothing.
 use mathlib.Core.Path.{_≡_, refl, sym, subst}
 use mathlib.Core.Bool.{false}
 use Prim.Native.Nat.{ℕ, suc, _*_, _≤_}
@@ -10,7 +10,8 @@ use lib.Ieee.Scale.{finite}
 use Rattle.ieee.specs.Double.{_⊕_, _⊖_, _⊗_, _⊘_, nearest, nought, one, two, three, four, eight, nine, sixteen, twenty-four, twenty-five}
 use Rattle.ieee.specs.Sqrt.{sqrt, squared-units}
 use Rattle.ieee.specs.Whole.{ceil}
-use Rattle.ieee.proofs.Monotone.{NonNeg, number, least, Some, some-from, times-mono, times-nonneg, plus-mono, plus-nonneg, minus-mono, minus-nonneg, div-by-mono, div-by-nonneg, sqrt-mono, sqrt-nonneg, ceil-mono, ceil-nonneg, round-nonneg, le-both}
+use Rattle.ieee.proofs.Monotone.{NonNeg, number, least, Some, some-from, times-mono, times-nonneg, plus-mono, plus-nonneg, minus-mono, minus-nonneg}
+use Rattle.ieee.proofs.Monotone.{div-by-mono, div-by-nonneg, sqrt-mono, sqrt-nonneg, ceil-mono, ceil-nonneg, round-nonneg, le-both}
 use Rattle.ieee.proofs.Casts.{cast-mono}
 use Rattle.ieee.proofs.RootBounds.{L, root-from, root-to}
 use Rattle.family.specs.Family.{Orthogonal, Legendre1, Legendre2, Gegenbauer1, Gegenbauer2, made-of, before-limits, facts-of, by-rule}
@@ -63,7 +64,8 @@ module _ (n : ℕ) (d : ℤ) (n' : ℕ) (d' : ℤ) where
   line-nonneg r p = plus-nonneg n d (fin false (suc n') d' ⊗ r) (times-nonneg n' d' r p)
 
   line-mono : (r r' : Float) → NonNeg r → NonNeg r' → T (le r r') → T (le (line r) (line r'))
-  line-mono r r' p p' h = plus-mono n d (fin false (suc n') d' ⊗ r) (fin false (suc n') d' ⊗ r') (times-nonneg n' d' r p) (times-nonneg n' d' r' p') (times-mono n' d' r r' p p' h)
+  line-mono r r' p p' h = plus-mono n d (fin false (suc n') d' ⊗ r) (fin false (suc n') d' ⊗ r') (times-nonneg n' d' r p) (times-nonneg n' d' r' p')
+      (times-mono n' d' r r' p p' h)
 
 pub inner-nonneg : (f : Orthogonal) (r : Float) → NonNeg r → NonNeg (inner f r)
 unfolding inner offset slope
@@ -89,7 +91,8 @@ one-first Gegenbauer2 = tt
 inner-some : (f : Orthogonal) (r : Float) → NonNeg r → Some (inner f r)
 inner-some f r p =
     let z = number 0 (pos 0) in
-    some-from (inner f r) (inner-nonneg f r p) (le-both one (inner f nought) (inner f r) (number 1 (pos 0)) (inner-nonneg f nought z) (inner-nonneg f r p) (one-first f) (inner-mono f nought r z p (least r p)))
+    some-from (inner f r) (inner-nonneg f r p) (le-both one (inner f nought) (inner f r) (number 1 (pos 0)) (inner-nonneg f nought z) (inner-nonneg f r p)
+    (one-first f) (inner-mono f nought r z p (least r p)))
 
 pub nearest-nonneg : (a b : ℕ) → NonNeg (nearest a b)
 unfolding nearest
@@ -103,7 +106,8 @@ module _ (n : ℕ) (d : ℤ) where
   less-nonneg : (y : Float) → NonNeg y → T (le (fin false n d) y) → NonNeg (less y)
   less-nonneg y q k = div-by-nonneg 0 (pos 1) (y ⊖ fin false n d) (minus-nonneg n d y q k)
 
-  last-mono : (x y : Float) → NonNeg x → NonNeg y → T (le (fin false n d) x) → T (le (fin false n d) y) → T (le x y) → toUnsigned 64 (ceil (less x)) ≤ toUnsigned 64 (ceil (less y))
+  last-mono : (x y : Float) → NonNeg x → NonNeg y → T (le (fin false n d) x) → T (le (fin false n d) y) → T (le x y)
+      → toUnsigned 64 (ceil (less x)) ≤ toUnsigned 64 (ceil (less y))
   last-mono x y p q l k h =
       let c = ceil-mono (less x) (less y) (less-nonneg x p l) (less-nonneg y q k)
       (div-by-mono 0 (pos 1) (x ⊖ fin false n d) (y ⊖ fin false n d) (minus-nonneg n d x p l) (minus-nonneg n d y q k) (minus-mono n d x y p q l k h)) in
@@ -138,11 +142,13 @@ from-shift f r p =
     let o = inner-some f nought z in
     let n' = inner-nonneg f r p in
     let o' = inner-some f r p in
-    le-both (shifted f) (sqrt (inner f nought)) (sqrt (inner f r)) (shift-nonneg f) (sqrt-nonneg (inner f nought) n o) (sqrt-nonneg (inner f r) n' o') (shift-first f)
+    le-both (shifted f) (sqrt (inner f nought)) (sqrt (inner f r)) (shift-nonneg f) (sqrt-nonneg (inner f nought) n o) (sqrt-nonneg (inner f r) n' o')
+    (shift-first f)
     (sqrt-mono (inner f nought) (inner f r) n n' o o' (inner-mono f nought r z p (least r p)))
 
 -- ---- the count at one double, u, bounds it at another, r. a / L is a bound of the root at u
-pub more-from : (f : Orthogonal) (u r : Float) (a : ℕ) → NonNeg u → NonNeg r → T (le u r) → a * a ≤ squared-units (inner f u) → T (le (shifted f) (nearest a L)) → after f (nearest a L) ≤ before-limits (made-of f) r
+pub more-from : (f : Orthogonal) (u r : Float) (a : ℕ) → NonNeg u → NonNeg r → T (le u r) → a * a ≤ squared-units (inner f u) → T (le (shifted f) (nearest a L))
+    → after f (nearest a L) ≤ before-limits (made-of f) r
 more-from f u r a p q h w l =
     let n = inner-nonneg f u p in
     let o = inner-some f u p in
@@ -152,9 +158,11 @@ more-from f u r a p q h w l =
     let s' = sqrt-nonneg (inner f r) n' o' in
     subst (λ (z : ℕ). after f (nearest a L) ≤ z) (sym (rule-is f r))
     (after-mono f (nearest a L) (sqrt (inner f r)) (nearest-nonneg a L) s' l (from-shift f r q)
-    (le-both (nearest a L) (sqrt (inner f u)) (sqrt (inner f r)) (nearest-nonneg a L) s s' (root-from (inner f u) n o a w) (sqrt-mono (inner f u) (inner f r) n n' o o' (inner-mono f u r p q h))))
+    (le-both (nearest a L) (sqrt (inner f u)) (sqrt (inner f r)) (nearest-nonneg a L) s s' (root-from (inner f u) n o a w)
+    (sqrt-mono (inner f u) (inner f r) n n' o o' (inner-mono f u r p q h))))
 
-pub less-to : (f : Orthogonal) (u r : Float) (a : ℕ) → NonNeg u → NonNeg r → T (le r u) → T (finite (inner f u)) → squared-units (inner f u) ≤ a * a → T (le (shifted f) (nearest a L)) → before-limits (made-of f) r ≤ after f (nearest a L)
+pub less-to : (f : Orthogonal) (u r : Float) (a : ℕ) → NonNeg u → NonNeg r → T (le r u) → T (finite (inner f u)) → squared-units (inner f u) ≤ a * a
+    → T (le (shifted f) (nearest a L)) → before-limits (made-of f) r ≤ after f (nearest a L)
 less-to f u r a p q h i w l =
     let n = inner-nonneg f u p in
     let o = inner-some f u p in
@@ -164,4 +172,5 @@ less-to f u r a p q h i w l =
     let s' = sqrt-nonneg (inner f r) n' o' in
     subst (λ (z : ℕ). z ≤ after f (nearest a L)) (sym (rule-is f r))
     (after-mono f (sqrt (inner f r)) (nearest a L) s' (nearest-nonneg a L) (from-shift f r q) l
-    (le-both (sqrt (inner f r)) (sqrt (inner f u)) (nearest a L) s' s (nearest-nonneg a L) (sqrt-mono (inner f r) (inner f u) n' n o' o (inner-mono f r u q p h)) (root-to (inner f u) n o i a w)))
+    (le-both (sqrt (inner f r)) (sqrt (inner f u)) (nearest a L) s' s (nearest-nonneg a L)
+    (sqrt-mono (inner f r) (inner f u) n' n o' o (inner-mono f r u q p h)) (root-to (inner f u) n o i a w)))

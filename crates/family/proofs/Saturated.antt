@@ -1,4 +1,5 @@
--- The code counts in u64: RKC's number before limits stays at 2 ^ 64 - 1 where the definition's is 2 ^ 64, and the limits give the largest count for both. Assumes nothing.
+-- The code counts in u64: RKC's number before limits stays at 2 ^ 64 - 1 where the definition's is 2 ^ 64, and the limits give the largest count for both.
+-- Assumes nothing.
 use mathlib.Core.Path.{_≡_, sym, ap, _∙_}
 use mathlib.Core.Logic.{inl, inr}
 use Prim.Native.Nat.{ℕ, _-_, _^_, _≤_, min}

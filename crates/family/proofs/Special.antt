@@ -15,14 +15,16 @@ use Rattle.ieee.specs.Whole.{floor, ceil, cut}
 use Rattle.ieee.specs.Whole as Whole
 use Rattle.ieee.proofs.Monotone.{cross, round-nonneg}
 use Rattle.ieee.proofs.Casts.{cast-mono}
-use Rattle.family.specs.Family.{Family, RKC, RKL1, RKL2, RKG1, RKG2, smallest-count, largest-count, odd-only, before-limits, odd-step, limited, stage-count, facts-of, by-rule}
+use Rattle.family.specs.Family.{Family, RKC, RKL1, RKL2, RKG1, RKG2, smallest-count, largest-count, odd-only, before-limits, odd-step, limited}
+use Rattle.family.specs.Family.{stage-count, facts-of, by-rule}
 use Rattle.family.proofs.Range.{permitted-range}
 use Rattle.family.proofs.Limits.{limited-largest}
 use Rattle.family.proofs.Counts.{stage-count-permitted}
 
 -- ---- an infinite r gives the largest
 pub infinite-count : (f : Family) → stage-count f (inf false) ≡ largest-count f
-unfolding stage-count before-limits limited odd-step odd-only smallest-count largest-count Whole.max lt nearest add sub mul div sqrt floor ceil toUnsigned by-rule facts-of
+unfolding stage-count before-limits limited odd-step odd-only smallest-count largest-count Whole.max lt nearest add sub mul div sqrt floor ceil toUnsigned
+    by-rule facts-of
 infinite-count RKC = refl
 infinite-count RKL1 = refl
 infinite-count RKL2 = refl
@@ -56,7 +58,8 @@ from-too-many (fin true m e) h = absurd (none (down e) (m * up e * 1) (down-pos 
     none d b p t = let z = eqb→eq (2 ^ 64 * d) 0 (and-r (eqb (2 ^ 64 * d) b) (eqb (2 ^ 64 * d) 0) t) in omega arith
 from-too-many (fin false m e) h =
     let c : 2 ^ 64 ≤ cut m e = le-div-iff-mul-le (down-pos e) .1 (from (m * up e) (down e) (cross 1 (pos 64) m e h)) in
-    enough (cast-mono (round binary64 false (2 ^ 64) 1) (round binary64 false (cut m e) 1) (round-nonneg binary64 (2 ^ 64) 1) (round-nonneg binary64 (cut m e) 1) (round-mono binary64 (2 ^ 64) 1 (cut m e) 1 (lit< tt) (lit< tt) (mul-le-mul-right 1 c)))
+    enough (cast-mono (round binary64 false (2 ^ 64) 1) (round binary64 false (cut m e) 1) (round-nonneg binary64 (2 ^ 64) 1)
+    (round-nonneg binary64 (cut m e) 1) (round-mono binary64 (2 ^ 64) 1 (cut m e) 1 (lit< tt) (lit< tt) (mul-le-mul-right 1 c)))
   where
     from : (n d : ℕ) → 1 * 2 ^ 64 * d ≤ n * 1 → 2 ^ 64 * d ≤ n
     from n d h = omega arith

@@ -1,5 +1,5 @@
--- Two doubles for each permitted k, a little above its reach and a little below: the count of the one is above k, and that of the other is not. A test over all k, by computation.
--- The root is not worked out: `nearest a L` is a bound of it, by the square of a.
+-- Two doubles for each permitted k, a little above its reach and a little below: the count of the one is above k, and that of the other is not. A test over all
+-- k, by computation. The root is not worked out: `nearest a L` is a bound of it, by the square of a.
 use Prim.Native.Nat.{ℕ, _+_, _-_, _*_, _/_, _^_, _≤_, _<_}
 use native.Mathlib.Omega.{arith}
 use mathlib.Core.Bool.{Bool, true, false, _&&_, cond}
@@ -14,7 +14,8 @@ use Rattle.ieee.specs.Sqrt.{squared-units}
 use Rattle.ieee.specs.Whole.{ceil}
 use Rattle.ieee.proofs.Every.{every, among}
 use Rattle.ieee.proofs.RootBounds.{L}
-use Rattle.family.specs.Family.{Orthogonal, Legendre1, Legendre2, Gegenbauer1, Gegenbauer2, made-of, smallest-count, largest-count, odd-only, permitted, facts-of}
+use Rattle.family.specs.Family.{Orthogonal, Legendre1, Legendre2, Gegenbauer1, Gegenbauer2, made-of, smallest-count, largest-count, odd-only, permitted}
+use Rattle.family.specs.Family.{facts-of}
 use Rattle.family.specs.Reach.{reach, reach-num, reach-den, parts}
 use Rattle.family.proofs.Rule.{offset, slope, shift, shifted, inner, after}
 use Rattle.family.proofs.Range.{permitted-says}
@@ -34,10 +35,12 @@ unfoldable pub past : Orthogonal → ℕ → ℕ
 past f k = let m = (2 * k + shift f) * L in m + m / 2 ^ 52
 
 unfoldable good-above : Orthogonal → ℕ → Float → ℕ → Bool
-good-above f k u a = let y = nearest a L in finite u && leb (a * a) (squared-units (inner f u)) && le (shifted f) y && ltb k (after f y) && leb ((parts - 1) * num u * reach-den f k) (parts * reach-num f k * den u)
+good-above f k u a = let y = nearest a L in finite u && leb (a * a) (squared-units (inner f u)) && le (shifted f) y && ltb k (after f y)
+    && leb ((parts - 1) * num u * reach-den f k) (parts * reach-num f k * den u)
 
 unfoldable good-below : Orthogonal → ℕ → Float → ℕ → Bool
-good-below f k u a = let x = inner f u in let y = nearest a L in finite u && finite x && leb (squared-units x) (a * a) && le (shifted f) y && leb (after f y) k && leb (parts * reach-num f k * den u) ((parts + 1) * num u * reach-den f k)
+good-below f k u a = let x = inner f u in let y = nearest a L in finite u && finite x && leb (squared-units x) (a * a) && le (shifted f) y && leb (after f y) k
+    && leb (parts * reach-num f k * den u) ((parts + 1) * num u * reach-den f k)
 
 -- what they say
 pub record Above (f : Orthogonal) (k : ℕ) (u : Float) (a : ℕ) : Type 0 where
@@ -107,19 +110,23 @@ unfoldable all-good : Orthogonal → Bool
 all-good f = every (permitted-good f) (largest-count (made-of f) + 1 - smallest-count (made-of f)) (smallest-count (made-of f))
 
 test-Legendre1 : T (all-good Legendre1)
-unfolding all-good every permitted-good permitted made-of smallest-count largest-count odd-only good good-above good-below high deep past full reach frac _over_ reach-num reach-den parts inner after offset slope shift shifted nearest add sub mul div le ceil toUnsigned facts-of
+unfolding all-good every permitted-good permitted made-of smallest-count largest-count odd-only good good-above good-below high deep past full reach frac _over_
+    reach-num reach-den parts inner after offset slope shift shifted nearest add sub mul div le ceil toUnsigned facts-of
 test-Legendre1 = tt
 
 test-Legendre2 : T (all-good Legendre2)
-unfolding all-good every permitted-good permitted made-of smallest-count largest-count odd-only good good-above good-below high deep past full reach frac _over_ reach-num reach-den parts inner after offset slope shift shifted nearest add sub mul div le ceil toUnsigned facts-of
+unfolding all-good every permitted-good permitted made-of smallest-count largest-count odd-only good good-above good-below high deep past full reach frac _over_
+    reach-num reach-den parts inner after offset slope shift shifted nearest add sub mul div le ceil toUnsigned facts-of
 test-Legendre2 = tt
 
 test-Gegenbauer1 : T (all-good Gegenbauer1)
-unfolding all-good every permitted-good permitted made-of smallest-count largest-count odd-only good good-above good-below high deep past full reach frac _over_ reach-num reach-den parts inner after offset slope shift shifted nearest add sub mul div le ceil toUnsigned facts-of
+unfolding all-good every permitted-good permitted made-of smallest-count largest-count odd-only good good-above good-below high deep past full reach frac _over_
+    reach-num reach-den parts inner after offset slope shift shifted nearest add sub mul div le ceil toUnsigned facts-of
 test-Gegenbauer1 = tt
 
 test-Gegenbauer2 : T (all-good Gegenbauer2)
-unfolding all-good every permitted-good permitted made-of smallest-count largest-count odd-only good good-above good-below high deep past full reach frac _over_ reach-num reach-den parts inner after offset slope shift shifted nearest add sub mul div le ceil toUnsigned facts-of
+unfolding all-good every permitted-good permitted made-of smallest-count largest-count odd-only good good-above good-below high deep past full reach frac _over_
+    reach-num reach-den parts inner after offset slope shift shifted nearest add sub mul div le ceil toUnsigned facts-of
 test-Gegenbauer2 = tt
 
 test : (f : Orthogonal) → T (all-good f)
@@ -141,7 +148,8 @@ pub thresholds : (f : Orthogonal) (k : ℕ) → T (permitted (made-of f) k) → 
 unfolding good all-good
 thresholds f k p =
     let r = permitted-says (made-of f) k p in
-    let t = good-if f k p (among (permitted-good f) (largest-count (made-of f) + 1 - smallest-count (made-of f)) (smallest-count (made-of f)) k (test f) (r .from) (omega arith)) in (
+    let t = good-if f k p (among (permitted-good f) (largest-count (made-of f) + 1 - smallest-count (made-of f)) (smallest-count (made-of f)) k (test f)
+    (r .from) (omega arith)) in (
       above-says f k (high f k) (past f k) (and-l (good-above f k (high f k) (past f k)) (good-below f k (deep f k) (full f k)) t),
       below-says f k (deep f k) (full f k) (and-r (good-above f k (high f k) (past f k)) (good-below f k (deep f k) (full f k)) t),
     )

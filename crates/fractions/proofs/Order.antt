@@ -100,7 +100,8 @@ nonneg-above h = record { sign = nn-pos _ (h .sign⁺) }
 
 pub above-or-zero : (a : Frac) → Nonneg a → Above a ⊎ (a ≈ 0#)
 unfolding int
-above-or-zero a h = elim (pos-or-zero (a .num) (h .sign)) [ inl k ↦ inl (record { sign⁺ = k }) | inr e ↦ inr (record { cross = ap (λ k. k *ℤ pos 1) e ∙ sym (zero-*ℤ (pos (a .den))) }) ]
+above-or-zero a h = elim (pos-or-zero (a .num) (h .sign))
+    [ inl k ↦ inl (record { sign⁺ = k }) | inr e ↦ inr (record { cross = ap (λ k. k *ℤ pos 1) e ∙ sym (zero-*ℤ (pos (a .den))) }) ]
 
 pub ≼-of : {a b : Frac} → Nonneg (b ⊖ a) → a ≼ b
 unfolding _⊕_ opp
@@ -123,5 +124,6 @@ at-most-one v h = nonneg-cancel (above-nat 1) (nonneg-≈ (ring (v ∷ []) ((1�
     (nonneg-+ h (nonneg-square (1# ⊖ v))))
 
 pub at-least-minus-one : (v : Frac) → Nonneg (1# ⊖ v ⊗ v) → Nonneg (1# ⊕ v)
-at-least-minus-one v h = nonneg-cancel (above-nat 1) (nonneg-≈ (ring (v ∷ []) ((1ₑ :- var 0 :* var 0) :+ (1ₑ :+ var 0) :* (1ₑ :+ var 0)) (2ₑ :* (1ₑ :+ var 0)) tt)
+at-least-minus-one v h = nonneg-cancel (above-nat 1)
+    (nonneg-≈ (ring (v ∷ []) ((1ₑ :- var 0 :* var 0) :+ (1ₑ :+ var 0) :* (1ₑ :+ var 0)) (2ₑ :* (1ₑ :+ var 0)) tt)
     (nonneg-+ h (nonneg-square (1# ⊕ v))))

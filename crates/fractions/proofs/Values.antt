@@ -94,7 +94,10 @@ divided a b h = go (b .num) (b .den) (b .positive) (h .sign⁺)
   where
     go : (k : ℤ) (d : ℕ) (p : 0 < d) → Positive k → (a ⊗ inverse-of k d) ⊗ record { num = k; den = d; positive = p } ≈ a
     go (pos zero) d p h = absurd h
-    go (pos (suc n)) d p h = record { cross = ℤ-ring (a .num ∷ pos (a .den) ∷ pos (suc n) ∷ pos d ∷ []) (var 0 :* var 3 :* var 2 :* var 1) (var 0 :* (var 1 :* var 2 :* var 3)) tt }
+    go (pos (suc n)) d p h = record {
+      cross = ℤ-ring (a .num ∷ pos (a .den) ∷ pos (suc n) ∷ pos d ∷ []) (var 0 :* var 3 :* var 2 :* var 1)
+          (var 0 :* (var 1 :* var 2 :* var 3)) tt;
+    }
     go (negsuc n) d p h = absurd h
 
 pub record Fits (a : Frac) : Type 0 where

@@ -1,5 +1,5 @@
--- Rust's cast to a whole number of 64 bits keeps the order of the doubles that are not negative (`cast-mono`), and the maximum of a double and a small whole number may be
--- taken before the cast or after it (`cast-of-max`). Assumes nothing.
+-- Rust's cast to a whole number of 64 bits keeps the order of the doubles that are not negative (`cast-mono`), and the maximum of a double and a small whole
+-- number may be taken before the cast or after it (`cast-of-max`). Assumes nothing.
 use mathlib.Core.Path.{_≡_, ap, _∙_}
 use Prim.Native.Nat.{ℕ, suc, _+_, _-_, _*_, _/_, _^_, _≤_, _<_, min, max}
 use native.Mathlib.Nat.{le-refl, div-one, div-lt-iff-lt-mul, le-div-iff-mul-le, mul-one, zero-lt-suc, mul-pos}
@@ -22,7 +22,8 @@ cast-mono x y (number m e) infinite h = capped (m * up e / down e)
     capped : (a : ℕ) → min a (2 ^ 64 - 1) ≤ 2 ^ 64 - 1
     capped a = omega arith
 cast-mono x y infinite (number n d) h = absurd (unfold le in h)
-cast-mono x y (number m e) (number n d) h = mins (m * up e / down e) (n * up d / down d) (div-mono (m * up e) (down e) (n * up d) (down d) (down-pos e) (down-pos d) (cross m e n d h))
+cast-mono x y (number m e) (number n d) h = mins (m * up e / down e) (n * up d / down d)
+    (div-mono (m * up e) (down e) (n * up d) (down d) (down-pos e) (down-pos d) (cross m e n d h))
   where
     mins : (a b : ℕ) → a ≤ b → min a (2 ^ 64 - 1) ≤ min b (2 ^ 64 - 1)
     mins a b h = omega arith
@@ -50,11 +51,14 @@ module _ (k : ℕ) (small : suc k < 2 ^ 64) where
     where
       high : 2 ^ 64 - 1 ≡ max (2 ^ 64 - 1) (suc k)
       high = omega arith
-  cast-of-max (fin true m e) = ap (λ (b : Bool). toUnsigned 64 (cond b limit (fin true m e))) (is-true (ltb 0 (m * up e * 1 + suc k * 1 * down e)) (lt→ltb 0 (m * up e * 1 + suc k * 1 * down e) (some (m * up e * 1) (down e) (down-pos e)))) ∙ limit-cast ∙ low
+  cast-of-max (fin true m e) = ap (λ (b : Bool). toUnsigned 64 (cond b limit (fin true m e)))
+      (is-true (ltb 0 (m * up e * 1 + suc k * 1 * down e)) (lt→ltb 0 (m * up e * 1 + suc k * 1 * down e) (some (m * up e * 1) (down e) (down-pos e))))
+      ∙ limit-cast ∙ low
     where
       some : (a d : ℕ) → 0 < d → 0 < a + suc k * 1 * d
       some a d h = omega (arith, mul-pos (zero-lt-suc k) h)
-  cast-of-max (fin false m e) = go (ltb (m * up e * 1) (suc k * 1 * down e)) (ltb→lt (m * up e * 1) (suc k * 1 * down e)) (nltb→le (m * up e * 1) (suc k * 1 * down e))
+  cast-of-max (fin false m e) = go (ltb (m * up e * 1) (suc k * 1 * down e)) (ltb→lt (m * up e * 1) (suc k * 1 * down e))
+      (nltb→le (m * up e * 1) (suc k * 1 * down e))
     where
       below : (n d : ℕ) → n * 1 < suc k * 1 * d → n < suc k * d
       below n d h = omega arith
@@ -68,6 +72,7 @@ module _ (k : ℕ) (small : suc k < 2 ^ 64) where
       more : (q : ℕ) → suc k ≤ q → min q (2 ^ 64 - 1) ≡ max (min q (2 ^ 64 - 1)) (suc k)
       more q h = omega arith
 
-      go : (b : Bool) → (T b → m * up e * 1 < suc k * 1 * down e) → (T (not b) → suc k * 1 * down e ≤ m * up e * 1) → toUnsigned 64 (cond b limit (fin false m e)) ≡ max (min (m * up e / down e) (2 ^ 64 - 1)) (suc k)
+      go : (b : Bool) → (T b → m * up e * 1 < suc k * 1 * down e) → (T (not b) → suc k * 1 * down e ≤ m * up e * 1)
+          → toUnsigned 64 (cond b limit (fin false m e)) ≡ max (min (m * up e / down e) (2 ^ 64 - 1)) (suc k)
       go true h l = limit-cast ∙ less (m * up e / down e) (div-lt-iff-lt-mul (down-pos e) .1 (below (m * up e) (down e) (h tt)))
       go false h l = more (m * up e / down e) (le-div-iff-mul-le (down-pos e) .1 (from (m * up e) (down e) (l tt)))

@@ -3,7 +3,8 @@
 use mathlib.Core.Path.{_≡_, refl, sym, ap, ap₂, _∙_, subst}
 use mathlib.Core.Logic.{inl, inr}
 use Prim.Native.Nat.{ℕ, zero, suc, _+_, _-_, _*_, _^_, _≤_, _<_}
-use native.Mathlib.Nat.{le-trans, le-of-eq, mul-comm, mul-assoc, mul-left-comm, mul-mul-mul-comm, mul-le-mul, mul-le-mul-right, mul-le-mul-left, mul-pos, mul-sub, eq-zero-or-pos, not-le-of-lt, zero-mul, mul-zero, le-of-mul-le-mul-right, add-zero}
+use native.Mathlib.Nat.{le-trans, le-of-eq, mul-comm, mul-assoc, mul-left-comm, mul-mul-mul-comm, mul-le-mul, mul-le-mul-right, mul-le-mul-left, mul-pos}
+use native.Mathlib.Nat.{mul-sub, eq-zero-or-pos, not-le-of-lt, zero-mul, mul-zero, le-of-mul-le-mul-right, add-zero}
 use native.Mathlib.Omega.{arith}
 use mathlib.Core.Bool.{Bool, true, false, not, cond}
 use lib.Dec.{T, ltb, leb→le, ltb→lt}
@@ -45,7 +46,12 @@ pub record Fit (k n : ℕ) (s : Bool) (x : Float) (q : Frac) : Type 0 where
   pub within : Within k (num x) (den x)
 
 pub fit-same : {k n : ℕ} {s : Bool} {x : Float} {q q' : Frac} → q .num ≡ q' .num → q .den ≡ q' .den → Fit k n s x q → Fit k n s x q'
-fit-same {n = n} {s = s} {x = x} e d h = record { size = h .size; top = sym e ∙ h .top; near = subst (λ (y : ℕ). Near n s x (h .size) y) d (h .near); within = h .within }
+fit-same {n = n} {s = s} {x = x} e d h = record {
+  size = h .size;
+  top = sym e ∙ h .top;
+  near = subst (λ (y : ℕ). Near n s x (h .size) y) d (h .near);
+  within = h .within;
+}
 
 pub fit-neg : {k n : ℕ} {s : Bool} (x : Float) {q : Frac} → Fit k n s x q → Fit k n (not s) (neg x) (opp q)
 unfolding neg opp
@@ -98,7 +104,8 @@ within-near k z e a c C h w = record {
         shape e c p = simp (mul-assoc, mul-comm, mul-left-comm)
 
 -- the two factors' sizes x / dx near m / d, and y / dy near n / e; and z / dz near their product
-near-times : (i j x dx y dy z dz m d n e : ℕ) → 0 < x → 0 < y → 0 < dx → 0 < dy → Rel 1 (z * (dx * dy)) (x * y * dz) → Rel i (x * d) (m * dx) → Rel j (y * e) (n * dy) → Rel (1 + i + j) (z * (d * e)) (m * n * dz)
+near-times : (i j x dx y dy z dz m d n e : ℕ) → 0 < x → 0 < y → 0 < dx → 0 < dy → Rel 1 (z * (dx * dy)) (x * y * dz) → Rel i (x * d) (m * dx)
+    → Rel j (y * e) (n * dy) → Rel (1 + i + j) (z * (d * e)) (m * n * dz)
 near-times i j x dx y dy z dz m d n e X Y DX DY h f g = rel-cancel (x * y * (dx * dy)) (mul-pos (mul-pos X Y) (mul-pos DX DY))
     (rel-same left right (rel-times (rel-times h f) g))
   where
@@ -109,9 +116,14 @@ near-times i j x dx y dy z dz m d n e X Y DX DY h f g = rel-cancel (x * y * (dx 
     right = simp (mul-assoc, mul-comm, mul-left-comm)
 
 pub num-pos : (k : ℕ) (x : Float) → Within k (num x) (den x) → 0 < num x
-num-pos k x w = elim (eq-zero-or-pos (num x)) [ inl z ↦ absurd (not-le-of-lt (den-pos x) (le-trans (w .lower) (le-of-eq (ap (λ (y : ℕ). y * 2 ^ k) z ∙ zero-mul (2 ^ k))))) | inr q ↦ q ]
+num-pos k x w =
+    elim (eq-zero-or-pos (num x)) [
+      | inl z ↦ absurd (not-le-of-lt (den-pos x) (le-trans (w .lower) (le-of-eq (ap (λ (y : ℕ). y * 2 ^ k) z ∙ zero-mul (2 ^ k)))))
+      | inr q ↦ q
+    ]
 
-pub fit-times : (k l i j : ℕ) (s t : Bool) (x y : Float) (q r : Frac) → k + l ≤ 1022 → Fit k i s x q → Fit l j t y r → Fit (k + l + 1) (1 + i + j) (unlike s t) (mul binary64 x y) (q ⊗ r)
+pub fit-times : (k l i j : ℕ) (s t : Bool) (x y : Float) (q r : Frac) → k + l ≤ 1022 → Fit k i s x q → Fit l j t y r
+    → Fit (k + l + 1) (1 + i + j) (unlike s t) (mul binary64 x y) (q ⊗ r)
 unfolding mul _⊗_
 fit-times k l i j s t nan y q r h f g = absurd (f .near .number)
 fit-times k l i j s t (inf a) y q r h f g = absurd (f .near .number)
@@ -129,7 +141,8 @@ fit-times k l i j s t (fin a m e) (fin b n d) q r h f g =
       near = record {
         number = z .number;
         signed-so = z .signed-so ∙ ap₂ unlike (f .near .signed-so) (g .near .signed-so);
-        near = near-times i j (m * up e) (down e) (n * up d) (down d) (num o) (den o) (f .size) (q .den) (g .size) (r .den) X Y (down-pos e) (down-pos d) (z .near) (f .near .near) (g .near .near);
+        near = near-times i j (m * up e) (down e) (n * up d) (down d) (num o) (den o) (f .size) (q .den) (g .size) (r .den) X Y (down-pos e) (down-pos d)
+            (z .near) (f .near .near) (g .near .near);
       };
       within = within-near (k + l) (num o) (den o) (m * up e * (n * up d)) (down e * down d) (mul-pos (down-pos e) (down-pos d)) (z .near) w;
     }
@@ -149,7 +162,8 @@ off k a (suc b) x h l = go (ltb a (suc b)) (ltb→lt a (suc b))
     go true g = le-trans (le-of-eq (ap (λ (y : ℕ). y * k) (one-up (g tt)))) (gap k a (suc b) x l)
     go false g = gap k (suc b) a x h
 
-apart : (s : Bool) (k u d m e x : ℕ) → u * d * k ≤ m * e * k + x → m * e * k ≤ u * d * k + x → natAbs (signed s u *ℤ pos d +ℤ negℤ (signed s m) *ℤ pos e) * k ≤ x
+apart : (s : Bool) (k u d m e x : ℕ) → u * d * k ≤ m * e * k + x → m * e * k ≤ u * d * k + x
+    → natAbs (signed s u *ℤ pos d +ℤ negℤ (signed s m) *ℤ pos e) * k ≤ x
 apart false k u d m e x h l = subst (λ (z : ℤ). natAbs (pos (u * d) +ℤ z) * k ≤ x) (sym (times-signed true false m e)) (off k (u * d) (m * e) x h l)
 apart true k u d m e x h l =
     subst (λ (z : ℤ). natAbs z * k ≤ x)

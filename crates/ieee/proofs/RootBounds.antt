@@ -1,5 +1,5 @@
--- The root of a double is bounded by a whole number of smallest values without being worked out: it is a / 2 ^ 1074, rounded, at least where the double is the square of a at least
--- (`root-from`), and at most where it is that at most (`root-to`). Tables of many roots are tested so. Assumes nothing.
+-- The root of a double is bounded by a whole number of smallest values without being worked out: it is a / 2 ^ 1074, rounded, at least where the double is the
+-- square of a at least (`root-from`), and at most where it is that at most (`root-to`). Tables of many roots are tested so. Assumes nothing.
 use mathlib.Core.Path.{sym, _∙_}
 use Prim.Native.Nat.{ℕ, zero, suc, _+_, _*_, _^_, _≤_, _<_}
 use native.Mathlib.Nat.{le-trans, le-of-eq, le-antisymm, lt-of-le-of-lt, lt-of-not-le, mul-pos, mul-le-mul, mul-le-mul-right, mul-assoc, mul-left-comm}
@@ -44,8 +44,10 @@ root-from x infinite o a h = le-infinite (nearest a L) (round-nonneg binary64 a 
 root-from x (number zero e) o a h = absurd o
 root-from x (number (suc m) e) o a h = go L (pow-pos 1074) (root-lower a (squared-units (fin false (suc m) e)) h)
   where
-    go : (l : ℕ) → 0 < l → 2 * a ≤ halves (squared-units (fin false (suc m) e)) → T (le (round binary64 false a l) (round binary64 false (halves (squared-units (fin false (suc m) e))) (2 * l)))
-    go l z k = round-mono binary64 a l (halves (squared-units (fin false (suc m) e))) (2 * l) z (mul-pos (lit< tt) z) (le-trans (le-of-eq (mul-left-comm a 2 l ∙ sym (mul-assoc 2 a l))) (mul-le-mul-right l k))
+    go : (l : ℕ) → 0 < l → 2 * a ≤ halves (squared-units (fin false (suc m) e))
+        → T (le (round binary64 false a l) (round binary64 false (halves (squared-units (fin false (suc m) e))) (2 * l)))
+    go l z k = round-mono binary64 a l (halves (squared-units (fin false (suc m) e))) (2 * l) z (mul-pos (lit< tt) z)
+        (le-trans (le-of-eq (mul-left-comm a 2 l ∙ sym (mul-assoc 2 a l))) (mul-le-mul-right l k))
 
 pub root-to : (x : Float) → NonNeg x → Some x → T (finite x) → (a : ℕ) → squared-units x ≤ a * a → T (le (sqrt x) (nearest a L))
 unfolding nearest sqrt
@@ -53,5 +55,7 @@ root-to x infinite o i a h = absurd i
 root-to x (number zero e) o i a h = absurd o
 root-to x (number (suc m) e) o i a h = go L (pow-pos 1074) (root-upper a (squared-units (fin false (suc m) e)) h)
   where
-    go : (l : ℕ) → 0 < l → halves (squared-units (fin false (suc m) e)) ≤ 2 * a → T (le (round binary64 false (halves (squared-units (fin false (suc m) e))) (2 * l)) (round binary64 false a l))
-    go l z k = round-mono binary64 (halves (squared-units (fin false (suc m) e))) (2 * l) a l (mul-pos (lit< tt) z) z (le-trans (mul-le-mul-right l k) (le-of-eq (mul-assoc 2 a l ∙ mul-left-comm 2 a l)))
+    go : (l : ℕ) → 0 < l → halves (squared-units (fin false (suc m) e)) ≤ 2 * a
+        → T (le (round binary64 false (halves (squared-units (fin false (suc m) e))) (2 * l)) (round binary64 false a l))
+    go l z k = round-mono binary64 (halves (squared-units (fin false (suc m) e))) (2 * l) a l (mul-pos (lit< tt) z) z
+        (le-trans (mul-le-mul-right l k) (le-of-eq (mul-assoc 2 a l ∙ mul-left-comm 2 a l)))

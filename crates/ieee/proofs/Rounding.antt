@@ -1,8 +1,10 @@
--- A fraction between 2 ^ -1022 and 2 ^ 1022 is rounded to a double that is off by one part in 2 ^ 53 of it at most (`rounded`). `Rel n u v`, u and v within n parts in 2 ^ 53
--- of each other, adds up under products with no second-order terms. Assumes nothing.
+-- A fraction between 2 ^ -1022 and 2 ^ 1022 is rounded to a double that is off by one part in 2 ^ 53 of it at most (`rounded`). `Rel n u v`, u and v within n
+-- parts in 2 ^ 53 of each other, adds up under products with no second-order terms. Assumes nothing.
 use mathlib.Core.Path.{_≡_, refl, sym, ap, _∙_, subst}
 use Prim.Native.Nat.{ℕ, zero, suc, _+_, _-_, _*_, _/_, _%_, _^_, _≤_, _<_, compare, Ordering, Ordering·lt, Ordering·eq, Ordering·gt}
-use native.Mathlib.Nat.{le-trans, le-of-eq, le-of-lt, lt-of-le-of-lt, le-of-mul-le-mul-right, mul-comm, mul-assoc, mul-left-comm, mul-right-comm, mul-mul-mul-comm, mul-le-mul, mul-le-mul-right, mul-le-mul-left, mul-pos, mul-sub, lt-of-mul-lt-mul-right, add-mul, mod-lt, div-add-mod', le-div-iff-mul-le}
+use native.Mathlib.Nat.{le-trans, le-of-eq, le-of-lt, lt-of-le-of-lt, le-of-mul-le-mul-right, mul-comm, mul-assoc, mul-left-comm, mul-right-comm}
+use native.Mathlib.Nat.{mul-mul-mul-comm, mul-le-mul, mul-le-mul-right, mul-le-mul-left, mul-pos, mul-sub, lt-of-mul-lt-mul-right, add-mul, mod-lt}
+use native.Mathlib.Nat.{div-add-mod', le-div-iff-mul-le}
 use native.Mathlib.Omega.{arith}
 use mathlib.Core.Logic.{inl, inr}
 use mathlib.Core.Bool.{Bool, not}
@@ -51,7 +53,10 @@ one-side p n m u v u' v' z h k = le-of-mul-le-mul-right
     (le-trans (mul-le-mul h k) (le-of-eq (mul-mul-mul-comm v p v' p ∙ sym (mul-assoc (v * v') p p))))))) z
 
 pub rel-times : {n m u v u' v' : ℕ} → Rel n u v → Rel m u' v' → Rel (n + m) (u * u') (v * v')
-rel-times {n} {m} {u} {v} {u'} {v'} h k = record { to = one-side P n m u v u' v' (pow-pos 53) (h .to) (k .to); from = one-side P n m v u v' u' (pow-pos 53) (h .from) (k .from) }
+rel-times {n} {m} {u} {v} {u'} {v'} h k = record {
+  to = one-side P n m u v u' v' (pow-pos 53) (h .to) (k .to);
+  from = one-side P n m v u v' u' (pow-pos 53) (h .from) (k .from);
+}
 
 pub rel-cancel : {n u v : ℕ} (k : ℕ) → 0 < k → Rel n (u * k) (v * k) → Rel n u v
 rel-cancel {n} {u} {v} k z h = record {
@@ -84,7 +89,8 @@ closest-off a b B = go (compare (a % b * 2) b) (leb→le (a % b * 2) b) (nleb→
     off : (q t : ℕ) → q ≡ a / b + t → t ≤ 1 → (t ≡ 0 → a % b * 2 ≤ b) → (t ≡ 1 → b ≤ a % b * 2) → (2 * (q * b) ≤ 2 * a + b) × (2 * a ≤ 2 * (q * b) + b)
     off q t e l h k = go t (ap (λ (x : ℕ). x * b) e ∙ add-mul (a / b) t b) l h k
       where
-        go : (t : ℕ) → q * b ≡ a / b * b + t * b → t ≤ 1 → (t ≡ 0 → a % b * 2 ≤ b) → (t ≡ 1 → b ≤ a % b * 2) → (2 * (q * b) ≤ 2 * a + b) × (2 * a ≤ 2 * (q * b) + b)
+        go : (t : ℕ) → q * b ≡ a / b * b + t * b → t ≤ 1 → (t ≡ 0 → a % b * 2 ≤ b) → (t ≡ 1 → b ≤ a % b * 2)
+            → (2 * (q * b) ≤ 2 * a + b) × (2 * a ≤ 2 * (q * b) + b)
         go zero z l h k = let x = w in let y = h refl in (omega arith, omega arith)
         go (suc zero) z l h k = let x = w in let v = r in let y = k refl in (omega arith, omega arith)
         go (suc (suc t)) z l h k = absurd (no t l)
@@ -218,7 +224,10 @@ module _ (a c k : ℕ) (C : 0 < c) (K : k ≤ 1022) (w : Within k a c) where
       shape x y = simp (mul-assoc, mul-comm, mul-left-comm)
 
   no-overflow : q * 2 ^ dropped < 2 ^ 2098
-  no-overflow = lt-of-mul-lt-mul-right (2 ^ 52) (lt-of-le-of-lt (le-of-mul-le-mul-right (chain (q * 2 ^ dropped) (2 ^ 1074) (2 ^ 52) (P - 1) P (2 ^ k) (2 ^ 1022) (lit≤ tt) (pow-mono K) (rel-off on-grid .to) (w .upper)) C) (lit< tt))
+  no-overflow =
+      lt-of-mul-lt-mul-right (2 ^ 52) (lt-of-le-of-lt
+      (le-of-mul-le-mul-right (chain (q * 2 ^ dropped) (2 ^ 1074) (2 ^ 52) (P - 1) P (2 ^ k) (2 ^ 1022) (lit≤ tt) (pow-mono K) (rel-off on-grid .to)
+      (w .upper)) C) (lit< tt))
     where
       chain : (g l h p' p r t : ℕ) → h ≤ p' → r ≤ t → g * c * p' ≤ a * l * p → a ≤ c * r → g * h * c ≤ t * l * p * c
       chain g l h p' p r t x y z v =

@@ -1,8 +1,9 @@
--- A double is determined by its sign and its value (`same-value`), and rounding leaves it as it is (`round-own`); 0 rounds to 0 (`round-none`). So dividing by 1 changes no double.
--- Assumes nothing.
+-- A double is determined by its sign and its value (`same-value`), and rounding leaves it as it is (`round-own`); 0 rounds to 0 (`round-none`). So dividing by
+-- 1 changes no double. Assumes nothing.
 use mathlib.Core.Path.{_≡_, refl, sym, ap, _∙_, subst}
 use Prim.Native.Nat.{ℕ, zero, suc, _+_, _-_, _*_, _/_, _%_, _^_, _≤_, _<_}
-use native.Mathlib.Nat.{le-of-eq, lt-of-lt-of-le, lt-of-not-le, le-of-suc-le-suc, lt-irrefl, mul-assoc, mul-right-comm, mul-one, one-mul, zero-mul, mul-pos, mul-lt-mul-of-pos-right, lt-of-mul-lt-mul-right, eq-of-mul-eq-mul-right}
+use native.Mathlib.Nat.{le-of-eq, lt-of-lt-of-le, lt-of-not-le, le-of-suc-le-suc, lt-irrefl, mul-assoc, mul-right-comm, mul-one, one-mul, zero-mul, mul-pos}
+use native.Mathlib.Nat.{mul-lt-mul-of-pos-right, lt-of-mul-lt-mul-right, eq-of-mul-eq-mul-right}
 use native.Mathlib.Omega.{arith}
 use mathlib.Core.Bool.{Bool, true, false, _&&_, cond}
 use lib.IntN.{ℤ, pos, negsuc}
@@ -32,7 +33,11 @@ says s m e h =
 -- m * 2 ^ e is m * 2 ^ j units of 2 ^ -l
 pub spot : (m : ℕ) (e : ℤ) (l : ℕ) → down e ≤ 2 ^ l → (j : ℕ) × (m * up e * 2 ^ l ≡ m * 2 ^ j * down e)
 spot m (pos k) l h = (k + l, mul-assoc m (2 ^ k) (2 ^ l) ∙ ap (λ (x : ℕ). m * x) (sym (pow-add 2 k l)) ∙ sym (mul-one (m * 2 ^ (k + l))))
-spot m (negsuc k) l h = (l - suc k, ap (λ (x : ℕ). x * 2 ^ l) (mul-one m) ∙ ap (λ (x : ℕ). m * x) (ap (λ (x : ℕ). 2 ^ x) (sym (join (back h))) ∙ pow-add 2 (l - suc k) (suc k)) ∙ sym (mul-assoc m (2 ^ (l - suc k)) (2 ^ suc k)))
+spot m (negsuc k) l h = (
+  l - suc k,
+  ap (λ (x : ℕ). x * 2 ^ l) (mul-one m)
+      ∙ ap (λ (x : ℕ). m * x) (ap (λ (x : ℕ). 2 ^ x) (sym (join (back h))) ∙ pow-add 2 (l - suc k) (suc k)) ∙ sym (mul-assoc m (2 ^ (l - suc k)) (2 ^ suc k)),
+)
   where
     back : 2 ^ suc k ≤ 2 ^ l → suc k ≤ l
     back h = le-of-suc-le-suc (lt-of-not-le (λ (g : suc l ≤ suc k). lt-irrefl (2 ^ l) (lt-of-lt-of-le (pow-lt g) h)))
@@ -42,13 +47,15 @@ spot m (negsuc k) l h = (l - suc k, ap (λ (x : ℕ). x * 2 ^ l) (mul-one m) ∙
 
 -- n * L / d smallest values, from a value a / d below 2 ^ 1024
 pub bounded : (a n d L E : ℕ) → 0 < L → a * L ≡ n * d → a < E * d → n < E * L
-bounded a n d L E l e h = lt-of-mul-lt-mul-right d (subst (λ (x : ℕ). x < E * L * d) e (lt-of-lt-of-le (mul-lt-mul-of-pos-right h l) (le-of-eq (mul-right-comm E d L))))
+bounded a n d L E l e h = lt-of-mul-lt-mul-right d
+    (subst (λ (x : ℕ). x < E * L * d) e (lt-of-lt-of-le (mul-lt-mul-of-pos-right h l) (le-of-eq (mul-right-comm E d L))))
 
 -- ---- one double a value
 same-bits : (s : Bool) (m : ℕ) (e : ℤ) (n : ℕ) (d : ℤ) → m * up e * down d ≡ n * up d * down e → toBits binary64 (fin s m e) ≡ toBits binary64 (fin s n d)
 unfolding toBits
 same-bits s m e n d h = ap (λ (w : ℕ). let k = size w - 53 in cond s (top binary64) 0 + k * hid binary64 + w / 2 ^ k)
-    (div-same (m * up e * 2 ^ 1074) (down e) (n * up d * 2 ^ 1074) (down d) (down-pos e) (down-pos d) (scale (m * up e) (down d) (n * up d) (down e) (2 ^ 1074) h))
+    (div-same (m * up e * 2 ^ 1074) (down e) (n * up d * 2 ^ 1074) (down d) (down-pos e) (down-pos d)
+    (scale (m * up e) (down d) (n * up d) (down e) (2 ^ 1074) h))
   where
     scale : (a d b c l : ℕ) → a * d ≡ b * c → a * l * d ≡ b * l * c
     scale a d b c l h = mul-right-comm a l d ∙ ap (λ (x : ℕ). x * l) h ∙ mul-right-comm b c l
@@ -61,7 +68,8 @@ same-value (fin t m e) (inf u) s a c C p q v w = absurd w
 same-value (fin t m e) (fin u n d) s a c C p q v w =
     sym (ofBits-toBits binary64 (fin t m e) p)
     ∙ ap (λ (z : Bool). ofBits binary64 (toBits binary64 (fin z m e))) (v .0 ∙ sym (w .0))
-    ∙ ap (ofBits binary64) (same-bits u m e n d (eq-of-mul-eq-mul-right c C (m * up e * down d) (n * up d * down e) (cross (m * up e) (n * up d) (down e) (down d) (v .1) (w .1))))
+    ∙ ap (ofBits binary64) (same-bits u m e n d (eq-of-mul-eq-mul-right c C (m * up e * down d) (n * up d * down e)
+    (cross (m * up e) (n * up d) (down e) (down d) (v .1) (w .1))))
     ∙ ofBits-toBits binary64 (fin u n d) q
   where
     cross : (x y d d' : ℕ) → x * c ≡ a * d → y * c ≡ a * d' → x * d' * c ≡ y * d * c
@@ -69,14 +77,17 @@ same-value (fin t m e) (fin u n d) s a c C p q v w =
 
 -- ---- rounding a double
 exact : (s : Bool) (m : ℕ) (e : ℤ) → T (fits binary64 (fin s m e)) → HasValue (round binary64 s (m * up e) (down e)) s (m * up e) (down e)
-exact s zero e h = round-exact binary64 s (0 * up e) (down e) 0 0 (down-pos e) (lit< tt) (lit< tt) (ap (λ (x : ℕ). x * 2 ^ 1074) (zero-mul (up e)) ∙ zero-mul (2 ^ 1074) ∙ sym (zero-mul (down e)))
+exact s zero e h = round-exact binary64 s (0 * up e) (down e) 0 0 (down-pos e) (lit< tt) (lit< tt) (ap (λ (x : ℕ). x * 2 ^ 1074) (zero-mul (up e))
+    ∙ zero-mul (2 ^ 1074) ∙ sym (zero-mul (down e)))
 exact s (suc m) e h =
     let f = says s m e h in
     let p = spot (suc m) e 1074 (f .1) in
-    round-exact binary64 s (suc m * up e) (down e) (suc m) (p .0) (down-pos e) (f .0) (bounded (suc m * up e) (suc m * 2 ^ (p .0)) (down e) (2 ^ 1074) (2 ^ 1024) (pow-pos 1074) (p .1) (f .2)) (p .1)
+    round-exact binary64 s (suc m * up e) (down e) (suc m) (p .0) (down-pos e) (f .0)
+    (bounded (suc m * up e) (suc m * 2 ^ (p .0)) (down e) (2 ^ 1074) (2 ^ 1024) (pow-pos 1074) (p .1) (f .2)) (p .1)
 
 pub round-own : (s : Bool) (m : ℕ) (e : ℤ) → T (fits binary64 (fin s m e)) → round binary64 s (m * up e) (down e) ≡ fin s m e
-round-own s m e h = same-value (round binary64 s (m * up e) (down e)) (fin s m e) s (m * up e) (down e) (down-pos e) (round-fits binary64 s (m * up e) (down e)) h (exact s m e h) (refl, refl)
+round-own s m e h = same-value (round binary64 s (m * up e) (down e)) (fin s m e) s (m * up e) (down e) (down-pos e) (round-fits binary64 s (m * up e) (down e))
+    h (exact s m e h) (refl, refl)
 
 -- 0 rounds to 0, whatever it is over
 pub round-none : (s : Bool) (a c : ℕ) → 0 < c → a ≡ 0 → round binary64 s a c ≡ fin s 0 (pos 0)

@@ -61,7 +61,8 @@ module _ (m : Inverter) (minute : ℕ) (reading upcoming : Float) where
   unfolding driven
   driven-none c = refl
 
-  pub driven-turn : (k : ℕ) (c : Called) → 0 < k → driven m minute reading upcoming k c ≡ driven m minute reading upcoming (k - 1) (next m minute reading upcoming c)
+  pub driven-turn : (k : ℕ) (c : Called) → 0 < k → driven m minute reading upcoming k c
+      ≡ driven m minute reading upcoming (k - 1) (next m minute reading upcoming c)
   unfolding driven
   driven-turn zero c p = absurd (omega arith)
   driven-turn (suc k) c p = let e : k ≡ suc k - 1 = omega arith in

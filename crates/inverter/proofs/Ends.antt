@@ -96,7 +96,8 @@ refuses : (k i : ℕ) (r : Record) (v : Vectors) → Goes k (calls.step-to (Refu
 unfolding Goes Follow
 refuses k i r v = tt
 
-staged : (k : ℕ) (r : Record) (n : Need) (radius : Float) (v : Vectors) → n ≡ calls.stage-need (calls.setting-of r) radius → 200 ≤ k → Goes k (calls.by-need n r v radius)
+staged : (k : ℕ) (r : Record) (n : Need) (radius : Float) (v : Vectors) → n ≡ calls.stage-need (calls.setting-of r) radius → 200 ≤ k
+    → Goes k (calls.by-need n r v radius)
 unfolding calls.by-need
 staged k r (Met s) radius v e h =
     let m : s ≤ 200 = need-most (calls.setting-of r) radius s e in
@@ -165,7 +166,8 @@ module _ (k : ℕ) (h : Held) where
 
   reply-follows : (d : List Float) → calls-left (h .kept .phase) (h .kept) ≤ suc k → Follows k (calls.reply h d)
   unfolding calls.reply calls.reply-tests
-  reply-follows d l = let ts = calls.reply-tests (h .kept) (h .counters) (h .area) d in guarded-follows k h ts _ (λ p. followed d (p .1 .1 .1 .0) l (all-finite d))
+  reply-follows d l = let ts = calls.reply-tests (h .kept) (h .counters) (h .area) d in
+      guarded-follows k h ts _ (λ p. followed d (p .1 .1 .1 .0) l (all-finite d))
 
   attempted : (a : Arguments) → most-calls - 2 ≤ k → Follows k (calls.going-on (h .counters) (calls.attempted h a))
   unfolding calls.going-on calls.attempted Goes

@@ -14,7 +14,8 @@ use Rattle.workspace.specs.Vectors.{number, candidate}
 use Rattle.driver.specs.Calls.{Called}
 use Rattle.heat_sink.specs.declared.Inverter.{Inverter}
 use Rattle.inverter.specs.declared.Count.{Count}
-use Rattle.inverter.specs.Day.{reading-at, passed, whole-minute, upcoming, finished, junction, is-above, refusal, count-after, So-far, so-far, held, with-minute, run}
+use Rattle.inverter.specs.Day.{reading-at, passed, whole-minute, upcoming, finished, junction, is-above, refusal, count-after, So-far, so-far, held}
+use Rattle.inverter.specs.Day.{with-minute, run}
 use Rattle.inverter.specs.Finite.{kept-out, Entering, entering-with, entering, next-reading, left-by, above-at, above-by}
 use Rattle.inverter.proofs.Calls.{minute-finite, minute-not-finite}
 

@@ -20,7 +20,8 @@ use Rattle.heat_sink.specs.declared.Inverter.{Inverter}
 use Rattle.inverter.specs.declared.Count.{Count}
 use Rattle.inverter.specs.declared.Total.{Total}
 use Rattle.inverter.specs.declared.DayResult.the-variants.{Day, Malformed}
-use Rattle.inverter.specs.Day.{one-if, whole-minute, upcoming, junction, is-above, refusal, count-after, end-of, so-far, held, with-minute, run, first-area, outset, Gives-total, Reports, reported, day}
+use Rattle.inverter.specs.Day.{one-if, whole-minute, upcoming, junction, is-above, refusal, count-after, end-of, so-far, held, with-minute, run}
+use Rattle.inverter.specs.Day.{first-area, outset, Gives-total, Reports, reported, day}
 use Rattle.sheet.specs.Text as Text
 
 pub one-most : (b : Bool) → one-if b ≤ 1
@@ -84,7 +85,8 @@ module _ (m : Inverter) (readings : List Float) (i : ℕ) (count : Count) (area 
       → number ≡ refusal (end .answer) → temperature ≡ junction m (end .held .kept .phase) (end .held .area)
       → count′ ≡ count-after m (end-of end) temperature count
       → run m i (drop i readings) (so-far count area (take i refusals) (take i junctions))
-      ≡ run m (i + 1) (drop (i + 1) readings) (so-far count′ (end .held .area) (take (i + 1) (set refusals i number)) (take (i + 1) (set junctions i temperature)))
+      ≡ run m (i + 1) (drop (i + 1) readings) (so-far count′ (end .held .area) (take (i + 1) (set refusals i number))
+      (take (i + 1) (set junctions i temperature)))
   unfolding run with-minute
   minute-turn end {count′} {number} {temperature} {after} h lr lj u e g j f =
       let t = so-far count area (take i refusals) (take i junctions) in
@@ -94,11 +96,15 @@ module _ (m : Inverter) (readings : List Float) (i : ℕ) (count : Count) (area 
       ∙ ap (λ (k : ℕ). run m (i + 1) (drop k readings) (with-minute m (whole-minute m i here (upcoming here (drop k readings)) (held t)) t)) (sym (add-one i))
       ∙ ap (λ (x : Float). run m (i + 1) rest (with-minute m (whole-minute m i here x (held t)) t)) (sym u)
       ∙ ap (λ (c : Called). run m (i + 1) rest (with-minute m c t)) (sym e)
-      ∙ ap (λ (x : Float). run m (i + 1) rest (so-far (count-after m (end-of end) x count) (end .held .area) (take i refusals ++ (refusal (end .answer) ∷ [])) (take i junctions ++ (x ∷ [])))) (sym j)
-      ∙ ap (λ (c : Count). run m (i + 1) rest (so-far c (end .held .area) (take i refusals ++ (refusal (end .answer) ∷ [])) (take i junctions ++ (temperature ∷ [])))) (sym f)
+      ∙ ap (λ (x : Float). run m (i + 1) rest (so-far (count-after m (end-of end) x count) (end .held .area) (take i refusals ++ (refusal (end .answer) ∷ []))
+      (take i junctions ++ (x ∷ [])))) (sym j)
+      ∙ ap (λ (c : Count). run m (i + 1) rest (so-far c (end .held .area) (take i refusals ++ (refusal (end .answer) ∷ [])) (take i junctions
+      ++ (temperature ∷ [])))) (sym f)
       ∙ ap (λ (k : ℕ). run m (i + 1) rest (so-far count′ (end .held .area) (take i refusals ++ (k ∷ [])) (take i junctions ++ (temperature ∷ [])))) (sym g)
-      ∙ ap (λ (r : List ℕ). run m (i + 1) rest (so-far count′ (end .held .area) r (take i junctions ++ (temperature ∷ [])))) (grown refusals i number (omega arith))
-      ∙ ap (λ (r : List Float). run m (i + 1) rest (so-far count′ (end .held .area) (take (i + 1) (set refusals i number)) r)) (grown junctions i temperature (omega arith))
+      ∙ ap (λ (r : List ℕ). run m (i + 1) rest (so-far count′ (end .held .area) r (take i junctions ++ (temperature ∷ []))))
+      (grown refusals i number (omega arith))
+      ∙ ap (λ (r : List Float). run m (i + 1) rest (so-far count′ (end .held .area) (take (i + 1) (set refusals i number)) r))
+      (grown junctions i temperature (omega arith))
 
   -- after the last minute
   pub minutes-end : length readings ≤ i → length refusals ≡ length readings → length junctions ≡ length readings

@@ -58,7 +58,8 @@ fn total_of(m: Inverter, readings: &[f64], refusals: &mut [u64], junctions: &mut
     requires { ⌜ length (now readings) ≤ 1440 ⌝ }
     requires { ⌜ length (now refusals) ≡ length (now readings) ⌝ }
     requires { ⌜ length (now junctions) ≡ length (now readings) ⌝ }
-    ensures { λ r. ⌜ spec.Gives-total (spec.run m 0 (now (readings .entry)) (spec.outset (spec.first-area m))) r (now (refusals .exit)) (now (junctions .exit)) ⌝ }
+    ensures { λ r. ⌜ spec.Gives-total (spec.run m 0 (now (readings .entry)) (spec.outset (spec.first-area m))) r (now (refusals .exit))
+        (now (junctions .exit)) ⌝ }
 {
     let mut area = zeros();
     let mut scratch = blank();
@@ -77,7 +78,8 @@ fn total_of(m: Inverter, readings: &[f64], refusals: &mut [u64], junctions: &mut
 // From the text of a day to its total: the hours above the rated junction temperature. Of each minute, the number that it
 // was refused with (0 for none) and the junction temperature at its end. A text that is no day leaves these as they were.
 pub fn day(text: &[u8], refusals: &mut [u64; 1440], junctions: &mut [f64; 1440]) -> DayResult
-    ensures { λ r. ⌜ spec.Reports (spec.day (now (text .entry)) (now (refusals .entry)) (now (junctions .entry))) r (now (refusals .exit)) (now (junctions .exit)) ⌝ }
+    ensures { λ r. ⌜ spec.Reports (spec.day (now (text .entry)) (now (refusals .entry)) (now (junctions .entry))) r (now (refusals .exit))
+        (now (junctions .exit)) ⌝ }
 {
     let mut readings = no_readings();
     match sheet::read(text, &mut readings) {

@@ -139,7 +139,8 @@ fn run(
     requires { ⌜ length (now readings) ≤ 1440 ⌝ }
     requires { ⌜ length (now refusals) ≡ length (now readings) ⌝ }
     requires { ⌜ length (now junctions) ≡ length (now readings) ⌝ }
-    ensures { λ r. ⌜ spec.Gives-total (spec.run m 0 (now (readings .entry)) (spec.outset (now (area .entry)))) r (now (refusals .exit)) (now (junctions .exit)) ⌝ }
+    ensures { λ r. ⌜ spec.Gives-total (spec.run m 0 (now (readings .entry)) (spec.outset (now (area .entry)))) r (now (refusals .exit))
+        (now (junctions .exit)) ⌝ }
 {
     let mut count = outset();
     let mut i = 0;
@@ -184,7 +185,8 @@ pub fn from_rest(
     requires { ⌜ length (now readings) ≤ 1440 ⌝ }
     requires { ⌜ length (now refusals) ≡ length (now readings) ⌝ }
     requires { ⌜ length (now junctions) ≡ length (now readings) ⌝ }
-    ensures { λ r. ⌜ spec.Gives-total (spec.run m 0 (now (readings .entry)) (spec.outset (spec.first-area m))) r (now (refusals .exit)) (now (junctions .exit)) ⌝ }
+    ensures { λ r. ⌜ spec.Gives-total (spec.run m 0 (now (readings .entry)) (spec.outset (spec.first-area m))) r (now (refusals .exit))
+        (now (junctions .exit)) ⌝ }
 {
     workspace::fill_vector(area, m.n, workspace::STATE, m.initial);
     run(m, readings, area, scratch, refusals, junctions)

@@ -65,7 +65,14 @@ lent w x = record {
 abbrev pub place-of : List ℕ → Kept
 place-of w =
     let g : Staging = record { stages = getD w 5 0; stage = getD w 6 0; recurrence = no-recurrence } in
-    record { family = getD w 0 0; n = getD w 1 0; phase = phase-of (getD w 2 0); arguments = new-record .arguments; iteration = new-record .iteration; staging = g }
+    record {
+      family = getD w 0 0;
+      n = getD w 1 0;
+      phase = phase-of (getD w 2 0);
+      arguments = new-record .arguments;
+      iteration = new-record .iteration;
+      staging = g;
+    }
 
 -- what a call answers, and what it leaves of the record
 abbrev pub leaves : Answer → List ℕ → List Float → Answered

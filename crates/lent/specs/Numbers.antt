@@ -48,7 +48,13 @@ pub record Record : Type 0 where
   pub staging : Staging
 
 unfoldable pub brought : Float → Float → Float → Float → ℕ → Brought
-brought t h absolute relative adaptive = record { time = t; step = h; «absolute_tolerance» = absolute; «relative_tolerance» = relative; adaptive = not (eqb adaptive 0) }
+brought t h absolute relative adaptive = record {
+  time = t;
+  step = h;
+  «absolute_tolerance» = absolute;
+  «relative_tolerance» = relative;
+  adaptive = not (eqb adaptive 0);
+}
 
 abbrev pub as-brought : Arguments → Brought
 as-brought a = brought (a .time) (a .step) (a .«absolute_tolerance») (a .«relative_tolerance») (a .adaptive)
@@ -62,7 +68,13 @@ meaning r =
 unfoldable pub written : ℕ → Kept → Record
 written adaptive r =
     let b = r .arguments in
-    let a : Arguments = record { time = b .time; step = b .step; «absolute_tolerance» = b .«absolute_tolerance»; «relative_tolerance» = b .«relative_tolerance»; adaptive = adaptive } in
+    let a : Arguments = record {
+      time = b .time;
+      step = b .step;
+      «absolute_tolerance» = b .«absolute_tolerance»;
+      «relative_tolerance» = b .«relative_tolerance»;
+      adaptive = adaptive;
+    } in
     record { family = r .family; n = r .n; phase = phase-number (r .phase); arguments = a; iteration = r .iteration; staging = r .staging }
 
 -- ---- answers

@@ -3,7 +3,8 @@ ghost use mathlib.Core.Path.{_≡_};
 ghost use lib.ListN.{length};
 ghost use Rattle.driver.specs.declared.Staged.the-variants.{On, Ended, NotFinite};
 ghost use Rattle.lent.specs.Numbers as numbers;
-ghost use Rattle.lent.specs.Lent.{wholes-long, doubles-long, arguments-in, iteration-in, polynomials-in, staging-in, lent, place-of, leaves, staged-outcome};
+ghost use Rattle.lent.specs.Lent.{wholes-long, doubles-long, arguments-in, iteration-in, polynomials-in, staging-in, lent, place-of, leaves};
+ghost use Rattle.lent.specs.Lent.{staged-outcome};
 use coefficients::Polynomials;
 use coefficients::Recurrence;
 use driver::Iteration;
@@ -249,7 +250,8 @@ pub fn leave_with(
     adaptive: u64,
     next: Next,
 ) -> Answer
-    ensures { λ r. ⌜ leaves r (now (wholes .exit)) (now (doubles .exit)) ≡ numbers.handed-back (lent (now (wholes .entry)) (now (doubles .entry))) adaptive (numbers.in-numbers (next .answer)) (next .«record») ⌝ }
+    ensures { λ r. ⌜ leaves r (now (wholes .exit)) (now (doubles .exit)) ≡ numbers.handed-back (lent (now (wholes .entry)) (now (doubles .entry))) adaptive
+        (numbers.in-numbers (next .answer)) (next .«record») ⌝ }
 {
     let answer = next.answer;
     let told = in_numbers(answer);
@@ -263,7 +265,8 @@ pub fn leave_with(
 
 // The same, with the number for `adaptive` that was found.
 pub fn leave(wholes: &mut [u64; WHOLES], doubles: &mut [f64; DOUBLES], next: Next) -> Answer
-    ensures { λ r. ⌜ leaves r (now (wholes .exit)) (now (doubles .exit)) ≡ numbers.handed-back (lent (now (wholes .entry)) (now (doubles .entry))) (lent (now (wholes .entry)) (now (doubles .entry)) .arguments .adaptive) (numbers.in-numbers (next .answer)) (next .«record») ⌝ }
+    ensures { λ r. ⌜ leaves r (now (wholes .exit)) (now (doubles .exit)) ≡ numbers.handed-back (lent (now (wholes .entry)) (now (doubles .entry)))
+        (lent (now (wholes .entry)) (now (doubles .entry)) .arguments .adaptive) (numbers.in-numbers (next .answer)) (next .«record») ⌝ }
 {
     let adaptive = wholes[3];
     leave_with(wholes, doubles, adaptive, next)
@@ -273,7 +276,8 @@ pub fn leave(wholes: &mut [u64; WHOLES], doubles: &mut [f64; DOUBLES], next: Nex
 fn ask_stage(wholes: &mut [u64], doubles: &mut [f64], time: f64, staging: Staging) -> Answer
     requires { ⌜ length (now wholes) ≡ wholes-long ⌝ }
     requires { ⌜ length (now doubles) ≡ doubles-long ⌝ }
-    ensures { λ r. ⌜ leaves r (now (wholes .exit)) (now (doubles .exit)) ≡ staged-outcome (lent (now (wholes .entry)) (now (doubles .entry))) (On time staging) ⌝ }
+    ensures { λ r. ⌜ leaves r (now (wholes .exit)) (now (doubles .exit)) ≡ staged-outcome (lent (now (wholes .entry)) (now (doubles .entry)))
+        (On time staging) ⌝ }
 {
     let c = staging.recurrence;
     let p = c.polynomials;

@@ -19,8 +19,10 @@ use Rattle.family.specs.Family.{facts-of, kind}
 use Rattle.coefficients.specs.declared.Recurrence.{Recurrence}
 use Rattle.coefficients.specs.declared.Coefficients.{Coefficients}
 use Rattle.workspace.specs.declared.Arguments.{Arguments}
-use Rattle.workspace.specs.Vectors.{Vector, Vectors, _with_≔_, number, each, vector-norm, first-derivative, last-derivative, derivative, previous-two, previous-one, next-stage, eigenvector, perturbed-state, perturbed-derivative, state, candidate, older-state}
-use Rattle.workspace.specs.Kernel.{with-direction, perturbed-by, perturbed, turned, first-stage, orthogonal-entry, chebyshev-entry, entry-in, with-row-in, exchanged, with-candidate, with-last, error, error-in, scaled-error, scaled-error-norm, error-norm, candidate-in}
+use Rattle.workspace.specs.Vectors.{Vector, Vectors, _with_≔_, number, each, vector-norm, first-derivative, last-derivative, derivative, previous-two}
+use Rattle.workspace.specs.Vectors.{previous-one, next-stage, eigenvector, perturbed-state, perturbed-derivative, state, candidate, older-state}
+use Rattle.workspace.specs.Kernel.{with-direction, perturbed-by, perturbed, turned, first-stage, orthogonal-entry, chebyshev-entry, entry-in, with-row-in}
+use Rattle.workspace.specs.Kernel.{exchanged, with-candidate, with-last, error, error-in, scaled-error, scaled-error-norm, error-norm, candidate-in}
 use Rattle.session.specs.Attempt.{all-but-last}
 use Rattle.session.specs.Alike.{compared, Same-vectors}
 
@@ -93,14 +95,17 @@ module _ (history : Bool) where
     first-agrees h mu~ v w p = agree-with (five or previous-two) previous-one (v with previous-two ≔ v state) (w with previous-two ≔ w state) _ _
         (agree-with five previous-two v w (v state) (w state) p (p state refl)) (rw (p state refl, p first-derivative refl))
 
-    entry-same : (f : RowForm) (h : Float) (c : Coefficients) (d : List Float) (v w : Vectors) → Agree seven v w → each n (v with derivative ≔ d) (entry-in f h c) ≡ each n (w with derivative ≔ d) (entry-in f h c)
+    entry-same : (f : RowForm) (h : Float) (c : Coefficients) (d : List Float) (v w : Vectors) → Agree seven v w
+        → each n (v with derivative ≔ d) (entry-in f h c) ≡ each n (w with derivative ≔ d) (entry-in f h c)
     unfolding each entry-in orthogonal-entry chebyshev-entry
     entry-same ChebyshevRow h c d v w p = rw (p state refl, p first-derivative refl, p previous-one refl, p previous-two refl)
     entry-same OrthogonalRow h c d v w p = rw (p state refl, p first-derivative refl, p previous-one refl, p previous-two refl)
 
-    pub row-agrees : (f : RowForm) (h : Float) (c : Coefficients) (d : List Float) (v w : Vectors) → Agree seven v w → Agree nine (with-row-in f n h c v d) (with-row-in f n h c w d)
+    pub row-agrees : (f : RowForm) (h : Float) (c : Coefficients) (d : List Float) (v w : Vectors) → Agree seven v w
+        → Agree nine (with-row-in f n h c v d) (with-row-in f n h c w d)
     unfolding with-row-in
-    row-agrees f h c d v w p = agree-with (seven or derivative) next-stage (v with derivative ≔ d) (w with derivative ≔ d) _ _ (agree-with seven derivative v w d d p refl) (entry-same f h c d v w p)
+    row-agrees f h c d v w p = agree-with (seven or derivative) next-stage (v with derivative ≔ d) (w with derivative ≔ d) _ _
+        (agree-with seven derivative v w d d p refl) (entry-same f h c d v w p)
 
     pub exchanged-agrees : (v w : Vectors) → Agree nine v w → Agree nine (exchanged v) (exchanged w)
     unfolding exchanged
@@ -159,7 +164,8 @@ module _ (history : Bool) where
         q : Agree eleven x y
         q = agree-with ten last-derivative v w d d p refl
 
-        go : (t : Bool) → Agree eleven (cond t (x with derivative ≔ each n x (error m (a .step))) x) (cond t (y with derivative ≔ each n y (error m (a .step))) y)
+        go : (t : Bool) → Agree eleven (cond t (x with derivative ≔ each n x (error m (a .step))) x)
+            (cond t (y with derivative ≔ each n y (error m (a .step))) y)
         go true = drop-one eleven derivative _ _ (agree-with eleven derivative x y _ _ q (error-same (facts-of (kind m) .error) (a .step) x y q))
         go false = q
 

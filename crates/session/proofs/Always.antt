@@ -28,8 +28,10 @@ module _ (h : Held) (a : Arguments) (d : ℕ → List Float) (long : (i : ℕ) �
       some zero e r = absurd (differ (sym (none-reaches (in-one-piece h a) d 0 e) ∙ r))
       some (suc m) e r = omega arith
 
-      attempts : (t : Bool) → ltb (h .counters .«finished_attempts» + 1) (2 ^ 64) ≡ t → h .counters .evaluations + replies-to h a d < 2 ^ 64 → reaches-candidate (in-one-piece h a) d 0 ≡ true → Runs h a d ⊎ Counters-full
-      attempts true t fit r = inl (run h a d p long (record { evaluations-fit = fit; attempts-fit = λ e. ltb-true (h .counters .«finished_attempts» + 1) (2 ^ 64) t }))
+      attempts : (t : Bool) → ltb (h .counters .«finished_attempts» + 1) (2 ^ 64) ≡ t → h .counters .evaluations + replies-to h a d < 2 ^ 64
+          → reaches-candidate (in-one-piece h a) d 0 ≡ true → Runs h a d ⊎ Counters-full
+      attempts true t fit r =
+          inl (run h a d p long (record { evaluations-fit = fit; attempts-fit = λ e. ltb-true (h .counters .«finished_attempts» + 1) (2 ^ 64) t }))
       attempts false t fit r =
           let one = some (replies-to h a d) refl r in
           let full = ltb-false (h .counters .«finished_attempts» + 1) (2 ^ 64) t in
@@ -43,4 +45,8 @@ module _ (h : Held) (a : Arguments) (d : ℕ → List Float) (long : (i : ℕ) �
       evaluations true t = reached (reaches-candidate (in-one-piece h a) d 0) refl (ltb-true (h .counters .evaluations + replies-to h a d) (2 ^ 64) t)
       evaluations false t =
           let over = ltb-false (h .counters .evaluations + replies-to h a d) (2 ^ 64) t in
-          inr (2 ^ 64 - 1 - h .counters .evaluations, omega arith, evaluations-lack h a d long p (2 ^ 64 - 1 - h .counters .evaluations) (omega arith) (omega arith))
+          inr (
+            2 ^ 64 - 1 - h .counters .evaluations,
+            omega arith,
+            evaluations-lack h a d long p (2 ^ 64 - 1 - h .counters .evaluations) (omega arith) (omega arith),
+          )

@@ -63,7 +63,8 @@ among h a d m cs e = (
 
 -- ---- a finished attempt: its evaluations in order, and then finished
 
-one-shown : (y : Answer) (g : Held) → case-number y ≡ 1 → (shown : List Shown) (more : List Evaluated) (last : List Shown) → shown ≡ map evaluation-shown more ++ last
+one-shown : (y : Answer) (g : Held) → case-number y ≡ 1 → (shown : List Shown) (more : List Evaluated) (last : List Shown)
+    → shown ≡ map evaluation-shown more ++ last
     → answer-shown y g ∷ shown ≡ map evaluation-shown (called-for y g ++ more) ++ last
 unfolding answer-shown called-for case-number
 one-shown (Evaluate t b) g one shown more last on = ap (λ (ss : List Shown). answer-shown (Evaluate t b) g ∷ ss) on
@@ -73,27 +74,34 @@ one-shown (Refused n) g one shown more last on = absurd (omega arith)
 one-shown Empty g one shown more last on = absurd (omega arith)
 
 shown-along : (m : ℕ) (d : ℕ → List Float) (i : ℕ) (x : Called) → ((j : ℕ) → j < m → case-number (after j d i x .answer) ≡ 1)
-    → map (λ (s : Seen). s .shown) (seen-along m d i x) ≡ map evaluation-shown (answers m d i x) ++ answer-shown (after m d i x .answer) (after m d i x .held) ∷ []
+    → map (λ (s : Seen). s .shown) (seen-along m d i x) ≡ map evaluation-shown (answers m d i x)
+    ++ answer-shown (after m d i x .answer) (after m d i x .held) ∷ []
 unfolding seen-along answers after call-seen
 shown-along zero d i x each = refl
-shown-along (suc m) d i x each = one-shown (x .answer) (x .held) (each 0 (omega arith)) _ (answers m d (suc i) (reply (x .held) (d i))) _ (shown-along m d (suc i) (reply (x .held) (d i)) (λ j l. each (suc j) (omega arith)))
+shown-along (suc m) d i x each = one-shown (x .answer) (x .held) (each 0 (omega arith)) _ (answers m d (suc i) (reply (x .held) (d i))) _
+    (shown-along m d (suc i) (reply (x .held) (d i)) (λ j l. each (suc j) (omega arith)))
 
-finish-shown : (h : Held) (a : Arguments) (o : Finished-attempt) (replies : ℕ) (x : Called) → Finishes h a o replies x → answer-shown (x .answer) (x .held) ≡ finished-shown o
+finish-shown : (h : Held) (a : Arguments) (o : Finished-attempt) (replies : ℕ) (x : Called) → Finishes h a o replies x
+    → answer-shown (x .answer) (x .held) ≡ finished-shown o
 unfolding answer-shown
 finish-shown h a o replies x f =
     let back = unpack-pack (its-family (h .kept)) (h .kept .n) (o .vectors) (f .vectors-long) in
     rw (f .answer-is, f .stages-are, f .passes-are, f .radius-is, f .n-is, f .area-is, back) refl
 
-module _ (h : Held) (a : Arguments) (d : ℕ → List Float) (o : Finished-attempt) (p : Allowed h a) (long : (i : ℕ) → length (d i) ≡ h .kept .n) (fits : Fits h a d) (e : end (in-one-piece h a) d 0 ≡ reached o) (cs : List Call)
+module _ (h : Held) (a : Arguments) (d : ℕ → List Float) (o : Finished-attempt) (p : Allowed h a) (long : (i : ℕ)
+    → length (d i) ≡ h .kept .n) (fits : Fits h a d) (e : end (in-one-piece h a) d 0 ≡ reached o) (cs : List Call)
     (only : taken-of h cs ≡ Attempt a ∷ replies-from (o .stages + o .passes) d 0) where
   -- what is then held is what the last reply of `took` leaves
-  pub finished-among : Finishes h a o (o .stages + o .passes) (after (o .stages + o .passes) d 0 (attempt h a)) × (held-after h cs ≡ after (o .stages + o .passes) d 0 (attempt h a) .held)
+  pub finished-among : Finishes h a o (o .stages + o .passes) (after (o .stages + o .passes) d 0 (attempt h a))
+      × (held-after h cs ≡ after (o .stages + o .passes) d 0 (attempt h a) .held)
   finished-among = (finished h a d o p long fits e, among h a d (o .stages + o .passes) cs only .1)
 
   pub shown-among : map (λ (s : Seen). s .shown) (seen-of h cs) ≡ map evaluation-shown (evaluated (in-one-piece h a) d 0) ++ finished-shown o ∷ []
   shown-among =
       let t = took h a d o p long fits e in
       let m = o .stages + o .passes in
-      let points : answers m d 0 (attempt h a) ≡ evaluated (in-one-piece h a) d 0 = subst (λ (i : ℕ). answers i d 0 (attempt h a) ≡ evaluated (in-one-piece h a) d 0) (t .replies-are) (run h a d p long fits .same-evaluations) in
+      let points : answers m d 0 (attempt h a) ≡ evaluated (in-one-piece h a) d 0 =
+      subst (λ (i : ℕ). answers i d 0 (attempt h a) ≡ evaluated (in-one-piece h a) d 0) (t .replies-are) (run h a d p long fits .same-evaluations) in
       ap (map (λ (s : Seen). s .shown)) (among h a d m cs only .0) ∙ shown-along m d 0 (attempt h a) (t .each-evaluates)
-      ∙ ap₂ (λ (es : List Evaluated) (s : Shown). map evaluation-shown es ++ s ∷ []) points (finish-shown h a o m (after m d 0 (attempt h a)) (finished h a d o p long fits e))
+      ∙ ap₂ (λ (es : List Evaluated) (s : Shown). map evaluation-shown es ++ s ∷ []) points
+      (finish-shown h a o m (after m d 0 (attempt h a)) (finished h a d o p long fits e))

@@ -1,5 +1,5 @@
--- One evaluation: what the computation asks for the call calls for; a derivative that is not finite ends both with 9, and on any other the call goes on by its phase.
--- Beside it what stays through an attempt: the vectors' lengths, the kept state, the first derivative.
+-- One evaluation: what the computation asks for the call calls for; a derivative that is not finite ends both with 9, and on any other the call goes on by its
+-- phase. Beside it what stays through an attempt: the vectors' lengths, the kept state, the first derivative.
 use mathlib.Core.Path.{_≡_, refl, sym, ap, _∙_, subst}
 use mathlib.Core.Bool.{Bool, true, false, cond}
 use mathlib.Core.List.{List, [], _∷_}
@@ -16,9 +16,11 @@ use Rattle.ieee.specs.Double.{one, min-positive}
 use Rattle.family.specs.Family.{Family, known}
 use Rattle.coefficients.specs.declared.Coefficients.{Coefficients}
 use Rattle.workspace.specs.declared.Arguments.{Arguments}
-use Rattle.workspace.specs.Vectors.{Vector, Vectors, _with_≔_, number, named, unpack, pack, vector-norm, all-finite, first-derivative, eigenvector, state, older-state}
+use Rattle.workspace.specs.Vectors.{Vector, Vectors, _with_≔_, number, named, unpack, pack, vector-norm, all-finite, first-derivative, eigenvector, state}
+use Rattle.workspace.specs.Vectors.{older-state}
 use Rattle.workspace.specs.Kernel.{with-direction, perturbed-by, perturbed, turned, first-stage, with-row, exchanged, with-candidate, with-row-in}
-use Rattle.workspace.proofs.Areas.{Long, named-number, unpack-pack, long-direction, long-perturbed, long-turned, long-first, long-row, long-exchanged, long-candidate}
+use Rattle.workspace.proofs.Areas.{Long, named-number, unpack-pack, long-direction, long-perturbed, long-turned, long-first, long-row, long-exchanged}
+use Rattle.workspace.proofs.Areas.{long-candidate}
 use Rattle.driver.specs.declared.Phase.{Phase}
 use Rattle.driver.specs.declared.Iteration.{Iteration}
 use Rattle.driver.specs.declared.Staging.{Staging}
@@ -91,9 +93,15 @@ module _ (h : Held) where
   unfolding first-stage
   intact-first step mu~ v i = still i (long-first (its-family (h .kept)) (h .kept .n) step mu~ v (i .long)) refl refl refl
 
-  pub intact-row : (f : RowForm) (step : Float) (c : Coefficients) (v : Vectors) (d : List Float) → Intact v → length d ≡ h .kept .n → Intact (with-row-in f (h .kept .n) step c v d)
+  pub intact-row : (f : RowForm) (step : Float) (c : Coefficients) (v : Vectors) (d : List Float) → Intact v → length d ≡ h .kept .n
+      → Intact (with-row-in f (h .kept .n) step c v d)
   unfolding with-row-in
-  intact-row f step c v d i hd = record { long = long-row (its-family (h .kept)) (h .kept .n) f step c v d (i .long) hd; state-is = i .state-is; first-is = i .first-is; older-is = i .older-is }
+  intact-row f step c v d i hd = record {
+    long = long-row (its-family (h .kept)) (h .kept .n) f step c v d (i .long) hd;
+    state-is = i .state-is;
+    first-is = i .first-is;
+    older-is = i .older-is;
+  }
 
   pub intact-exchanged : (v : Vectors) → Intact v → Intact (exchanged v)
   unfolding exchanged
@@ -122,7 +130,8 @@ module _ (h : Held) (a : Arguments) where
     pub asked : (v : Vectors) (c : Counters) (e : ℕ) (why : Purpose) (t : Float) (b : Vector) (x : Held) (K : Asking (List Float) → Asking Finished-attempt)
         → Intact h v → Counted h e c → awaiting (at φ i g) ≡ true → K (stopped 9 v) ≡ stopped 9 v
         → closes why ≡ finishes φ → (closes why ≡ true → (d : List Float) (s : ℕ → List Float) (j : ℕ) → length (evaluated (K (done d)) s j) ≡ 0)
-        → ((d : List Float) → length d ≡ h .kept .n → all-finite d ≡ true → Follows h a (suc e) (pending-at v c) (K (done d)) (settled c (replied φ (at φ i g) v d)))
+        → ((d : List Float) → length d ≡ h .kept .n → all-finite d ≡ true
+        → Follows h a (suc e) (pending-at v c) (K (done d)) (settled c (replied φ (at φ i g) v d)))
         → Follows h a e x (ask why t (v b) (λ d. K (cond (all-finite d) (done d) (stopped 9 v)))) (going-on c (step-to (Evaluate t (number b)) (at φ i g) v))
     unfolding Follows called-for going-on spoiled counted in-phase evaluated
     asked v c e why t b x K iv hc ha hK mark none on = (
@@ -149,7 +158,8 @@ module _ (h : Held) (a : Arguments) where
         over c d s j false = ap (λ (m : Asking Finished-attempt). length (evaluated m s j)) hK
 
         go : (d : List Float) → length d ≡ h .kept .n → (t : Bool) → all-finite d ≡ t
-            → Follows h a (suc e) (pending-at v c) (K (cond t (done d) (stopped 9 v))) (cond t (settled c (replied φ (at φ i g) v d)) (spoiled (pending-at v c)))
+            → Follows h a (suc e) (pending-at v c) (K (cond t (done d) (stopped 9 v)))
+            (cond t (settled c (replied φ (at φ i g) v d)) (spoiled (pending-at v c)))
         go d hd true fin = on d hd fin
         go d hd false fin = subst (λ (m : Asking Finished-attempt). Follows h a (suc e) (pending-at v c) m (spoiled (pending-at v c))) (sym hK)
             (record {

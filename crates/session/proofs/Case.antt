@@ -1,4 +1,5 @@
--- Document 01's case, by computation, as a session: RKL1, n = 1, state 1, step 1, every reply 0. A start and its reply, an attempt and four replies, an accept; among them calls that are not taken.
+-- Document 01's case, by computation, as a session: RKL1, n = 1, state 1, step 1, every reply 0. A start and its reply, an attempt and four replies, an accept;
+-- among them calls that are not taken.
 use mathlib.Core.Path.{_≡_, refl, ap, ap₂, _∙_}
 use mathlib.Core.Bool.{true}
 use mathlib.Core.List.{List, [], _∷_, _++_, map}
@@ -9,35 +10,51 @@ use lib.Ieee.{Float, binary64, toBits, add, sub, mul, div, neg, le, lt, eq, ofIn
 use Rattle.ieee.specs.Double.{double, nearest, square, min-positive, root-epsilon, nought, one}
 use Rattle.ieee.specs.Sqrt.{root-below, root, halves, root-units, sqrt}
 use Rattle.ieee.specs.Whole.{abs, max, floor, ceil}
-use Rattle.family.specs.Family.{known, family-of, keeps-older, smallest-count, largest-count, odd-only, permitted, before-limits, odd-step, limited, stage-count, by-rule, facts-of}
-use Rattle.coefficients.specs.Rows.{omega-zero, omega-one-of, b-first, first-mu-tilde, first-polynomials, recurrence-of, with-theta, legendre-one, coefficients-of, next-polynomials, next-of}
+use Rattle.family.specs.Family.{known, family-of, keeps-older, smallest-count, largest-count, odd-only, permitted, before-limits, odd-step, limited}
+use Rattle.family.specs.Family.{stage-count, by-rule, facts-of}
+use Rattle.coefficients.specs.Rows.{omega-zero, omega-one-of, b-first, first-mu-tilde, first-polynomials, recurrence-of, with-theta, legendre-one}
+use Rattle.coefficients.specs.Rows.{coefficients-of, next-polynomials, next-of}
 use Rattle.workspace.specs.declared.Arguments.{Arguments}
 use Rattle.workspace.specs.Vectors.{join, vector-count, each, sum-of-squares, root-of-squares, vector-norm, all-finite}
-use Rattle.workspace.specs.Kernel.{with-direction, perturbation-of, perturbed-by, perturbed, turned, radius-of, ended, scaled, first-stage, orthogonal-entry, entry-in, with-row-in, exchanged, with-candidate, candidate-in, error-in, with-last, divisor-in, scaled-error, scaled-error-norm, error-norm}
+use Rattle.workspace.specs.Kernel.{with-direction, perturbation-of, perturbed-by, perturbed, turned, radius-of, ended, scaled, first-stage, orthogonal-entry}
+use Rattle.workspace.specs.Kernel.{entry-in, with-row-in, exchanged, with-candidate, candidate-in, error-in, with-last, divisor-in, scaled-error}
+use Rattle.workspace.specs.Kernel.{scaled-error-norm, error-norm}
 use Rattle.driver.specs.declared.Counters.{Counters}
-use Rattle.driver.specs.Calls.{Held, stage-need, Call, Start, Attempt, Reply, Accept, Abandon, sized, as-long, good-times, good-tolerance, good-tolerances, room}
-use Rattle.session.specs.Attempt.{closes, _>>=_, evaluate, stages-for, iterate, spectral-radius, stage-row, stage-loop, run-recurrence, finished-attempt, close, attempt-step}
-use Rattle.session.specs.Session.{Shown, evaluates, finished-with, ready-at, stops, nothing, Seen, seen-of, vectors-of, initialize, tries, accept-step, at-rest, after-attempt, waiting, finished-by, counts-on, doing-now, replied-with, session-after, doing-shown, session-seen, rests, has-tried, waits, waits-with-room, takes, session, fresh}
+use Rattle.driver.specs.Calls.{Held, stage-need, Call, Start, Attempt, Reply, Accept, Abandon, sized, as-long, good-times, good-tolerance, good-tolerances}
+use Rattle.driver.specs.Calls.{room}
+use Rattle.session.specs.Attempt.{closes, _>>=_, evaluate, stages-for, iterate, spectral-radius, stage-row, stage-loop, run-recurrence, finished-attempt}
+use Rattle.session.specs.Attempt.{close, attempt-step}
+use Rattle.session.specs.Session.{Shown, evaluates, finished-with, ready-at, stops, nothing, Seen, seen-of, vectors-of, initialize, tries, accept-step}
+use Rattle.session.specs.Session.{at-rest, after-attempt, waiting, finished-by, counts-on, doing-now, replied-with, session-after, doing-shown}
+use Rattle.session.specs.Session.{session-seen, rests, has-tried, waits, waits-with-room, takes, session, fresh}
 use Rattle.session.proofs.Sequences.{every-sequence}
 
 -- opens, where it is named on an `unfolding` line, what a double's operation, an attempt of RKL1 and a session are made of
 unfoldable doubles : Unit {0}
-unfolding toBits add sub mul div neg le lt eq ofInt round toUnsigned sum units odd size span climb isNan trailingZeros root-below root halves root-units sqrt abs max floor ceil double nearest square min-positive root-epsilon
+unfolding toBits add sub mul div neg le lt eq ofInt round toUnsigned sum units odd size span climb isNan trailingZeros root-below root halves root-units sqrt
+    abs max floor ceil double nearest square min-positive root-epsilon
 doubles = tt
 
 unfoldable attempts : Unit {0}
-unfolding smallest-count largest-count odd-only before-limits odd-step limited stage-count omega-zero omega-one-of b-first first-mu-tilde first-polynomials recurrence-of with-theta legendre-one coefficients-of next-polynomials next-of each sum-of-squares root-of-squares vector-norm all-finite with-direction perturbation-of perturbed-by perturbed turned radius-of ended scaled first-stage orthogonal-entry entry-in with-row-in exchanged with-candidate candidate-in error-in with-last divisor-in scaled-error scaled-error-norm error-norm stage-need _>>=_ evaluate stages-for iterate spectral-radius stage-row stage-loop run-recurrence finished-attempt close attempt-step closes by-rule facts-of
+unfolding smallest-count largest-count odd-only before-limits odd-step limited stage-count omega-zero omega-one-of b-first first-mu-tilde first-polynomials
+    recurrence-of with-theta legendre-one coefficients-of next-polynomials next-of each sum-of-squares root-of-squares vector-norm all-finite with-direction
+    perturbation-of perturbed-by perturbed turned radius-of ended scaled first-stage orthogonal-entry entry-in with-row-in exchanged with-candidate candidate-in
+    error-in with-last divisor-in scaled-error scaled-error-norm error-norm stage-need _>>=_ evaluate stages-for iterate spectral-radius stage-row stage-loop
+    run-recurrence finished-attempt close attempt-step closes by-rule facts-of
 attempts = tt
 
 unfoldable sessions : Unit {0}
-unfolding known family-of permitted keeps-older vector-count sized as-long good-times good-tolerance good-tolerances room vectors-of initialize tries accept-step at-rest after-attempt waiting finished-by counts-on doing-now replied-with session-after doing-shown session-seen rests has-tried waits waits-with-room takes session fresh facts-of
+unfolding known family-of permitted keeps-older vector-count sized as-long good-times good-tolerance good-tolerances room vectors-of initialize tries
+    accept-step at-rest after-attempt waiting finished-by counts-on doing-now replied-with session-after doing-shown session-seen rests has-tried waits
+    waits-with-room takes session fresh facts-of
 sessions = tt
 
 pub arguments : Arguments
 arguments = record { time = nought; step = one; «absolute_tolerance» = nearest 1 1000000; «relative_tolerance» = nearest 1 1000000; adaptive = true }
 
 pub calls : List Call
-calls = Start 2 1 (one ∷ []) nought ∷ Attempt arguments ∷ Reply zeros ∷ Attempt arguments ∷ Reply zeros ∷ Reply zeros ∷ Accept ∷ Reply zeros ∷ Reply zeros ∷ Reply zeros ∷ Accept ∷ Accept ∷ Abandon ∷ []
+calls = Start 2 1 (one ∷ []) nought ∷ Attempt arguments ∷ Reply zeros ∷ Attempt arguments ∷ Reply zeros ∷ Reply zeros ∷ Accept ∷ Reply zeros ∷ Reply zeros
+    ∷ Reply zeros ∷ Accept ∷ Accept ∷ Abandon ∷ []
   where
     zeros : List Float
     zeros = nought ∷ []

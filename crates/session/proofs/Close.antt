@@ -1,4 +1,5 @@
--- Demand 3 of the stages that are run, families 2 to 5: the row of every stage that awaits a reply is close to the papers' fractions, and so are all rows of a finished attempt, whose s has the multiplier of `Stable`. From the tests of a pending stage, and from the permitted s of a finished attempt.
+-- Demand 3 of the stages that are run, families 2 to 5: the row of every stage that awaits a reply is close to the papers' fractions, and so are all rows of a
+-- finished attempt, whose s has the multiplier of `Stable`. From the tests of a pending stage, and from the permitted s of a finished attempt.
 use mathlib.Core.Path.{_≡_, sym, subst}
 use mathlib.Core.Bool.{true, _&&_}
 use Prim.Native.Nat.{ℕ, _≤_}
@@ -42,7 +43,8 @@ stage-close r e p g is =
 
 -- ---- a finished attempt
 
-module _ (h : Held) (a : Arguments) (o : Finished-attempt) (replies : ℕ) (x : Called) (f : Finishes h a o replies x) (g : Orthogonal) (is : family-of (h .kept .family) ≡ made-of g) where
+module _ (h : Held) (a : Arguments) (o : Finished-attempt) (replies : ℕ) (x : Called) (f : Finishes h a o replies x) (g : Orthogonal)
+    (is : family-of (h .kept .family) ≡ made-of g) where
   may-run : T (permitted (made-of g) (o .stages))
   may-run = subst (λ (f : Family). T (permitted f (o .stages))) is (yes (f .stages-permitted))
 

@@ -1,5 +1,6 @@
 -- The theorems over sequences: in any calls from a start that is taken, an answer "finished" is that of an attempt that was taken, by the s + k-th reply
--- since, and the record holds its s, k and r (`concluded`); and a stage's record carries what the recurrence comes to (`carries`). By an invariant over the calls, one after another (Latest, Trails), and the laws of family and coefficients.
+-- since, and the record holds its s, k and r (`concluded`); and a stage's record carries what the recurrence comes to (`carries`). By an invariant over the
+-- calls, one after another (Latest, Trails), and the laws of family and coefficients.
 use mathlib.Core.Path.{_≡_, refl, sym, ap, _∙_, subst}
 use mathlib.Core.Bool.{true, false}
 use mathlib.Core.List.{List, [], _∷_, _++_, append-assoc, append-nil}

@@ -66,7 +66,8 @@ candidate-high : (r : Record) (v w : Vectors) → Stand v w → Refuses-high r v
 unfolding ask-candidate
 candidate-high r v w same = go (all-finite (w candidate))
   where
-    go : (t : Bool) → Refuses-high r v (cond t (step-to (Evaluate (r .arguments .time ⊕ r .arguments .step) (number candidate)) (in-phase P.Candidate r) w) (step-to (Refused 10) (in-phase P.Empty r) w))
+    go : (t : Bool) → Refuses-high r v (cond t (step-to (Evaluate (r .arguments .time ⊕ r .arguments .step) (number candidate)) (in-phase P.Candidate r) w)
+        (step-to (Refused 10) (in-phase P.Empty r) w))
     go true = on r v _ refl
     go false = λ i e. record { beyond = subst (λ (i : ℕ). i ∈ after-nine) (same-number 10 i e) here; record-is = refl; stand = same }
 
@@ -92,7 +93,8 @@ replied-high P.Empty r v d = on r v _ refl
 replied-high P.First r v d = on r v _ refl
 replied-high P.Ready r v d = on r v _ refl
 replied-high P.Pass r v d = let w = turned (r .n) v d in let i = r .iteration in let radius = radius-of (i .perturbation) w in
-    pass-high (ended (i .pass) (i .«previous_radius») radius || eqb (i .pass) 12) r (at-pass (r .arguments) (i .pass + 1) (i .perturbation) radius r) v w (scaled (r .arguments .step) radius) (refl, refl)
+    pass-high (ended (i .pass) (i .«previous_radius») radius || eqb (i .pass) 12) r (at-pass (r .arguments) (i .pass + 1) (i .perturbation) radius r) v w
+    (scaled (r .arguments .step) radius) (refl, refl)
 replied-high P.Stage r v d =
     let m = setting-of r in
     let s = r .staging .stages in
@@ -145,10 +147,14 @@ reply-leaves h d = let ts = reply-tests (h .kept) (h .counters) (h .area) d in g
     v : Vectors
     v = unpack (h .kept .n) (h .area)
 
-    count : (i : ℕ) (y : Answer) → y ≡ Refused i → counted y (h .counters) ≡ record { evaluations = h .counters .evaluations + 1; «finished_attempts» = h .counters .«finished_attempts» }
+    count : (i : ℕ) (y : Answer) → y ≡ Refused i → counted y (h .counters) ≡ record {
+      evaluations = h .counters .evaluations + 1;
+      «finished_attempts» = h .counters .«finished_attempts»;
+    }
     count i y e = ap (λ (y : Answer). counted y (h .counters)) e
 
-    go : whole-area (h .kept .family) (h .kept .n) (h .area) && as-long (h .kept .n) d ≡ true → (t : Bool) → Leaves h (cond t (settled (h .counters) (replied (h .kept .phase) (h .kept) v d)) (spoiled h))
+    go : whole-area (h .kept .family) (h .kept .n) (h .area) && as-long (h .kept .n) d ≡ true → (t : Bool)
+        → Leaves h (cond t (settled (h .counters) (replied (h .kept .phase) (h .kept) v d)) (spoiled h))
     go lengths true i e =
         let x = replied (h .kept .phase) (h .kept) v d in
         let high = replied-high (h .kept .phase) (h .kept) v d i e in

@@ -20,7 +20,8 @@ use Rattle.driver.specs.declared.Record.{Record}
 use Rattle.driver.specs.declared.Need.{Need}
 use Rattle.driver.specs.declared.Need.the-variants.{Met, Unmet}
 use Rattle.driver.specs.declared.Answer.the-variants.{Evaluate, Refused}
-use Rattle.driver.specs.Calls.{step-to, in-phase, at-pass, at-stage, with-radius, take-first, take-callback, ask-pass, ask-stage, stage-need, by-need, begin-stages, take-pass, ask-candidate, take-stage, take-candidate, replied, whole-area, setting-of, Step}
+use Rattle.driver.specs.Calls.{step-to, in-phase, at-pass, at-stage, with-radius, take-first, take-callback, ask-pass, ask-stage, stage-need, by-need}
+use Rattle.driver.specs.Calls.{begin-stages, take-pass, ask-candidate, take-stage, take-candidate, replied, whole-area, setting-of, Step}
 
 -- the family of a record
 abbrev pub its-family : Record → Family

@@ -29,11 +29,19 @@ abandon-agrees h σ does =
 
 -- an evaluation was pending, and what it leaves
 abandoned : (h : Held) → taken (abandon h .answer) ≡ true
-    → (awaiting (h .kept) ≡ true) × (abandon h ≡ record { answer = Empty; held = record { kept = in-phase P.Empty (h .kept); counters = h .counters; area = h .area } })
+    → (awaiting (h .kept) ≡ true) × (abandon h ≡ record {
+      answer = Empty;
+      held = record {
+        kept = in-phase P.Empty (h .kept);
+        counters = h .counters;
+        area = h .area;
+      };
+    })
 unfolding abandon abandon-tests
 abandoned h q = let ts = abandon-tests (h .kept) (h .area) in let none = taken-passes h ts _ refl q in (each-passes ts none .1 .1 .1 .0, goes-ahead h ts _ none)
 
-pub abandon-good : (h : Held) (σ : Session) → h .counters ≡ σ .counts → Does (σ .family) (σ .n) (σ .doing) h → taken (abandon h .answer) ≡ true → Good (session-after σ Abandon) (abandon h)
+pub abandon-good : (h : Held) (σ : Session) → h .counters ≡ σ .counts → Does (σ .family) (σ .n) (σ .doing) h → taken (abandon h .answer) ≡ true
+    → Good (session-after σ Abandon) (abandon h)
 unfolding session-after Does Shows waiting doing-now pending answer-shown doing-shown in-phase
 abandon-good h σ cs does q = subst (λ (x : Called). Good (session-after σ Abandon) x) (sym (abandoned h q .1)) (go (σ .doing) does)
   where
@@ -41,7 +49,8 @@ abandon-good h σ cs does q = subst (λ (x : Called). Good (session-after σ Aba
     awaits = abandoned h q .0
 
     go : (δ : Doing) → Does (σ .family) (σ .n) δ h
-        → Good (session-after (doing-now σ δ) Abandon) (record { answer = Empty; held = record { kept = in-phase P.Empty (h .kept); counters = h .counters; area = h .area } })
+        → Good (session-after (doing-now σ δ) Abandon)
+        (record { answer = Empty; held = record { kept = in-phase P.Empty (h .kept); counters = h .counters; area = h .area } })
     go none e = absurd (differ (sym (idle (h .kept) P.Empty e refl) ∙ awaits))
     go (within (done (ready-with v))) e = absurd (differ (sym (idle (h .kept) P.Ready (e .0 .phase-is) refl) ∙ awaits))
     go (within (done (tried o))) e = absurd (differ (sym (idle (h .kept) P.Finished (e .0 .phase-is) refl) ∙ awaits))

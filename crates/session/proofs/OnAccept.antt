@@ -43,7 +43,8 @@ accept-agrees h σ does =
     go (inside k n w l) = all-pass (K h) (N h) (W h) _ k n w
     go (outside r t w) = rw t (none-pass (K h) (N h) (W h) false refl)
 
-callback-tells : (h : Held) (y : List Float) (t : Float) → taken (accept-with-callback h y t .answer) ≡ K h && (N h && (W h && as-long (h .kept .n) y && (may-accept (h .kept .phase) && (all-finite y && finite t))))
+callback-tells : (h : Held) (y : List Float) (t : Float) → taken (accept-with-callback h y t .answer) ≡ K h
+    && (N h && (W h && as-long (h .kept .n) y && (may-accept (h .kept .phase) && (all-finite y && finite t))))
 unfolding accept-with-callback callback-tests called-back going-on taken
 callback-tells h y t = taken-exactly h (callback-tests (h .kept) (h .area) y t) _ refl refl
 
@@ -51,11 +52,13 @@ pub callback-agrees : (h : Held) (σ : Session) → Does (σ .family) (σ .n) (�
     → taken (accept-with-callback h y t .answer) ≡ as-long (σ .n) y && (has-tried (σ .doing) && (all-finite y && finite t))
 callback-agrees h σ does y t =
     callback-tells h y t
-    ∙ ap (λ (b : Bool). K h && (N h && (W h && as-long (h .kept .n) y && (b && (all-finite y && finite t))))) (standing h (σ .family) (σ .n) (σ .doing) does .accept-is·tried)
+    ∙ ap (λ (b : Bool). K h && (N h && (W h && as-long (h .kept .n) y && (b && (all-finite y && finite t)))))
+    (standing h (σ .family) (σ .n) (σ .doing) does .accept-is·tried)
     ∙ ap (λ (b : Bool). K h && (N h && b)) (and-assoc (W h) (as-long (h .kept .n) y) (has-tried (σ .doing) && (all-finite y && finite t)))
     ∙ go (place h (σ .family) (σ .n) (σ .doing) does)
   where
-    go : Place h (σ .n) (σ .doing) → K h && (N h && (W h && (as-long (h .kept .n) y && (has-tried (σ .doing) && (all-finite y && finite t))))) ≡ as-long (σ .n) y && (has-tried (σ .doing) && (all-finite y && finite t))
+    go : Place h (σ .n) (σ .doing) → K h && (N h && (W h && (as-long (h .kept .n) y && (has-tried (σ .doing) && (all-finite y && finite t)))))
+        ≡ as-long (σ .n) y && (has-tried (σ .doing) && (all-finite y && finite t))
     go (inside k n w l) = all-pass (K h) (N h) (W h) _ k n w ∙ ap (λ (b : Bool). b && (has-tried (σ .doing) && (all-finite y && finite t))) (l y)
     go (outside r u w) = rw u (none-pass (K h) (N h) (W h) _ (and-none (as-long (h .kept .n) y) false refl) ∙ sym (and-none (as-long (σ .n) y) false refl))
 
@@ -89,7 +92,8 @@ module _ (h : Held) (q : taken (accept h .answer) ≡ true) where
 
   pub accept-good : (σ : Session) → h .counters ≡ σ .counts → Does (σ .family) (σ .n) (σ .doing) h → Good (session-after σ Accept) (accept h)
   unfolding session-after has-history Does Shows at-rest after-attempt doing-now accept-step answer-shown doing-shown going-on accepted in-phase w
-  accept-good σ cs does = subst (λ (x : Called). Good (session-after σ Accept) x) (sym accept-is) (go (σ .doing) (rested h (σ .family) (σ .n) (σ .doing) does (passed .phase-allows)))
+  accept-good σ cs does = subst (λ (x : Called). Good (session-after σ Accept) x) (sym accept-is)
+      (go (σ .doing) (rested h (σ .family) (σ .n) (σ .doing) does (passed .phase-allows)))
     where
       kept : (b : Vector) → unpack (h .kept .n) (pack w) b ≡ w b
       kept b = ap (λ (u : Vectors). u b) (unpack-pack (its-family (h .kept)) (h .kept .n) w long-w)
@@ -100,7 +104,14 @@ module _ (h : Held) (q : taken (accept h .answer) ≡ true) where
         shown-is = ap₂ ready-at (kept state ∙ same candidate refl) (kept first-derivative ∙ same last-derivative refl);
         counts-are = cs;
         does = (
-          record { family-is = at .family-is; n-is = at .n-is; phase-is = refl; family-known = at .family-known; n-sized = at .n-sized; area-whole = whole-pack (h .kept .family) (h .kept .n) w long-w },
+          record {
+            family-is = at .family-is;
+            n-is = at .n-is;
+            phase-is = refl;
+            family-known = at .family-known;
+            n-sized = at .n-sized;
+            area-whole = whole-pack (h .kept .family) (h .kept .n) w long-w;
+          },
           record {
             state-same = kept state ∙ same candidate refl;
             first-same = kept first-derivative ∙ same last-derivative refl;
@@ -153,9 +164,12 @@ module _ (h : Held) (y : List Float) (t : Float) (q : taken (accept-with-callbac
       let long = eqb-true (length y) (h .kept .n) (and-right (W h) (as-long (h .kept .n) y) (passed-both .lengths-good)) in
       long-with (its-family (h .kept)) (h .kept .n) (unpack (h .kept .n) (h .area)) state y (long-area (h .kept .family) (h .kept .n) (h .area) whole) long
 
-  pub callback-good : (σ : Session) → h .counters ≡ σ .counts → Does (σ .family) (σ .n) (σ .doing) h → Good (session-after σ (Accept-with-callback y t)) (accept-with-callback h y t)
-  unfolding session-after has-history Does at-rest after-attempt doing-now callback-step answer-shown doing-shown going-on called-back in-phase first-at at-time pending in-range awaiting finishes evaluate _>>=_ replied take-callback u
-  callback-good σ cs does = subst (λ (x : Called). Good (session-after σ (Accept-with-callback y t)) x) (sym callback-is) (go (σ .doing) (rested h (σ .family) (σ .n) (σ .doing) does (passed-both .phase-allows)))
+  pub callback-good : (σ : Session) → h .counters ≡ σ .counts → Does (σ .family) (σ .n) (σ .doing) h
+      → Good (session-after σ (Accept-with-callback y t)) (accept-with-callback h y t)
+  unfolding session-after has-history Does at-rest after-attempt doing-now callback-step answer-shown doing-shown going-on called-back in-phase first-at at-time
+      pending in-range awaiting finishes evaluate _>>=_ replied take-callback u
+  callback-good σ cs does = subst (λ (x : Called). Good (session-after σ (Accept-with-callback y t)) x) (sym callback-is)
+      (go (σ .doing) (rested h (σ .family) (σ .n) (σ .doing) does (passed-both .phase-allows)))
     where
       n : ℕ
       n = h .kept .n
@@ -168,13 +182,17 @@ module _ (h : Held) (y : List Float) (t : Float) (q : taken (accept-with-callbac
 
       go : (δ : Doing) → Finished-at h (σ .family) (σ .n) δ → Good (session-after (doing-now σ δ) (Accept-with-callback y t)) x
       go δ (finished-at o at same) =
-          subst (λ (f : ℕ). Good (record { family = f; n = σ .n; doing = within (callback-step (σ .n) y t (o .vectors)); counts = σ .counts }) x) (at .family-is)
-          (subst (λ (n : ℕ). Good (record { family = h .kept .family; n = n; doing = within (callback-step n y t (o .vectors)); counts = σ .counts }) x) (at .n-is)
+          subst (λ (f : ℕ). Good (record { family = f; n = σ .n; doing = within (callback-step (σ .n) y t (o .vectors)); counts = σ .counts }) x)
+          (at .family-is)
+          (subst (λ (n : ℕ). Good (record { family = h .kept .family; n = n; doing = within (callback-step n y t (o .vectors)); counts = σ .counts }) x)
+          (at .n-is)
           (record {
             shown-is = ap (λ (w : Vectors). evaluates t (w state)) (unpack-pack (its-family (h .kept)) n u long-u);
             counts-are = cs;
-            does = once (first-at P.Callback (h .kept .family) n t (h .kept)) (h .counters) u (passed-both .family-known) (passed-both .n-sized) long-u (o .vectors with state ≔ y) t y
-                (λ d. o .vectors with state ≔ y with first-derivative ≔ d with eigenvector ≔ replicate n nought) (λ d. u with first-derivative ≔ d with eigenvector ≔ replicate n nought)
+            does = once (first-at P.Callback (h .kept .family) n t (h .kept)) (h .counters) u (passed-both .family-known) (passed-both .n-sized) long-u
+                (o .vectors with state ≔ y) t y
+                (λ d. o .vectors with state ≔ y with first-derivative ≔ d with eigenvector ≔ replicate n nought)
+                (λ d. u with first-derivative ≔ d with eigenvector ≔ replicate n nought)
                 refl refl
                 (λ d hd. long-with F n (u with first-derivative ≔ d) eigenvector (replicate n nought)
                 (long-with F n u first-derivative d long-u hd) (length-replicate n nought))

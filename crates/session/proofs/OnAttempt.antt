@@ -10,7 +10,8 @@ use Rattle.workspace.specs.Kernel.{with-direction, perturbation-of}
 use Rattle.workspace.proofs.Areas.{long-direction, long-perturbed}
 use Rattle.driver.specs.declared.Phase.{Phase}
 use Rattle.driver.specs.declared.Phase.the-variants as P
-use Rattle.driver.specs.Calls.{Held, Called, at-pass, ask-pass, may-attempt, good-times, good-tolerances, attempted, going-on, attempt-tests, attempt, setting-of}
+use Rattle.driver.specs.Calls.{Held, Called, at-pass, ask-pass, may-attempt, good-times, good-tolerances, attempted, going-on, attempt-tests, attempt}
+use Rattle.driver.specs.Calls.{setting-of}
 use Rattle.driver.specs.Calls.{Attempt, taken}
 use Rattle.driver.proofs.Ladder.{each-passes}
 use Rattle.session.specs.Attempt.{done, stopped, ask, Finished-attempt, attempt-step}
@@ -26,17 +27,20 @@ use Rattle.session.proofs.Shows.{At, Shows, Does, Good, goes}
 use Rattle.session.proofs.Guards.{taken-exactly, taken-passes}
 use Rattle.session.proofs.Standing.{all-pass, none-pass, waits-alone, K, N, W, standing, Place, inside, outside, place}
 
-attempt-tells : (h : Held) (a : Arguments) → taken (attempt h a .answer) ≡ K h && (N h && (W h && (may-attempt (h .kept .phase) && (good-times a && good-tolerances a))))
+attempt-tells : (h : Held) (a : Arguments) → taken (attempt h a .answer) ≡ K h
+    && (N h && (W h && (may-attempt (h .kept .phase) && (good-times a && good-tolerances a))))
 unfolding attempt attempt-tests going-on attempted ask-pass taken
 attempt-tells h a = taken-exactly h (attempt-tests (h .kept) (h .area) a) _ refl refl
 
-pub attempt-agrees : (h : Held) (σ : Session) (a : Arguments) → Does (σ .family) (σ .n) (σ .doing) h → taken (attempt h a .answer) ≡ rests (σ .doing) && (good-times a && good-tolerances a)
+pub attempt-agrees : (h : Held) (σ : Session) (a : Arguments) → Does (σ .family) (σ .n) (σ .doing) h → taken (attempt h a .answer) ≡ rests (σ .doing)
+    && (good-times a && good-tolerances a)
 attempt-agrees h σ a does =
     attempt-tells h a
     ∙ ap (λ (b : Bool). K h && (N h && (W h && (b && (good-times a && good-tolerances a))))) (standing h (σ .family) (σ .n) (σ .doing) does .attempt-is·rests)
     ∙ go (place h (σ .family) (σ .n) (σ .doing) does)
   where
-    go : Place h (σ .n) (σ .doing) → K h && (N h && (W h && (rests (σ .doing) && (good-times a && good-tolerances a)))) ≡ rests (σ .doing) && (good-times a && good-tolerances a)
+    go : Place h (σ .n) (σ .doing) → K h && (N h && (W h && (rests (σ .doing) && (good-times a && good-tolerances a)))) ≡ rests (σ .doing)
+        && (good-times a && good-tolerances a)
     go (inside k n w l) = all-pass (K h) (N h) (W h) _ k n w
     go (outside r t w) = rw r (none-pass (K h) (N h) (W h) false refl)
 
@@ -72,7 +76,8 @@ module _ (h : Held) (σ : Session) (cs : h .counters ≡ σ .counts) (a : Argume
       let follows = attempt-follows h a p in
       let g = goes h a p (has-history ρ) (kept-history ρ) (in-one-piece h a) (attempt-step F (h .kept .n) a v) 0 h (attempt h a) follows alike in
       subst (λ (f : ℕ). Good (record { family = f; n = σ .n; doing = within (tries f (σ .n) a v); counts = σ .counts }) (attempt h a)) (at .family-is)
-      (subst (λ (n : ℕ). Good (record { family = h .kept .family; n = n; doing = within (tries (h .kept .family) n a v); counts = σ .counts }) (attempt h a)) (at .n-is)
+      (subst (λ (n : ℕ). Good (record { family = h .kept .family; n = n; doing = within (tries (h .kept .family) n a v); counts = σ .counts })
+      (attempt h a)) (at .n-is)
       (record { shown-is = g .shown-is; counts-are = ap (λ (x : Called). x .held .counters) (attempt-is h a p) ∙ cs; does = g .shows }))
 
   pub attempt-good : Does (σ .family) (σ .n) (σ .doing) h → taken (attempt h a .answer) ≡ true → Good (session-after σ (Attempt a)) (attempt h a)

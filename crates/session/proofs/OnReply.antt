@@ -19,7 +19,8 @@ use Rattle.driver.proofs.Ladder.{each-passes}
 use Rattle.session.specs.Attempt.{done, stopped, ask}
 use Rattle.session.specs.Refusals.{_∈_, later}
 use Rattle.session.specs.Claim.{room-in}
-use Rattle.session.specs.Session.{ready-with, tried, Doing, none, within, Session, waiting, counts-on, doing-now, replied-with, session-after, waits, waits-with-room}
+use Rattle.session.specs.Session.{ready-with, tried, Doing, none, within, Session, waiting, counts-on, doing-now, replied-with, session-after, waits}
+use Rattle.session.specs.Session.{waits-with-room}
 use Rattle.ieee.proofs.Logic.{and-left, and-right}
 use Rattle.session.proofs.Truth.{differ, and-none}
 use Rattle.session.proofs.Numbers.{not-standing}
@@ -38,7 +39,8 @@ high-taken Ready high = refl
 high-taken (Refused i) high = ap not (not-standing (high i refl))
 high-taken Empty high = refl
 
-reply-tells : (h : Held) (d : List Float) → taken (reply h d .answer) ≡ K h && (N h && (W h && as-long (h .kept .n) d && (awaiting (h .kept) && has-room (h .kept .phase) (h .counters))))
+reply-tells : (h : Held) (d : List Float) → taken (reply h d .answer) ≡ K h
+    && (N h && (W h && as-long (h .kept .n) d && (awaiting (h .kept) && has-room (h .kept .phase) (h .counters))))
 unfolding reply reply-tests taken settled going-on spoiled
 reply-tells h d = taken-exactly h (reply-tests (h .kept) (h .counters) (h .area) d) _ refl (go (all-finite d))
   where
@@ -57,7 +59,8 @@ reply-agrees h σ cs does d =
     waits-is : awaiting (h .kept) ≡ waits (σ .doing)
     waits-is = standing h (σ .family) (σ .n) (σ .doing) does .awaiting-is·waits
 
-    go : Place h (σ .n) (σ .doing) → K h && (N h && (W h && (as-long (h .kept .n) d && (awaiting (h .kept) && has-room (h .kept .phase) (h .counters))))) ≡ as-long (σ .n) d && waits-with-room (σ .doing) (σ .counts)
+    go : Place h (σ .n) (σ .doing) → K h && (N h && (W h && (as-long (h .kept .n) d && (awaiting (h .kept) && has-room (h .kept .phase) (h .counters)))))
+        ≡ as-long (σ .n) d && waits-with-room (σ .doing) (σ .counts)
     go (inside k n w l) =
         all-pass (K h) (N h) (W h) _ k n w
         ∙ ap (λ (b : Bool). b && (awaiting (h .kept) && has-room (h .kept .phase) (h .counters))) (l d)

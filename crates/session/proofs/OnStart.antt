@@ -23,7 +23,8 @@ use Rattle.session.proofs.Lengths.{long-area, pack-length}
 use Rattle.session.proofs.Shows.{Does, Good, once}
 use Rattle.session.proofs.Guards.{taken-exactly, taken-passes}
 
-pub start-tells : (h : Held) (f n : ℕ) (y : List Float) (t : Float) → taken (start h f n y t .answer) ≡ known f && (sized n && (whole-area f n (h .area) && as-long n y && (all-finite y && finite t)))
+pub start-tells : (h : Held) (f n : ℕ) (y : List Float) (t : Float) → taken (start h f n y t .answer) ≡ known f
+    && (sized n && (whole-area f n (h .area) && as-long n y && (all-finite y && finite t)))
 unfolding start start-tests taken
 start-tells h f n y t = taken-exactly h (start-tests f n (h .area) y t) _ refl refl
 
@@ -55,16 +56,24 @@ module _ (h : Held) (f n : ℕ) (y : List Float) (t : Float) (q : taken (start h
       (long-with (family-of f) n (unpack n (h .area)) state y (long-area f n (h .area) whole) long) (length-replicate n nought)
 
   pub start-good : (σ : Session) → h .counters ≡ σ .counts → Good (session-after σ (Start f n y t)) (start h f n y t)
-  unfolding start start-tests guarded decide first-failing session-after initialize has-history Does first-at at-time pending in-range awaiting finishes answer-shown doing-shown evaluate _>>=_ replied take-first in-phase v
+  unfolding start start-tests guarded decide first-failing session-after initialize has-history Does first-at at-time pending in-range awaiting finishes
+      answer-shown doing-shown evaluate _>>=_ replied take-first in-phase v
   start-good σ cs = rw (passed .family-known, passed .n-sized, passed .lengths-good, passed .state-finite, passed .time-finite) (record {
     shown-is = ap (λ (w : Vectors). evaluates t (w state)) (unpack-pack (family-of f) n v long-v);
     counts-are = cs;
     does = once (first-at P.First f n t (h .kept)) (h .counters) v (passed .family-known) (passed .n-sized) long-v
-        ((λ b. replicate n nought) with state ≔ y) t y (λ d. (λ b. replicate n nought) with state ≔ y with first-derivative ≔ d) (λ d. v with first-derivative ≔ d)
+        ((λ b. replicate n nought) with state ≔ y) t y (λ d. (λ b. replicate n nought) with state ≔ y with first-derivative ≔ d)
+        (λ d. v with first-derivative ≔ d)
         refl refl (λ d hd. long-with (family-of f) n v first-derivative d long-v hd) (λ d. refl)
         (λ d. record { state-same = refl; first-same = refl; eigenvector-same = refl; older-same = λ e. absurd (differ e) });
   })
 
   pub start-area : length (start h f n y t .held .area) ≡ length (h .area)
   unfolding start start-tests guarded decide first-failing v
-  start-area = rw (passed .family-known, passed .n-sized, passed .lengths-good, passed .state-finite, passed .time-finite) (pack-length f n v (h .area) long-v whole)
+  start-area = rw (
+    passed .family-known,
+    passed .n-sized,
+    passed .lengths-good,
+    passed .state-finite,
+    passed .time-finite,
+  ) (pack-length f n v (h .area) long-v whole)

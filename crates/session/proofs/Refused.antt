@@ -80,7 +80,8 @@ unfolding begin-stages ask-pass first-failing
 pass-verdict true r r′ v v′ radius = need-verdict (stage-need (setting-of r) radius) r v radius
 pass-verdict false r r′ v v′ radius = refl
 
-stage-verdict : (t : Bool) (r r′ : Record) (v v′ : Vectors) → verdict-of (cond t (ask-stage r v) (ask-candidate r′ v′) .answer) ≡ first-failing (cond t [] (10 ∶ all-finite (v′ candidate) ∷ []))
+stage-verdict : (t : Bool) (r r′ : Record) (v v′ : Vectors) → verdict-of (cond t (ask-stage r v) (ask-candidate r′ v′) .answer)
+    ≡ first-failing (cond t [] (10 ∶ all-finite (v′ candidate) ∷ []))
 unfolding ask-stage first-failing
 stage-verdict true r r′ v v′ = refl
 stage-verdict false r r′ v v′ = candidate-verdict (all-finite (v′ candidate)) r′ v′ refl
@@ -91,7 +92,8 @@ replied-verdict P.Empty r v d = refl
 replied-verdict P.First r v d = refl
 replied-verdict P.Ready r v d = refl
 replied-verdict P.Pass r v d = let w = turned (r .n) v d in let i = r .iteration in let radius = radius-of (i .perturbation) w in
-    pass-verdict (ended (i .pass) (i .«previous_radius») radius || eqb (i .pass) 12) r (at-pass (r .arguments) (i .pass + 1) (i .perturbation) radius r) w w (scaled (r .arguments .step) radius)
+    pass-verdict (ended (i .pass) (i .«previous_radius») radius || eqb (i .pass) 12) r (at-pass (r .arguments) (i .pass + 1) (i .perturbation) radius r) w w
+    (scaled (r .arguments .step) radius)
 replied-verdict P.Stage r v d =
     let m = setting-of r in
     let s = r .staging .stages in
@@ -151,7 +153,10 @@ same-number i j e = ap (λ (y : Answer). cause-of (verdict-of y)) e
 -- each number on its own cause and on no other
 pub refused : (h : Held) (c : Call) (k : ℕ) → Same-answer (made h c .answer) (Refused k) ↔ first-failing (tests-of h c) ≡ refused-with k
 unfolding cause-of
-refused h c k = (λ s. sym (decided h c .verdict-is) ∙ ap verdict-of (says-refused (made h c .answer) k s), λ e. go (made h c .answer) (decided h c .verdict-is ∙ e))
+refused h c k = (
+  λ s. sym (decided h c .verdict-is) ∙ ap verdict-of (says-refused (made h c .answer) k s),
+  λ e. go (made h c .answer) (decided h c .verdict-is ∙ e),
+)
   where
     go : (y : Answer) → verdict-of y ≡ refused-with k → Same-answer y (Refused k)
     go (Evaluate s b) e = absurd (subst is-refused (sym e) tt)
@@ -213,7 +218,8 @@ within : (h : Held) (c : Call) → Within (tests-of h c) (numbers-of c)
 unfolding tests-of numbers-of
 within h (Start f n y t) = more _ _ _ (more _ _ _ (more _ _ _ (more _ _ _ (more _ _ _ (last [])))))
 within h (Attempt a) = more _ _ _ (more _ _ _ (more _ _ _ (more _ _ _ (more _ _ _ (more _ _ _ (last []))))))
-within h (Reply d) = more _ _ _ (more _ _ _ (more _ _ _ (more _ _ _ (more _ _ _ (more _ _ _ (replied-within (h .kept .phase) (h .kept) (unpack (h .kept .n) (h .area)) d))))))
+within h (Reply d) =
+    more _ _ _ (more _ _ _ (more _ _ _ (more _ _ _ (more _ _ _ (more _ _ _ (replied-within (h .kept .phase) (h .kept) (unpack (h .kept .n) (h .area)) d))))))
 within h Accept = more _ _ _ (more _ _ _ (more _ _ _ (more _ _ _ (last []))))
 within h (Accept-with-callback y t) = more _ _ _ (more _ _ _ (more _ _ _ (more _ _ _ (more _ _ _ (more _ _ _ (last []))))))
 within h Abandon = more _ _ _ (more _ _ _ (more _ _ _ (more _ _ _ (last []))))

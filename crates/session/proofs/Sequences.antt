@@ -24,7 +24,8 @@ use Rattle.session.proofs.OnAbandon.{abandon-agrees, abandon-good, aban
 
 -- ---- any call
 
-good : (h : Held) (σ : Session) (c : Call) → h .counters ≡ σ .counts → Does (σ .family) (σ .n) (σ .doing) h → taken (made h c .answer) ≡ true → Good (session-after σ c) (made h c)
+good : (h : Held) (σ : Session) (c : Call) → h .counters ≡ σ .counts → Does (σ .family) (σ .n) (σ .doing) h → taken (made h c .answer) ≡ true
+    → Good (session-after σ c) (made h c)
 unfolding made
 good h σ (Start f n y t) cs does q = start-good h f n y t q σ cs
 good h σ (Attempt a) cs does q = attempt-good h σ cs a does q
@@ -34,7 +35,8 @@ good h σ (Accept-with-callback y t) cs does q = callback-good h y t q σ cs doe
 good h σ Abandon cs does q = abandon-good h σ cs does q
 
 -- a session takes the calls that are taken
-agrees : (h : Held) (σ : Session) → h .counters ≡ σ .counts → Does (σ .family) (σ .n) (σ .doing) h → (c : Call) → taken (made h c .answer) ≡ takes (length (h .area)) σ c
+agrees : (h : Held) (σ : Session) → h .counters ≡ σ .counts → Does (σ .family) (σ .n) (σ .doing) h → (c : Call)
+    → taken (made h c .answer) ≡ takes (length (h .area)) σ c
 unfolding made takes whole-area
 agrees h σ cs does (Start f n y t) = start-tells h f n y t
 agrees h σ cs does (Attempt a) = attempt-agrees h σ a does
@@ -68,18 +70,23 @@ left h c e = go (made h c .answer) refl e
 
 -- ---- a list of calls
 
-follow : (cs : List Call) (size : ℕ) (h : Held) (σ : Session) → length (h .area) ≡ size → h .counters ≡ σ .counts → Does (σ .family) (σ .n) (σ .doing) h → seen-of h cs ≡ session size σ cs
+follow : (cs : List Call) (size : ℕ) (h : Held) (σ : Session) → length (h .area) ≡ size → h .counters ≡ σ .counts → Does (σ .family) (σ .n) (σ .doing) h
+    → seen-of h cs ≡ session size σ cs
 unfolding seen-of session
 follow [] size h σ l e does = refl
 follow (c ∷ cs) size h σ l e does =
-    subst (λ (b : Bool). cond (taken (made h c .answer)) (call-seen (made h c) ∷ seen-of (made h c .held) cs) (seen-of (made h c .held) cs) ≡ cond b (session-seen (session-after σ c) ∷ session size (session-after σ c) cs) (session size σ cs))
+    subst (λ (b : Bool). cond (taken (made h c .answer)) (call-seen (made h c) ∷ seen-of (made h c .held) cs) (seen-of (made h c .held) cs)
+    ≡ cond b (session-seen (session-after σ c) ∷ session size (session-after σ c) cs) (session size σ cs))
     (agrees h σ e does c ∙ ap (λ (k : ℕ). takes k σ c) l) (go (follow cs size) (taken (made h c .answer)) refl)
   where
-    go : ((h : Held) (σ : Session) → length (h .area) ≡ size → h .counters ≡ σ .counts → Does (σ .family) (σ .n) (σ .doing) h → seen-of h cs ≡ session size σ cs)
+    go : ((h : Held) (σ : Session) → length (h .area) ≡ size → h .counters ≡ σ .counts → Does (σ .family) (σ .n) (σ .doing) h
+        → seen-of h cs ≡ session size σ cs)
         → (t : Bool) → taken (made h c .answer) ≡ t
-        → cond t (call-seen (made h c) ∷ seen-of (made h c .held) cs) (seen-of (made h c .held) cs) ≡ cond t (session-seen (session-after σ c) ∷ session size (session-after σ c) cs) (session size σ cs)
+        → cond t (call-seen (made h c) ∷ seen-of (made h c .held) cs) (seen-of (made h c .held) cs)
+        ≡ cond t (session-seen (session-after σ c) ∷ session size (session-after σ c) cs) (session size σ cs)
     go on true q = let g = good h σ c e does q in
-        ap₂ (λ (s : Seen) (ss : List Seen). s ∷ ss) (seen-alike (session-after σ c) (made h c) g) (on (made h c .held) (session-after σ c) (area-stays h c q ∙ l) (g .counts-are) (g .does))
+        ap₂ (λ (s : Seen) (ss : List Seen). s ∷ ss) (seen-alike (session-after σ c) (made h c) g)
+        (on (made h c .held) (session-after σ c) (area-stays h c q ∙ l) (g .counts-are) (g .does))
     go on false q = subst (λ (k : Held). seen-of k cs ≡ session size σ cs) (sym (left h c q)) (on h σ l e does)
 
 -- From any record, area and counters: a start that the session takes, and then any calls at all, show what the session shows. A stop with 10 shows the vectors

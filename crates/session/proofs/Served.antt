@@ -1,4 +1,5 @@
--- The s of a finished attempt of families 2 to 5 has the properties of the stage counts for its own r, wherever that is finite; an infinite r gives the largest count. And r is never below 0.
+-- The s of a finished attempt of families 2 to 5 has the properties of the stage counts for its own r, wherever that is finite; an infinite r gives the largest
+-- count. And r is never below 0.
 use mathlib.Core.Path.{_≡_, sym, ap, _∙_, subst}
 use Prim.Native.Nat.{ℕ}
 use lib.Dec.{T}
@@ -40,7 +41,8 @@ module _ (h : Held) (a : Arguments) (o : Finished-attempt) (replies : ℕ) (x : 
 
   pub served : (g : Orthogonal) → family-of (h .kept .family) ≡ made-of g → T (finite (x .held .kept .iteration .«scaled_radius»))
       → Serves g (x .held .kept .iteration .«scaled_radius») (x .held .kept .staging .stages)
-  served g e fin = subst (λ (s : ℕ). Serves g r s) (sym (count-is ∙ ap (λ (f : Family). stage-count f r) e)) (serves g r fin (rw (f .radius-is) (f .not-negative)))
+  served g e fin = subst (λ (s : ℕ). Serves g r s) (sym (count-is ∙ ap (λ (f : Family). stage-count f r) e))
+      (serves g r fin (rw (f .radius-is) (f .not-negative)))
 
   pub served-infinite : x .held .kept .iteration .«scaled_radius» ≡ inf false → x .held .kept .staging .stages ≡ largest-count (family-of (h .kept .family))
   served-infinite e = count-is ∙ ap (stage-count (family-of (h .kept .family))) e ∙ infinite-count (family-of (h .kept .family))

@@ -1,4 +1,5 @@
--- What it is for what the caller holds to stand where a session stands: it shows the same, counts the same, and goes on as the session does on every reply. And two computations of a session that the calls follow: one evaluation of the kept state, and an attempt.
+-- What it is for what the caller holds to stand where a session stands: it shows the same, counts the same, and goes on as the session does on every reply. And
+-- two computations of a session that the calls follow: one evaluation of the kept state, and an attempt.
 use mathlib.Core.Path.{_≡_, refl, sym, ap, ap₂, _∙_, subst}
 use mathlib.Core.Bool.{Bool, true, false, cond}
 use mathlib.Core.List.{List, [], _∷_}
@@ -78,7 +79,8 @@ module _ (r : Record) (c : Counters) (v : Vectors) (hk : known (r .family) ≡ t
     ha,
     hc,
     λ d hd hr.
-        subst (λ (x : Called). (answer-shown (x .answer) (x .held) ≡ doing-shown (within (m d (all-finite d)))) × (x .held .counters ≡ counts-on (within (m d (all-finite d))) c) × Shows (r .family) (r .n) (m d (all-finite d)) (x .held))
+        subst (λ (x : Called). (answer-shown (x .answer) (x .held) ≡ doing-shown (within (m d (all-finite d))))
+        × (x .held .counters ≡ counts-on (within (m d (all-finite d))) c) × Shows (r .family) (r .n) (m d (all-finite d)) (x .held))
         (sym (reply-is r c v hk hs hv ha hr d hd)) (go d hd (all-finite d)),
   )
     where
@@ -90,12 +92,20 @@ module _ (r : Record) (c : Counters) (v : Vectors) (hk : known (r .family) ≡ t
 
       go : (d : List Float) → length d ≡ r .n → (b : Bool) →
           let x = cond b (settled c (replied (r .phase) r v d)) (spoiled was) in
-          (answer-shown (x .answer) (x .held) ≡ doing-shown (within (m d b))) × (x .held .counters ≡ counts-on (within (m d b)) c) × Shows (r .family) (r .n) (m d b) (x .held)
+          (answer-shown (x .answer) (x .held) ≡ doing-shown (within (m d b))) × (x .held .counters ≡ counts-on (within (m d b)) c)
+          × Shows (r .family) (r .n) (m d b) (x .held)
       go d hd true = let back = unpack-pack (its-family r) (r .n) (to d) (long d hd) in rw (will d) (
         ap₂ ready-at (ap (λ (w : Vectors). w state) back ∙ same d .state-same) (ap (λ (w : Vectors). w first-derivative) back ∙ same d .first-same),
         same-counters _ _ refl (omega arith),
         (
-          record { family-is = refl; n-is = refl; phase-is = refl; family-known = hk; n-sized = hs; area-whole = whole-pack (r .family) (r .n) (to d) (long d hd) },
+          record {
+            family-is = refl;
+            n-is = refl;
+            phase-is = refl;
+            family-known = hk;
+            n-sized = hs;
+            area-whole = whole-pack (r .family) (r .n) (to d) (long d hd);
+          },
           subst (λ (w : Vectors). Same-start (has-history (ready-with (from d))) w (from d)) (sym back) (same d),
         ),
       )
@@ -137,7 +147,8 @@ module _ (h : Held) (a : Arguments) (ok : Allowed h a) where
     shown-is = rw (f .answer-is, f .stages-are, f .passes-are, f .radius-is, f .n-is, f .area-is)
         (rw (back, s .norm-same, s .stages-same, s .passes-same, s .radius-same)
         (ap (finished-with (o′ .norm) (o′ .stages) (o′ .passes) (o′ .scaled-radius)) (s .vectors-same candidate refl)));
-    counts-are = λ c w. same-counters (x .held .counters) _ (let q = f .evaluations-are in let q′ = w .evaluations-were in omega arith) (let q = f .attempts-are in let q′ = w .attempts-were in omega arith);
+    counts-are = λ c w. same-counters (x .held .counters) _ (let q = f .evaluations-are in let q′ = w .evaluations-were in
+        omega arith) (let q = f .attempts-are in let q′ = w .attempts-were in omega arith);
     shows = (
       record {
         family-is = f .family-is;
@@ -159,7 +170,8 @@ module _ (h : Held) (a : Arguments) (ok : Allowed h a) where
   goes η left (stopped i v) (stopped j w) e b x f s = record {
     shown-is = rw (f .answer-is, f .n-is, f .area-is, unpack-pack (its-family (h .kept)) (h .kept .n) v (f .vectors-long))
         (ap₂ stops (s .number-same) (s .vectors-same));
-    counts-are = λ c w. same-counters (x .held .counters) _ (let q = f .evaluations-are in let q′ = w .evaluations-were in omega arith) (let q = f .attempts-are in let q′ = w .attempts-were in omega arith);
+    counts-are = λ c w. same-counters (x .held .counters) _ (let q = f .evaluations-are in let q′ = w .evaluations-were in
+        omega arith) (let q = f .attempts-are in let q′ = w .attempts-were in omega arith);
     shows = ap (λ (r : Record). r .phase) (f .record-is);
   }
   goes η left (stopped i v) (ask why′ u q l) e b x f s = absurd s
@@ -167,7 +179,8 @@ module _ (h : Held) (a : Arguments) (ok : Allowed h a) where
   goes η left (ask why t p k) (stopped j w) e b x f s = absurd s
   goes η left (ask why t p k) (ask why′ u q l) e b x f s = record {
     shown-is = tell t p (x .answer) (x .held) (f .1) ∙ ap₂ evaluates (s .1) (s .2);
-    counts-are = λ c w. same-counters (x .held .counters) _ (let q = f .0 .evaluations-are in let q′ = w .evaluations-were in omega arith) (let q = f .0 .attempts-are in let q′ = w .attempts-were in omega arith);
+    counts-are = λ c w. same-counters (x .held .counters) _ (let q = f .0 .evaluations-are in let q′ = w .evaluations-were in
+        omega arith) (let q = f .0 .attempts-are in let q′ = w .attempts-were in omega arith);
     shows = (
       record {
         family-is = f .0 .family-is;
@@ -180,7 +193,13 @@ module _ (h : Held) (a : Arguments) (ok : Allowed h a) where
       f .0 .pending,
       sym (f .3 .purpose-is) ∙ ap closes (s .0),
       λ d hd hr.
-          let g = goes η left (k d) (l d) (suc e) (x .held) (reply (x .held) d) (f .2 d hd hr) (s .3 d) in
-          (g .shown-is, g .counts-are (x .held .counters) (record { evaluations-were = (let q = f .0 .evaluations-are in omega arith); attempts-were = f .0 .attempts-are }), g .shows),
+          let g = goes η left (k d) (l d) (suc e) (x .held) (reply (x .held) d) (f .2 d hd hr) (s .3 d) in (
+            g .shown-is,
+            g .counts-are (x .held .counters) (record {
+              evaluations-were = (let q = f .0 .evaluations-are in omega arith);
+              attempts-were = f .0 .attempts-are;
+            }),
+            g .shows,
+          ),
     );
   }

@@ -62,7 +62,8 @@ over x y (unsigned infinite) (unsigned infinite) = no-number
 over x y (unsigned infinite) (unsigned (number n d)) = unsigned infinite
 over x y (unsigned (number m e)) no-number = no-number
 over x y (unsigned (number m e)) (unsigned infinite) = unsigned (number 0 (pos 0))
-over x y (unsigned (number m e)) (unsigned (number n d)) = either (eqb n 0) (either (eqb m 0) no-number (unsigned infinite)) (rounded (m * up e * down d) (n * up d * down e))
+over x y (unsigned (number m e)) (unsigned (number n d)) =
+    either (eqb n 0) (either (eqb m 0) no-number (unsigned infinite)) (rounded (m * up e * down d) (n * up d * down e))
 
 squared : (x : Float) → Plus (square x)
 unfolding mul square

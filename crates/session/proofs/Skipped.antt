@@ -19,6 +19,7 @@ skipped h (c ∷ cs) = go (skipped (made h c .held) cs) (taken (made h c .answer
     rest = taken-of h′ cs
 
     go : (seen-of h′ rest ≡ seen-of h′ cs) × (held-after h′ rest ≡ held-after h′ cs) → (t : Bool) → taken (made h c .answer) ≡ t
-        → (seen-of h (cond t (c ∷ rest) rest) ≡ cond t (call-seen (made h c) ∷ seen-of h′ cs) (seen-of h′ cs)) × (held-after h (cond t (c ∷ rest) rest) ≡ held-after h′ cs)
+        → (seen-of h (cond t (c ∷ rest) rest) ≡ cond t (call-seen (made h c) ∷ seen-of h′ cs) (seen-of h′ cs))
+        × (held-after h (cond t (c ∷ rest) rest) ≡ held-after h′ cs)
     go on true q = (rw q (ap (λ (ss : List Seen). call-seen (made h c) ∷ ss) (on .0)), on .1)
     go on false q = let same = left h c q in (ap (λ (k : Held). seen-of k rest) (sym same) ∙ on .0, ap (λ (k : Held). held-after k rest) (sym same) ∙ on .1)

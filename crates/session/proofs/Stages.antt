@@ -25,8 +25,10 @@ use Rattle.driver.specs.declared.Staging.{Staging}
 use Rattle.driver.specs.declared.Need.the-variants.{Met}
 use Rattle.driver.specs.declared.Counters.{Counters}
 use Rattle.driver.specs.declared.Answer.the-variants.{Evaluate, Refused}
-use Rattle.driver.specs.Calls.{Held, step-to, in-phase, setting-of, permits, at-stage, ask-stage, stage-need, ask-candidate, take-stage, take-candidate, replied, sized, pending, in-range, awaiting, finishes, going-on, counted, settled}
-use Rattle.session.specs.Attempt.{for-candidate, closes, Asking, done, stopped, _>>=_, evaluate, Finished-attempt, stage-row, stage-loop, finished-attempt, close, evaluated}
+use Rattle.driver.specs.Calls.{Held, step-to, in-phase, setting-of, permits, at-stage, ask-stage, stage-need, ask-candidate, take-stage, take-candidate}
+use Rattle.driver.specs.Calls.{replied, sized, pending, in-range, awaiting, finishes, going-on, counted, settled}
+use Rattle.session.specs.Attempt.{for-candidate, closes, Asking, done, stopped, _>>=_, evaluate, Finished-attempt, stage-row, stage-loop}
+use Rattle.session.specs.Attempt.{finished-attempt, close, evaluated}
 use Rattle.session.specs.Refusals.{here, later}
 use Rattle.session.proofs.Truth.{differ, both}
 use Rattle.session.proofs.Follows.{Follows}
@@ -49,34 +51,41 @@ module _ (h : Held) (a : Arguments) (hk : known (h .kept .family) ≡ true) (hs 
 
     -- ---- after stage s
 
-    candidate-follows : (j : ℕ) (rc : Recurrence) (v w : Vectors) (c : Counters) (e : ℕ) → w candidate ≡ w next-stage → Intact h w → Counted h e c → e + 2 ≡ k + s
-        → Follows h a (suc e) (pending-at h a hk hs P.Stage I (staging-at s j rc) v c) (close F (h .kept .n) a s k r w) (settled c (ask-candidate (at h a P.Stage I (staging-at s j rc)) w))
-    unfolding Follows close finished-attempt evaluate _>>=_ ask-candidate settled going-on counted in-phase pending in-range awaiting finishes replied take-candidate with-last closes evaluated
+    candidate-follows : (j : ℕ) (rc : Recurrence) (v w : Vectors) (c : Counters) (e : ℕ) → w candidate ≡ w next-stage → Intact h w → Counted h e c
+        → e + 2 ≡ k + s
+        → Follows h a (suc e) (pending-at h a hk hs P.Stage I (staging-at s j rc) v c) (close F (h .kept .n) a s k r w)
+        (settled c (ask-candidate (at h a P.Stage I (staging-at s j rc)) w))
+    unfolding Follows close finished-attempt evaluate _>>=_ ask-candidate settled going-on counted in-phase pending in-range awaiting finishes replied
+        take-candidate with-last closes evaluated
     candidate-follows j rc v w c e copied hw hc e≡ = go (all-finite (w candidate)) refl
       where
         last-stands : (d : List Float) (b : Vector) → eqb 1 (number b) ≡ false → eqb 2 (number b) ≡ false → with-last F (h .kept .n) a w d b ≡ w b
         last-stands d b p q = pick (a .adaptive)
           where
-            pick : (t : Bool) → cond t (w with last-derivative ≔ d with derivative ≔ each (h .kept .n) (w with last-derivative ≔ d) (error F (a .step))) (w with last-derivative ≔ d) b ≡ w b
+            pick : (t : Bool) → cond t (w with last-derivative ≔ d with derivative ≔ each (h .kept .n) (w with last-derivative ≔ d) (error F (a .step)))
+                (w with last-derivative ≔ d) b ≡ w b
             pick true = rw (p, q)
             pick false = rw p
 
         last-taken : (d : List Float) → with-last F (h .kept .n) a w d last-derivative ≡ d
         last-taken d = pick (a .adaptive)
           where
-            pick : (t : Bool) → cond t (w with last-derivative ≔ d with derivative ≔ each (h .kept .n) (w with last-derivative ≔ d) (error F (a .step))) (w with last-derivative ≔ d) last-derivative ≡ d
+            pick : (t : Bool) → cond t (w with last-derivative ≔ d with derivative ≔ each (h .kept .n) (w with last-derivative ≔ d) (error F (a .step)))
+                (w with last-derivative ≔ d) last-derivative ≡ d
             pick true = refl
             pick false = refl
 
         go : (t : Bool) → all-finite (w candidate) ≡ t → Follows h a (suc e) (pending-at h a hk hs P.Stage I (staging-at s j rc) v c)
             (cond t
-            (evaluate for-candidate w (a .time ⊕ a .step) (w candidate) >>= λ d. done (finished-attempt F (h .kept .n) a s k r (with-last F (h .kept .n) a w d)))
+            (evaluate for-candidate w (a .time ⊕ a .step) (w candidate)
+            >>= λ d. done (finished-attempt F (h .kept .n) a s k r (with-last F (h .kept .n) a w d)))
             (stopped 10 w))
             (settled c (cond t
             (step-to (Evaluate (a .time ⊕ a .step) (number candidate)) (at h a P.Candidate I (staging-at s j rc)) w)
             (step-to (Refused 10) (at h a P.Empty I (staging-at s j rc)) w)))
         go true finite =
-            asked h a hk hs P.Candidate I (staging-at s j rc) w (one-more h c) (suc e) _ (a .time ⊕ a .step) candidate (pending-at h a hk hs P.Stage I (staging-at s j rc) v c)
+            asked h a hk hs P.Candidate I (staging-at s j rc) w (one-more h c) (suc e) _ (a .time ⊕ a .step) candidate
+            (pending-at h a hk hs P.Stage I (staging-at s j rc) v c)
             (λ m. m >>= λ d. done (finished-attempt F (h .kept .n) a s k r (with-last F (h .kept .n) a w d)))
             hw (counted-on h hc) hs′ refl refl (λ c d s j. refl)
             (λ d hd fin. record {
@@ -141,8 +150,10 @@ module _ (h : Held) (a : Arguments) (hk : known (h .kept .family) ≡ true) (hs 
     abbrev row-then : (Vectors → Asking Vectors) → ℕ → Recurrence → Vectors → Asking (List Float) → Asking Finished-attempt
     row-then on j rc v x = (x >>= (λ d. done (taken j rc v d))) >>= on >>= close F (h .kept .n) a s k r
 
-    pub stages-follow : (m j : ℕ) (rc : Recurrence) (v : Vectors) (c : Counters) (e : ℕ) (x : Held) → j + m ≡ s → 2 ≤ j → e + 2 ≡ k + j → Intact h v → Counted h e c
-        → Follows h a e x (stage-loop F (h .kept .n) a s m j rc v >>= close F (h .kept .n) a s k r) (going-on c (ask-stage (at h a P.Stage (iteration-at k π ρ r) (staging-at s j rc)) v))
+    pub stages-follow : (m j : ℕ) (rc : Recurrence) (v : Vectors) (c : Counters) (e : ℕ) (x : Held) → j + m ≡ s → 2 ≤ j → e + 2 ≡ k + j → Intact h v
+        → Counted h e c
+        → Follows h a e x (stage-loop F (h .kept .n) a s m j rc v >>= close F (h .kept .n) a s k r)
+        (going-on c (ask-stage (at h a P.Stage (iteration-at k π ρ r) (staging-at s j rc)) v))
     unfolding stage-loop stage-row evaluate _>>=_ ask-stage pending in-range awaiting finishes replied take-stage at-stage settled counted closes
     stages-follow zero j rc v c e x j≡ 2≤j e≡ hv hc =
         asked h a hk hs P.Stage I (staging-at s j rc) v c e _ (a .time ⊕ a .step ⊗ rc .«theta_previous») previous-one x
@@ -150,7 +161,8 @@ module _ (h : Held) (a : Arguments) (hk : known (h .kept .family) ≡ true) (hs 
         hv hc (both hs′ (both (le-leb 2 j 2≤j) (le-leb j s (omega arith)))) refl
         refl (λ c. absurd (differ c))
         (λ d hd fin. rw (le-ltb j s (omega arith))
-        (candidate-follows j rc v (last j rc v d) c e (candidate-is F (h .kept .n) (a .step) s rc (coefficients F s j rc) (taken j rc v d)) (intact-candidate h F (a .step) s rc (coefficients F s j rc) (taken j rc v d) (whole j rc v d hv hd)) hc (omega arith)))
+        (candidate-follows j rc v (last j rc v d) c e (candidate-is F (h .kept .n) (a .step) s rc (coefficients F s j rc) (taken j rc v d))
+        (intact-candidate h F (a .step) s rc (coefficients F s j rc) (taken j rc v d) (whole j rc v d hv hd)) hc (omega arith)))
     stages-follow (suc m) j rc v c e x j≡ 2≤j e≡ hv hc =
         asked h a hk hs P.Stage I (staging-at s j rc) v c e _ (a .time ⊕ a .step ⊗ rc .«theta_previous») previous-one x
         (row-then (on-from m j rc) j rc v)

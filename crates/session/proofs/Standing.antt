@@ -65,8 +65,13 @@ module _ (h : Held) where
     pub accept-is·tried : may-accept (h .kept .phase) ≡ has-tried δ
     pub awaiting-is·waits : awaiting (h .kept) ≡ waits δ
 
-  by-phase : (φ : Phase) (δ : Doing) → h .kept .phase ≡ φ → may-attempt φ ≡ rests δ → may-accept φ ≡ has-tried δ → pending φ ≡ false → waits δ ≡ false → Standing δ
-  by-phase φ δ e p q x y = record { attempt-is·rests = ap may-attempt e ∙ p; accept-is·tried = ap may-accept e ∙ q; awaiting-is·waits = idle (h .kept) φ e x ∙ sym y }
+  by-phase : (φ : Phase) (δ : Doing) → h .kept .phase ≡ φ → may-attempt φ ≡ rests δ → may-accept φ ≡ has-tried δ → pending φ ≡ false
+      → waits δ ≡ false → Standing δ
+  by-phase φ δ e p q x y = record {
+    attempt-is·rests = ap may-attempt e ∙ p;
+    accept-is·tried = ap may-accept e ∙ q;
+    awaiting-is·waits = idle (h .kept) φ e x ∙ sym y;
+  }
 
   pub standing : (f n : ℕ) (δ : Doing) → Does f n δ h → Standing δ
   unfolding Does Shows may-attempt may-accept pending rests has-tried waits
@@ -74,7 +79,8 @@ module _ (h : Held) where
   standing f n (within (done (ready-with v))) e = by-phase P.Ready (within (done (ready-with v))) (e .0 .phase-is) refl refl refl refl
   standing f n (within (done (tried o))) e = by-phase P.Finished (within (done (tried o))) (e .0 .phase-is) refl refl refl refl
   standing f n (within (stopped i v)) e = by-phase P.Empty (within (stopped i v)) e refl refl refl refl
-  standing f n (within (ask why t p k)) e = let no = waits-alone (h .kept) (e .1) in record { attempt-is·rests = no .0; accept-is·tried = no .1; awaiting-is·waits = e .1 }
+  standing f n (within (ask why t p k)) e = let no = waits-alone (h .kept) (e .1) in
+      record { attempt-is·rests = no .0; accept-is·tried = no .1; awaiting-is·waits = e .1 }
 
   -- within a session the first three tests pass; else no later one does
   pub data Place (n : ℕ) (δ : Doing) : Type 0 where
@@ -92,11 +98,14 @@ module _ (h : Held) where
   place f n (within (stopped i v)) e = outside refl refl refl
   place f n (within (ask why t p k)) e = from-at f n (h .kept .phase) (within (ask why t p k)) (e .0)
 
-pub room-alike : (h : Held) (σ : Session) → h .counters ≡ σ .counts → (δ : Doing) → Does (σ .family) (σ .n) δ h → awaiting (h .kept) && has-room (h .kept .phase) (h .counters) ≡ waits-with-room δ (σ .counts)
+pub room-alike : (h : Held) (σ : Session) → h .counters ≡ σ .counts → (δ : Doing) → Does (σ .family) (σ .n) δ h
+    → awaiting (h .kept) && has-room (h .kept .phase) (h .counters) ≡ waits-with-room δ (σ .counts)
 unfolding Does Shows waits-with-room has-room waits
 room-alike h σ cs none e = ap (λ (b : Bool). b && has-room (h .kept .phase) (h .counters)) (standing h (σ .family) (σ .n) none e .awaiting-is·waits)
-room-alike h σ cs (within (done r)) e = ap (λ (b : Bool). b && has-room (h .kept .phase) (h .counters)) (standing h (σ .family) (σ .n) (within (done r)) e .awaiting-is·waits)
-room-alike h σ cs (within (stopped i v)) e = ap (λ (b : Bool). b && has-room (h .kept .phase) (h .counters)) (standing h (σ .family) (σ .n) (within (stopped i v)) e .awaiting-is·waits)
+room-alike h σ cs (within (done r)) e = ap (λ (b : Bool). b && has-room (h .kept .phase) (h .counters))
+    (standing h (σ .family) (σ .n) (within (done r)) e .awaiting-is·waits)
+room-alike h σ cs (within (stopped i v)) e = ap (λ (b : Bool). b && has-room (h .kept .phase) (h .counters))
+    (standing h (σ .family) (σ .n) (within (stopped i v)) e .awaiting-is·waits)
 room-alike h σ cs (within (ask why t p k)) e =
     ap (λ (b : Bool). b && has-room (h .kept .phase) (h .counters)) (e .1)
     ∙ ap₂ (λ (b : Bool) (c : Counters). room (c .evaluations) && (not b || room (c .«finished_attempts»))) (e .2) cs

@@ -1,4 +1,5 @@
--- The theorem: an attempt that is not turned away, and then replies of n doubles each, give answer by answer the evaluations of the attempt in one piece, and its end. And what a finished attempt took.
+-- The theorem: an attempt that is not turned away, and then replies of n doubles each, give answer by answer the evaluations of the attempt in one piece, and
+-- its end. And what a finished attempt took.
 use Prim.Native.Nat.{ℕ, zero, suc, _+_, _≤_, _<_}
 use mathlib.Core.Path.{_≡_, refl, subst}
 use mathlib.Core.List.{List, [], _∷_}
@@ -38,7 +39,8 @@ calls Ready g e q = absurd (subst some-empty q tt)
 calls (Refused i) g e q = absurd (subst some-empty q tt)
 calls Empty g e q = absurd (subst some-empty q tt)
 
-each-calls : (h : Held) (a : Arguments) (d : ℕ → List Float) (long : (i : ℕ) → length (d i) ≡ h .kept .n) (total : ℕ) (fits : _) (m : Asking Finished-attempt) (replies i : ℕ) (b : Held) (x : Called)
+each-calls : (h : Held) (a : Arguments) (d : ℕ → List Float) (long : (i : ℕ) → length (d i) ≡ h .kept .n) (total : ℕ) (fits : _) (m : Asking Finished-attempt)
+    (replies i : ℕ) (b : Held) (x : Called)
     → Ahead h a d long total fits m replies i → Follows h a replies b m x → (j : ℕ) → j < length (evaluated m d i) → case-number (after j d i x .answer) ≡ 1
 unfolding Follows evaluated after
 each-calls h a d long total fits (done o) replies i b x l f j lt = absurd (not-suc-le-zero lt)
@@ -48,9 +50,11 @@ each-calls h a d long total fits (ask why t p k) replies i b x l f (suc j) lt =
     each-calls h a d long total fits (k (d i)) (suc replies) (suc i) (x .held) (reply (x .held) (d i)) (ahead-on h a d long total fits why t p k replies i l)
     (f .2 (d i) (long i) (ahead-room h a d long total fits why t p k replies i b x l f)) j (omega arith)
 
-module _ (h : Held) (a : Arguments) (d : ℕ → List Float) (o : Finished-attempt) (p : Allowed h a) (long : (i : ℕ) → length (d i) ≡ h .kept .n) (fits : Fits h a d) (e : end (in-one-piece h a) d 0 ≡ reached o) where
+module _ (h : Held) (a : Arguments) (d : ℕ → List Float) (o : Finished-attempt) (p : Allowed h a) (long : (i : ℕ)
+    → length (d i) ≡ h .kept .n) (fits : Fits h a d) (e : end (in-one-piece h a) d 0 ≡ reached o) where
   finishes-then : Finishes h a o (replies-to h a d) (after (replies-to h a d) d 0 (attempt h a))
-  finishes-then = subst (λ (z : End Finished-attempt). Ends h a z (replies-to h a d) (last-found (replies-to h a d) d 0 h (attempt h a)) (after (replies-to h a d) d 0 (attempt h a))) e (run h a d p long fits .same-end)
+  finishes-then = subst (λ (z : End Finished-attempt). Ends h a z (replies-to h a d) (last-found (replies-to h a d) d 0 h (attempt h a))
+      (after (replies-to h a d) d 0 (attempt h a))) e (run h a d p long fits .same-end)
 
   pub finished : Finishes h a o (o .stages + o .passes) (after (o .stages + o .passes) d 0 (attempt h a))
   finished = subst (λ (i : ℕ). Finishes h a o i (after i d 0 (attempt h a))) (finishes-then .replies-are) finishes-then
@@ -64,7 +68,10 @@ module _ (h : Held) (a : Arguments) (d : ℕ → List Float) (o : Finished-attem
         one-pass = finished .one-pass;
         twelve-passes = finished .twelve-passes;
         stages-are = stages-from h a o _ _ finished;
-        each-evaluates = λ j lt. each-calls h a d long total (fits .evaluations-fit) (in-one-piece h a) 0 0 h (attempt h a) (le, fits .attempts-fit) (attempt-follows h a p) j (omega arith);
+        each-evaluates = λ j lt. each-calls h a d long total (fits .evaluations-fit) (in-one-piece h a) 0 0 h (attempt h a) (
+          le,
+          fits .attempts-fit,
+        ) (attempt-follows h a p) j (omega arith);
         answer-is = says (finished .answer-is);
         evaluations-are = finished .evaluations-are;
         attempts-are = finished .attempts-are;

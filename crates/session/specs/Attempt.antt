@@ -12,8 +12,10 @@ use Rattle.family.specs.declared.Setting.{Setting}
 use Rattle.coefficients.specs.declared.Recurrence.{Recurrence}
 use Rattle.coefficients.specs.Rows.{recurrence, coefficients, next}
 use Rattle.workspace.specs.declared.Arguments.{Arguments}
-use Rattle.workspace.specs.Vectors.{Vectors, all-finite, first-derivative, derivative, previous-two, previous-one, next-stage, eigenvector, perturbed-state, perturbed-derivative, state, candidate}
-use Rattle.workspace.specs.Kernel.{with-direction, perturbation-of, perturbed, turned, radius-of, ended, scaled, first-stage, with-row, exchanged, with-candidate, with-last, error-norm}
+use Rattle.workspace.specs.Vectors.{Vectors, all-finite, first-derivative, derivative, previous-two, previous-one, next-stage, eigenvector, perturbed-state}
+use Rattle.workspace.specs.Vectors.{perturbed-derivative, state, candidate}
+use Rattle.workspace.specs.Kernel.{with-direction, perturbation-of, perturbed, turned, radius-of, ended, scaled, first-stage, with-row, exchanged}
+use Rattle.workspace.specs.Kernel.{with-candidate, with-last, error-norm}
 use Rattle.driver.specs.declared.Need.{Need}
 use Rattle.driver.specs.declared.Need.the-variants.{Met, Unmet}
 use Rattle.driver.specs.Calls.{stage-need}

@@ -1,4 +1,5 @@
--- What ties the calls to the attempt in one piece: the same points at the same times in the same order, and then the same end. Document 01, demand 2's domain; "the evaluations of one finished attempt are s + k, with k from 1 to 12, each one reply".
+-- What ties the calls to the attempt in one piece: the same points at the same times in the same order, and then the same end. Document 01, demand 2's domain;
+-- "the evaluations of one finished attempt are s + k, with k from 1 to 12, each one reply".
 use mathlib.Core.Path.{_≡_}
 use mathlib.Core.Bool.{Bool, true, false}
 use mathlib.Core.List.{List, [], _∷_, _++_}
@@ -8,14 +9,16 @@ use lib.Ieee.{Float, lt}
 use Rattle.ieee.specs.Double.{nought}
 use Rattle.family.specs.Family.{known, family-of, stage-count}
 use Rattle.workspace.specs.declared.Arguments.{Arguments}
-use Rattle.workspace.specs.Vectors.{Vector, Vectors, width, named, unpack, pack, all-finite, next-stage, state, candidate, older-state, first-derivative, last-derivative}
+use Rattle.workspace.specs.Vectors.{Vector, Vectors, width, named, unpack, pack, all-finite, next-stage, state, candidate, older-state, first-derivative}
+use Rattle.workspace.specs.Vectors.{last-derivative}
 use Rattle.driver.specs.declared.Phase.the-variants as P
 use Rattle.driver.specs.declared.Need.the-variants.{Met}
 use Rattle.driver.specs.declared.Answer.{Answer}
 use Rattle.driver.specs.declared.Answer.the-variants.{Evaluate, Finished, Ready, Refused, Empty}
 use Rattle.driver.specs.Answers.{case-number, Same-answer}
 use Rattle.driver.specs.Numbers.{ending-numbers}
-use Rattle.driver.specs.Calls.{Held, Called, in-phase, setting-of, permits, stage-need, sized, whole-area, awaiting, has-room, may-attempt, good-times, good-tolerances}
+use Rattle.driver.specs.Calls.{Held, Called, in-phase, setting-of, permits, stage-need, sized, whole-area, awaiting, has-room, may-attempt, good-times}
+use Rattle.driver.specs.Calls.{good-tolerances}
 use Rattle.driver.specs.Calls.{figures-of, attempt, reply, Call, Reply}
 use Rattle.session.specs.Attempt.{Asking, Finished-attempt, Evaluated, evaluated, reaches-candidate, End, reached, refused, end, attempt-step}
 use Rattle.session.specs.Refusals.{_∈_}
@@ -143,7 +146,8 @@ pub record Runs (h : Held) (a : Arguments) (d : ℕ → List Float) : Type 0 whe
   pub same-end : Ends h a (end (in-one-piece h a) d 0) (replies-to h a d)
       (last-found (replies-to h a d) d 0 h (attempt h a)) (after (replies-to h a d) d 0 (attempt h a))
 
--- What a finished attempt took, in the order's words: s + k replies with k from 1 to 12, each but the last answered by a further evaluation and the last by finished with its norm; the counters rose by s + k and by 1.
+-- What a finished attempt took, in the order's words: s + k replies with k from 1 to 12, each but the last answered by a further evaluation and the last by
+-- finished with its norm; the counters rose by s + k and by 1.
 pub record Took (h : Held) (a : Arguments) (d : ℕ → List Float) (o : Finished-attempt) (x : Called) : Type 0 where
   pub replies-are : replies-to h a d ≡ o .stages + o .passes
   pub one-pass : 1 ≤ o .passes

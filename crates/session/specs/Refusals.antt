@@ -106,8 +106,8 @@ pub data _∈_ (k : ℕ) : List ℕ → Type 0 where
   here : {ks : List ℕ} → k ∈ (k ∷ ks)
   later : {i : ℕ} {ks : List ℕ} → k ∈ ks → k ∈ (i ∷ ks)
 
--- ---- what a call that is turned away with i leaves, by the kind of i: everything; or the reply is counted, the phase is empty, the rest of the record, the last
--- derivative and the older state stand, and on 9 the whole area
+-- ---- what a call that is turned away with i leaves, by the kind of i: everything; or the reply is counted, the phase is empty, the rest of the record, the
+-- last derivative and the older state stand, and on 9 the whole area
 
 pub record Left (h : Held) (i : ℕ) (x : Held) : Type 0 where
   pub kind : (i ∈ standing-numbers) ⊎ (i ∈ ending-numbers)

@@ -1,4 +1,5 @@
--- The Rust's kernel from its `initialize` on, in direct style: `attempt_step` and `accept_step` one after the other, as the calls begin, feed and drop them. What it shows is what the calls show. Document 01, "Demand 2's domain".
+-- The Rust's kernel from its `initialize` on, in direct style: `attempt_step` and `accept_step` one after the other, as the calls begin, feed and drop them.
+-- What it shows is what the calls show. Document 01, "Demand 2's domain".
 use Prim.Native.Nat.{ℕ, zero, suc, _+_, _*_}
 use mathlib.Core.Bool.{Bool, true, false, cond, not, _&&_, _||_}
 use mathlib.Core.List.{List, [], _∷_}
@@ -9,11 +10,13 @@ use lib.Ieee.Scale.{finite}
 use Rattle.ieee.specs.Double.{nought}
 use Rattle.family.specs.Family.{known, family-of, setting}
 use Rattle.workspace.specs.declared.Arguments.{Arguments}
-use Rattle.workspace.specs.Vectors.{Vectors, _with_≔_, named, vector-count, unpack, all-finite, first-derivative, last-derivative, eigenvector, state, candidate}
+use Rattle.workspace.specs.Vectors.{Vectors, _with_≔_, named, vector-count, unpack, all-finite, first-derivative, last-derivative, eigenvector, state}
+use Rattle.workspace.specs.Vectors.{candidate}
 use Rattle.driver.specs.declared.Counters.{Counters}
 use Rattle.driver.specs.declared.Answer.{Answer}
 use Rattle.driver.specs.declared.Answer.the-variants.{Evaluate, Finished, Ready, Refused, Empty}
-use Rattle.driver.specs.Calls.{Held, Called, reply, Call, Start, Attempt, Reply, Accept, Accept-with-callback, Abandon, made, taken, sized, as-long, good-times, good-tolerances, room}
+use Rattle.driver.specs.Calls.{Held, Called, reply, Call, Start, Attempt, Reply, Accept, Accept-with-callback, Abandon, made, taken, sized, as-long, good-times}
+use Rattle.driver.specs.Calls.{good-tolerances, room}
 use Rattle.session.specs.Attempt.{for-another, closes, Asking, done, stopped, ask, _>>=_, evaluate, Finished-attempt, Evaluated, fixed-at, attempt-step}
 
 -- ---- the calls over a list of them

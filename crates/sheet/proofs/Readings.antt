@@ -8,7 +8,8 @@ use native.Mathlib.Numerals.{add-one}
 use lib.ListN.{length, take, set}
 use lib.Seq.{take-suc-set}
 use lib.Ieee.{Float}
-use Rattle.sheet.specs.Text.{line-end, double-of-bits, Lined, Readings, Bad-line, lines-from, Fills, minutes-a-day, Parsed, Day, Bad-at, to-the-end, after-head, parsed, first-line, Reads}
+use Rattle.sheet.specs.Text.{line-end, double-of-bits, Lined, Readings, Bad-line, lines-from, Fills, minutes-a-day, Parsed, Day, Bad-at, to-the-end}
+use Rattle.sheet.specs.Text.{after-head, parsed, first-line, Reads}
 use Rattle.heat_sink.specs.declared.Inverter.{Inverter}
 use Rattle.fields.specs.Fields.{word-field, after}
 use Rattle.fields.specs.declared.Field.the-variants.{Value, Bad}
@@ -55,7 +56,8 @@ line-turn text count from at i readings value next {x} h l e f inv =
     ∙ ap (λ (l : List Float). lines-from text (count - (i + 1)) next (i + 1 + 2) l) xs
 
 -- the count of the lines, as the slice has it
-pub lines-of-a-day : (text : List ℕ) (from : ℕ) {count : ℕ} {l : Lined} → count ≡ minutes-a-day → lines-from text count from 2 [] ≡ l → lines-from text minutes-a-day from 2 [] ≡ l
+pub lines-of-a-day : (text : List ℕ) (from : ℕ) {count : ℕ} {l : Lined} → count ≡ minutes-a-day → lines-from text count from 2 [] ≡ l
+    → lines-from text minutes-a-day from 2 [] ≡ l
 lines-of-a-day text from e h = ap (λ (k : ℕ). lines-from text k from 2 []) (sym e) ∙ h
 
 -- a slice that the lines fill

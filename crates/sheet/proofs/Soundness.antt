@@ -16,7 +16,8 @@ use Rattle.fields.specs.declared.Field.{Field}
 use Rattle.fields.specs.declared.Field.the-variants.{Value, Bad}
 use Rattle.sheet.specs.declared.Head.{Head}
 use Rattle.sheet.specs.declared.Head.the-variants.{Line, Malformed}
-use Rattle.sheet.specs.Text.{most-temperatures, line-end, double-of-bits, finite-constants, sound, if-sound, constants, first-line, Lined, Readings, Bad-line, lines-from, minutes-a-day, Day, Bad-at, to-the-end, after-head, parsed}
+use Rattle.sheet.specs.Text.{most-temperatures, line-end, double-of-bits, finite-constants, sound, if-sound, constants, first-line, Lined, Readings}
+use Rattle.sheet.specs.Text.{Bad-line, lines-from, minutes-a-day, Day, Bad-at, to-the-end, after-head, parsed}
 
 unfoldable Sound : Head → Type 0
 Sound (Line m at) = sound m ≡ true
@@ -48,7 +49,8 @@ if-sound-sound m at = go (sound m) refl
 constants-sound : (text : List ℕ) (family n at : ℕ) → Sound (constants text family n at)
 unfolding constants
 constants-sound text family n at =
-    after-sound _ _ (λ a at. after-sound _ _ (λ b at. after-sound _ _ (λ c at. after-sound _ _ (λ d at. after-sound _ _ (λ e at. after-sound _ _ (λ f at. if-sound-sound _ at))))))
+    after-sound _ _ (λ a at. after-sound _ _ (λ b at. after-sound _ _
+    (λ c at. after-sound _ _ (λ d at. after-sound _ _ (λ e at. after-sound _ _ (λ f at. if-sound-sound _ at))))))
 
 head-sound : (text : List ℕ) → Sound (first-line text)
 unfolding first-line
@@ -94,7 +96,8 @@ unfolding lines-from Grown after
 lines-grow text zero at from xs = omega arith
 lines-grow text (suc k) at from xs = on (word-field line-end text at) (λ bits next. lines-grow text k next (from + 1) (xs ++ (double-of-bits bits ∷ [])))
   where
-    on : (f : Field) → ((bits next : ℕ) → Grown (length (xs ++ (double-of-bits bits ∷ [])) + k) (lines-from text k next (from + 1) (xs ++ (double-of-bits bits ∷ []))))
+    on : (f : Field) → ((bits next : ℕ) → Grown (length (xs ++ (double-of-bits bits ∷ [])) + k)
+        (lines-from text k next (from + 1) (xs ++ (double-of-bits bits ∷ []))))
         → Grown (length xs + suc k) (after (Bad-line from) f (λ bits next. lines-from text k next (from + 1) (xs ++ (double-of-bits bits ∷ []))))
     on (Value bits next) h =
         let e = length-append xs (double-of-bits bits ∷ []) in

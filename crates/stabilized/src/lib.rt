@@ -19,7 +19,8 @@ pub use workspace::Arguments;
 
 // Brings the derivative that was asked for.
 pub fn reply(record: Record, counters: &mut Counters, area: &mut [f64], derivative: &[f64]) -> Next
-    ensures { λ r. ⌜ Meets (calls.reply (holding «record» (now (counters .entry)) (now (area .entry))) (now (derivative .entry))) (r .answer) (r .«record») (now (counters .exit)) (now (area .exit)) ⌝ }
+    ensures { λ r. ⌜ Meets (calls.reply (holding «record» (now (counters .entry)) (now (area .entry))) (now (derivative .entry))) (r .answer) (r .«record»)
+        (now (counters .exit)) (now (area .exit)) ⌝ }
 {
     let out = driver::reply(record, *counters, area, derivative);
     *counters = out.counters;

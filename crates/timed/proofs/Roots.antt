@@ -33,7 +33,8 @@ module _ (xs out : List Float) where
   pub roots-start : Rooted out 0
   roots-start = paste-zero out 0 (map sqrt xs)
 
-  pub roots-turn : (i : ℕ) {later : List Float} {r : Float} → i < length out → i < length xs → Rooted later i → r ≡ sqrt (getD xs i nan) → Rooted (set later i r) (i + 1)
+  pub roots-turn : (i : ℕ) {later : List Float} {r : Float} → i < length out → i < length xs → Rooted later i → r ≡ sqrt (getD xs i nan)
+      → Rooted (set later i r) (i + 1)
   unfolding sqrt
   roots-turn i {later} {r} h l sofar e = pasted (map sqrt xs) out i r h (omega (arith, length-map xs sqrt)) sofar (e ∙ sym (List·getD-map sqrt xs i nan))
 

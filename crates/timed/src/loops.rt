@@ -21,7 +21,8 @@ pub extern "C" fn timed_row(
     step: f64,
     derivative: &[f64],
 )
-    ensures { λ _. ⌜ Steps (Takes n (now (area .entry)) (now (derivative .entry))) n (now (area .entry)) (now (area .exit)) (λ v. exchanged (with-row (setting family) n step (weights mu nu «mu_tilde» «gamma_tilde») v (now (derivative .entry)))) ⌝ }
+    ensures { λ _. ⌜ Steps (Takes n (now (area .entry)) (now (derivative .entry))) n (now (area .entry)) (now (area .exit))
+        (λ v. exchanged (with-row (setting family) n step (weights mu nu «mu_tilde» «gamma_tilde») v (now (derivative .entry)))) ⌝ }
 {
     let c = Coefficients {
         mu: mu,
@@ -89,7 +90,8 @@ pub extern "C" fn timed_point_from(area: &mut [f64], n: usize, perturbation: f64
 // A pass: the direction, its norm, and the next point from that norm.
 #[no_mangle]
 pub extern "C" fn timed_pass(area: &mut [f64], n: usize, perturbation: f64, derivative: &[f64])
-    ensures { λ _. ⌜ Steps (Takes n (now (area .entry)) (now (derivative .entry))) n (now (area .entry)) (now (area .exit)) (λ v. perturbed n perturbation (turned n v (now (derivative .entry)))) ⌝ }
+    ensures { λ _. ⌜ Steps (Takes n (now (area .entry)) (now (derivative .entry))) n (now (area .entry)) (now (area .exit))
+        (λ v. perturbed n perturbation (turned n v (now (derivative .entry)))) ⌝ }
 {
     if n <= 512 {
         if 11 * n <= area.len() {

@@ -22,7 +22,8 @@ use Rattle.workspace.specs.declared.Arguments.{Arguments}
 use Rattle.workspace.specs.Vectors.{Vector, Vectors, _with_≔_, number, named, vector-count, width, unpack, Becomes, pack, join, in-order, tabulate, each}
 use Rattle.workspace.specs.Vectors.{vector-norm, first-derivative, last-derivative, derivative, previous-two, previous-one, next-stage, eigenvector}
 use Rattle.workspace.specs.Vectors.{perturbed-state, perturbed-derivative, state, candidate, older-state}
-use Rattle.workspace.specs.Kernel.{with-direction, perturbed-by, perturbed, turned, first-stage, with-row-in, entry-in, exchanged, candidate-in, with-candidate, with-last, error}
+use Rattle.workspace.specs.Kernel.{with-direction, perturbed-by, perturbed, turned, first-stage, with-row-in, entry-in, exchanged, candidate-in}
+use Rattle.workspace.specs.Kernel.{with-candidate, with-last, error}
 
 -- every vector is as long as it is in the family's area
 abbrev pub Long : Family → ℕ → Vectors → Type 0
@@ -292,7 +293,8 @@ module _ (f : Family) (n : ℕ) where
   pub long-candidate : (m : Setting) (step : Float) (s : ℕ) (c : Recurrence) (row : Coefficients) (v : Vectors) → Long f n v
       → Long f n (with-candidate m n step s c row v)
   unfolding with-candidate candidate-in
-  long-candidate m step s c row v h = long-with v candidate (candidate-in (facts-of (kind m) .candidate) m n step s c row v) h (go (facts-of (kind m) .candidate))
+  long-candidate m step s c row v h = long-with v candidate (candidate-in (facts-of (kind m) .candidate) m n step s c row v) h
+      (go (facts-of (kind m) .candidate))
     where
       go : (form : CandidateForm) → length (candidate-in form m n step s c row v) ≡ n
       go LastStage = h next-stage

@@ -153,7 +153,8 @@ unfoldable pub Before : ℕ → Rules → Vectors → Type 0
 Before n [] w = Unit
 Before n ((k, f) ∷ rs) w = (length (w k) ≡ n) × Before n rs w
 
-pub length-with : (n : ℕ) (w : Vectors) (k : Vector) (x : List Float) → length (w k) ≡ n → length x ≡ n → (b : Vector) → length ((w with k ≔ x) b) ≡ length (w b)
+pub length-with : (n : ℕ) (w : Vectors) (k : Vector) (x : List Float) → length (w k) ≡ n → length x ≡ n → (b : Vector)
+    → length ((w with k ≔ x) b) ≡ length (w b)
 length-with n w k x h e b = go (eqb (number k) (number b)) refl
   where
     go : (t : Bool) → eqb (number k) (number b) ≡ t → length (cond t x (w b)) ≡ length (w b)

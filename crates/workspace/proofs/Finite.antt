@@ -45,7 +45,8 @@ finite-suc : (l : List Float) (i : ℕ) → i < length l → all-finite (take (s
 unfolding all-finite
 finite-suc [] i h = absurd (not-suc-le-zero h)
 finite-suc (x ∷ l) zero h = and-true (finite x)
-finite-suc (x ∷ l) (suc i) h = ap (λ (b : Bool). finite x && b) (finite-suc l i (le-of-suc-le-suc h)) ∙ sym (and-assoc (finite x) (all-finite (take i l)) (finite (getD l i nan)))
+finite-suc (x ∷ l) (suc i) h = ap (λ (b : Bool). finite x && b) (finite-suc l i (le-of-suc-le-suc h))
+    ∙ sym (and-assoc (finite x) (all-finite (take i l)) (finite (getD l i nan)))
 
 -- one turn of the loop
 pub next-flag : (l : List Float) (i : ℕ) (good : Bool) → i < length l → good ≡ all-finite (take i l)

@@ -110,7 +110,8 @@ module _ (k : Vector) (n i : ℕ) (x : Four) (l m : List Float) (put : Put (numb
   unfolding Put
   put-there j h s = fun-ext (λ b. put .2 (number b * n + j) (go b (order (number b) (number k)) s))
     where
-      go : (b : Vector) → Order (number b) (number k) → (j < i) ⊎ (i + 4 ≤ j) → (number b * n + j < number k * n + i) ⊎ (number k * n + i + 4 ≤ number b * n + j)
+      go : (b : Vector) → Order (number b) (number k) → (j < i) ⊎ (i + 4 ≤ j)
+          → (number b * n + j < number k * n + i) ⊎ (number k * n + i + 4 ≤ number b * n + j)
       go b (other d) t = beyond (number b) j h d
       go b (same e) (inl t) = inl (let f : number b * n ≡ number k * n = ap (λ (q : ℕ). q * n) e in omega arith)
       go b (same e) (inr t) = inr (let f : number b * n ≡ number k * n = ap (λ (q : ℕ). q * n) e in omega arith)
@@ -126,7 +127,8 @@ moves g y w w₁ w₂ w₃ w₄ {s} {t} {o} {x} c₁ c₂ c₃ c₄ es et eo ex 
     ∙ ap (λ (z : Float). with-at previous-one z (with-at previous-two o (with-at next-stage t (with-at derivative s w)))) ex
     ∙ ap (λ (z : Float). with-at previous-one (g (taking y w)) (with-at previous-two z (with-at next-stage t (with-at derivative s w)))) eo
     ∙ ap (λ (z : Float). with-at previous-one (g (taking y w)) (with-at previous-two (w previous-one) (with-at next-stage z (with-at derivative s w)))) et
-    ∙ ap (λ (z : Float). with-at previous-one (g (taking y w)) (with-at previous-two (w previous-one) (with-at next-stage (w previous-two) (with-at derivative z w)))) es
+    ∙ ap (λ (z : Float). with-at previous-one (g (taking y w))
+    (with-at previous-two (w previous-one) (with-at next-stage (w previous-two) (with-at derivative z w)))) es
 
 -- one column
 module _ (n i : ℕ) (g : (Vector → Float) → Float) (d l : List Float) (s t o x : Float) (long : length l ≡ 10 * n) (inside : i < n) where
@@ -142,7 +144,8 @@ module _ (n i : ℕ) (g : (Vector → Float) → Float) (d l : List Float) (s t 
   abbrev a₄ : List Float
   a₄ = set a₃ (number previous-one * n + i) x
 
-  pub moved-one : s ≡ getD d i nan → t ≡ column n l i previous-two → o ≡ column n l i previous-one → x ≡ g (taking (getD d i nan) (column n l i)) → Moved n g d i 1 l a₄
+  pub moved-one : s ≡ getD d i nan → t ≡ column n l i previous-two → o ≡ column n l i previous-one → x ≡ g (taking (getD d i nan) (column n l i))
+      → Moved n g d i 1 l a₄
   unfolding Moved
   moved-one es et eo ex = (simp length-set refl, within, outside)
     where
@@ -170,8 +173,10 @@ module _ (n i : ℕ) (g : (Vector → Float) → Float) (d l : List Float) (s t 
 
 -- four columns
 module _ (n i : ℕ) (g : (Vector → Float) → Float) (d l m₁ m₂ m₃ m₄ : List Float) (one two initial slope first next : Four) (fits : i + 4 ≤ n) where
-  pub moved-four : Holds d i slope → Holds l (number previous-one * n + i) one → Holds l (number previous-two * n + i) two → Holds l (number state * n + i) initial → Holds l (number first-derivative * n + i) first
-      → Put (number derivative * n + i) slope l m₁ → Put (number next-stage * n + i) two m₁ m₂ → Put (number previous-two * n + i) one m₂ m₃ → Put (number previous-one * n + i) next m₃ m₄
+  pub moved-four : Holds d i slope → Holds l (number previous-one * n + i) one → Holds l (number previous-two * n + i) two
+      → Holds l (number state * n + i) initial → Holds l (number first-derivative * n + i) first
+      → Put (number derivative * n + i) slope l m₁ → Put (number next-stage * n + i) two m₁ m₂ → Put (number previous-two * n + i) one m₂ m₃
+      → Put (number previous-one * n + i) next m₃ m₄
       → ((u : ℕ) → u < 4 → (v : Vector → Float) → Reads (picked one two initial slope first u) v → element next u ≡ g v) → Moved n g d i 4 l m₄
   unfolding Moved Put Holds Reads
   moved-four hs ho ht hi hf p₁ p₂ p₃ p₄ made = (p₄ .0 ∙ p₃ .0 ∙ p₂ .0 ∙ p₁ .0, within, outside)
@@ -190,7 +195,8 @@ module _ (n i : ℕ) (g : (Vector → Float) → Float) (d l m₁ m₂ m₃ m₄
           (hs u h) t o (made u h (taking y w) (o, t, held state n i initial l hi u h, hs u h, held first-derivative n i first l hf u h))
 
       within : (j : ℕ) → i ≤ j → j < i + 4 → column n m₄ j ≡ moved g (taking (getD d j nan) (column n l j))
-      within j p q = subst (λ (r : ℕ). column n m₄ r ≡ moved g (taking (getD d r nan) (column n l r))) (let e : i + (j - i) ≡ j = omega arith in e) (here (j - i) (omega arith))
+      within j p q = subst (λ (r : ℕ). column n m₄ r ≡ moved g (taking (getD d r nan) (column n l r))) (let e : i + (j - i) ≡ j = omega arith in
+          e) (here (j - i) (omega arith))
 
       outside : (j : ℕ) → j < n → (j < i) ⊎ (i + 4 ≤ j) → column n m₄ j ≡ column n l j
       outside j h e =
@@ -228,7 +234,8 @@ module _ (n : ℕ) (g : (Vector → Float) → Float) (d : List Float) where
   pub moved-start : (from : ℕ) (l : List Float) → Moved n g d from (from - from) l l
   moved-start from l = subst (λ (k : ℕ). Moved n g d from k l l) (let e : 0 ≡ from - from = omega arith in e) (moved-none from l)
 
-  pub moved-next : (from i : ℕ) (l m o : List Float) → from ≤ i → i < n → Moved n g d from (i - from) l m → Moved n g d i 1 m o → Moved n g d from (i + 1 - from) l o
+  pub moved-next : (from i : ℕ) (l m o : List Float) → from ≤ i → i < n → Moved n g d from (i - from) l m → Moved n g d i 1 m o
+      → Moved n g d from (i + 1 - from) l o
   moved-next from i l m o h p M O =
       subst (λ (k : ℕ). Moved n g d from k l o) (let e : i - from + 1 ≡ i + 1 - from = omega arith in e)
       (moved-on from (i - from) 1 l m o (omega arith) M (subst (λ (k : ℕ). Moved n g d k 1 m o) (let e : i ≡ from + (i - from) = omega arith in e) O))

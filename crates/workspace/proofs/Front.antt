@@ -20,7 +20,8 @@ pub front-start : (s d : List Float) → length d ≡ length s → Front s d d 0
 front-start s d h = record { bound = zero-le; same = h; long = refl; sofar = paste-zero d 0 s }
 
 -- one more of s, whatever the lengths
-pub pasted : (s d : List Float) (i : ℕ) {out : List Float} (x : Float) → i < length d → i < length s → out ≡ paste d 0 s i → x ≡ getD s i nan → set out i x ≡ paste d 0 s (i + 1)
+pub pasted : (s d : List Float) (i : ℕ) {out : List Float} (x : Float) → i < length d → i < length s → out ≡ paste d 0 s i → x ≡ getD s i nan
+    → set out i x ≡ paste d 0 s (i + 1)
 pasted s d i x h l sofar e =
     ap (λ (o : List Float). set o i x) sofar
     ∙ ap (λ (y : Float). set (paste d 0 s i) i y) e

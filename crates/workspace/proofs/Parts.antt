@@ -64,12 +64,14 @@ module _ (b : Vector) (n : ℕ) (a x : List Float) (long : length x ≡ n) (fits
   here : take n (drop (number b * n) back) ≡ x
   unfolding back
   here =
-      ap (take n) (drop-at (take (number b * n) a) (x ++ drop (number b * n + n - number b * n) (drop (number b * n) a)) (number b * n) (length-take-le (number b * n) a (omega arith)))
+      ap (take n) (drop-at (take (number b * n) a) (x ++ drop (number b * n + n - number b * n) (drop (number b * n) a)) (number b * n)
+      (length-take-le (number b * n) a (omega arith)))
       ∙ take-at x (drop (number b * n + n - number b * n) (drop (number b * n) a)) n long
 
   there : (q : ℕ) → (q < number b) ⊎ (number b < q) → take n (drop (q * n) back) ≡ take n (drop (q * n) a)
   unfolding back
-  there q (inl l) = same-before (q * n) n back a (number b * n) (omega (arith, mul-le-mul-right n l, suc-mul q n)) (take-put (number b * n) (number b * n + n - number b * n) a x (omega arith))
+  there q (inl l) = same-before (q * n) n back a (number b * n) (omega (arith, mul-le-mul-right n l, suc-mul q n))
+      (take-put (number b * n) (number b * n + n - number b * n) a x (omega arith))
   there q (inr l) =
       same-after (q * n) n back a (number b * n + n) (omega (arith, mul-le-mul-right n l, suc-mul (number b) n))
       (drop-put (number b * n) (number b * n + n) a x (omega arith) fits (omega arith))
@@ -78,7 +80,8 @@ module _ (b : Vector) (n : ℕ) (a x : List Float) (long : length x ≡ n) (fits
   unfolding unpack
   unpack-back = fun-ext (λ c. go c (le-or-lt (number b) (number c)))
     where
-      apart : (c : Vector) → (number c < number b) ⊎ (number b < number c) → (number b ≡ number c → ⊥) → take n (drop (number c * n) back) ≡ cond (eqb (number b) (number c)) x (take n (drop (number c * n) a))
+      apart : (c : Vector) → (number c < number b) ⊎ (number b < number c) → (number b ≡ number c → ⊥)
+          → take n (drop (number c * n) back) ≡ cond (eqb (number b) (number c)) x (take n (drop (number c * n) a))
       apart c d e = there (number c) d ∙ sym (ap (λ (t : Bool). cond t x (take n (drop (number c * n) a))) (ne-eqb (number b) (number c) e))
 
       same : (c : Vector) → number b ≡ number c → take n (drop (number c * n) back) ≡ cond (eqb (number b) (number c)) x (take n (drop (number c * n) a))
@@ -87,7 +90,8 @@ module _ (b : Vector) (n : ℕ) (a x : List Float) (long : length x ≡ n) (fits
           ∙ here
           ∙ sym (ap (λ (t : Bool). cond t x (take n (drop (number c * n) a))) (eq-eqb (number b) (number c) e))
 
-      go : (c : Vector) → (number b ≤ number c) ⊎ (number c < number b) → take n (drop (number c * n) back) ≡ cond (eqb (number b) (number c)) x (take n (drop (number c * n) a))
+      go : (c : Vector) → (number b ≤ number c) ⊎ (number c < number b)
+          → take n (drop (number c * n) back) ≡ cond (eqb (number b) (number c)) x (take n (drop (number c * n) a))
       go c (inr l) = apart c (inl l) (λ (e : number b ≡ number c). omega arith)
       go c (inl l) = ⊎-elim (λ e. same c e) (λ (m : number b < number c). apart c (inr m) (λ (e : number b ≡ number c). omega arith)) (eq-or-lt-of-le l)
 
@@ -101,7 +105,8 @@ written-part k n a {ys} {x} h l long e =
           ap (λ (y : List Float). unpack n (putMid (k * n) (k * n + n - k * n) a y)) e
           ∙ ap (λ (m : ℕ). unpack n (putMid (m * n) (m * n + n - m * n) a x)) (sym q)
           ∙ unpack-back (named k) n a x long (rw q (omega (arith, room 11 k n l)));
-      rest = beyond-part (k * n) (k * n + n) n a ys (omega arith) (omega (arith, room 11 k n l)) (omega (arith, room 11 k n l)) (ap length e ∙ long ∙ sym (width k n));
+      rest = beyond-part (k * n) (k * n + n) n a ys (omega arith) (omega (arith, room 11 k n l)) (omega (arith, room 11 k n l)) (ap length e ∙ long
+          ∙ sym (width k n));
     }
 
 -- ---- the first ten vectors: the area without the candidate
@@ -117,8 +122,10 @@ module _ (n : ℕ) (a : List Float) (fits : 11 * n ≤ length a) where
   unfolding unpack
   ten-lent = fun-ext (λ b. go b (ltb (number b) 10) refl)
     where
-      go : (b : Vector) (t : Bool) → ltb (number b) 10 ≡ t → cond t (take n (drop (number b * n) (take (10 * n - 0) a))) (take n (drop (number b * n) a)) ≡ take n (drop (number b * n) a)
-      go b true e = same-before (number b * n) n (take (10 * n - 0) a) a (10 * n - 0) (omega (arith, room 10 (number b) n (ltb-true (number b) 10 e))) (take-take (10 * n - 0) (10 * n - 0) a (le-refl (10 * n - 0)))
+      go : (b : Vector) (t : Bool) → ltb (number b) 10 ≡ t → cond t (take n (drop (number b * n) (take (10 * n - 0) a))) (take n (drop (number b * n) a))
+          ≡ take n (drop (number b * n) a)
+      go b true e = same-before (number b * n) n (take (10 * n - 0) a) a (10 * n - 0) (omega (arith, room 10 (number b) n (ltb-true (number b) 10 e)))
+          (take-take (10 * n - 0) (10 * n - 0) a (le-refl (10 * n - 0)))
       go b false e = refl
 
   -- and what comes back
@@ -126,14 +133,16 @@ module _ (n : ℕ) (a : List Float) (fits : 11 * n ≤ length a) where
   unfolding unpack
   ten-back ys long = fun-ext (λ b. go b (ltb (number b) 10) refl)
     where
-      go : (b : Vector) (t : Bool) → ltb (number b) 10 ≡ t → take n (drop (number b * n) (putMid 0 (10 * n - 0) a ys)) ≡ cond t (take n (drop (number b * n) ys)) (take n (drop (number b * n) a))
+      go : (b : Vector) (t : Bool) → ltb (number b) 10 ≡ t → take n (drop (number b * n) (putMid 0 (10 * n - 0) a ys))
+          ≡ cond t (take n (drop (number b * n) ys)) (take n (drop (number b * n) a))
       go b true e =
           let h : number b * n + n ≤ 10 * n = room 10 (number b) n (ltb-true (number b) 10 e) in
           ap (take n) (drop-append-le (number b * n) ys (drop (10 * n - 0) a) (omega arith))
           ∙ take-append-le n (drop (number b * n) ys) (drop (10 * n - 0) a) (omega (arith, length-drop (number b * n) ys))
       go b false e =
           let h : 10 ≤ number b = ltb-false (number b) 10 e in
-          same-after (number b * n) n (putMid 0 (10 * n - 0) a ys) a (10 * n) (mul-le-mul-right n h) (drop-put 0 (10 * n) a ys (omega arith) (omega arith) (omega arith))
+          same-after (number b * n) n (putMid 0 (10 * n - 0) a ys) a (10 * n) (mul-le-mul-right n h)
+          (drop-put 0 (10 * n) a ys (omega arith) (omega arith) (omega arith))
 
   -- a step that is done to the ten vectors lent, and leaves the others, is done to all
   pub ten : (f : Vectors → Vectors) → ((v w : Vectors) → f (v beside w) ≡ (f v beside w)) → (ys : List Float) → length ys ≡ 10 * n

@@ -11,7 +11,8 @@ use lib.Ieee.{Float}
 use Rattle.family.specs.declared.RowForm.{RowForm}
 use Rattle.family.specs.declared.RowForm.the-variants.{ChebyshevRow, OrthogonalRow}
 use Rattle.coefficients.specs.declared.Coefficients.{Coefficients}
-use Rattle.workspace.specs.Vectors.{Vector, Vectors, number, _with_≔_, each, first-derivative, last-derivative, derivative, previous-two, previous-one, next-stage, eigenvector, perturbed-state, perturbed-derivative, state, candidate, older-state}
+use Rattle.workspace.specs.Vectors.{Vector, Vectors, number, _with_≔_, each, first-derivative, last-derivative, derivative, previous-two, previous-one}
+use Rattle.workspace.specs.Vectors.{next-stage, eigenvector, perturbed-state, perturbed-derivative, state, candidate, older-state}
 use Rattle.workspace.specs.Kernel.{entry-in, chebyshev-entry, orthogonal-entry, with-row-in, exchanged}
 use Rattle.workspace.proofs.Lists.{each-same}
 use Rattle.workspace.proofs.Parts.{_beside_}

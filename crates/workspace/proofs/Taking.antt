@@ -12,7 +12,9 @@ use lib.ListN.{length, getD}
 use lib.Seq.{ext-getD}
 use lib.Ieee.{Float, nan}
 use Rattle.workspace.specs.Vectors.{Vector, Vectors, _with_≔_, column, unpack}
-use Rattle.workspace.proofs.Columns.{Rules, written-by, with-at, stores, written, among, Room, roomy, length-stores, stores-here, stores-there, at, with-column, written-column, Before, length-with, still, written-length, unpack-column, unpack-length, unpack-short, roomy-before, Made, sent, sent-made}
+use Rattle.workspace.proofs.Columns.{Rules, written-by, with-at, stores, written, among, Room, roomy, length-stores, stores-here, stores-there, at}
+use Rattle.workspace.proofs.Columns.{with-column, written-column, Before, length-with, still, written-length, unpack-column, unpack-length, unpack-short}
+use Rattle.workspace.proofs.Columns.{roomy-before, Made, sent, sent-made}
 
 module _ (k : Vector) (d : List Float) (n : ℕ) (a : List Float) where
   -- column j with its element of d
@@ -46,7 +48,8 @@ module _ (k : Vector) (d : List Float) (n : ℕ) (a : List Float) where
         → column n (stores n i ((k, x) ∷ sent rs xs) area) i ≡ written rs (given-at i) (given-at i)
     unfolding Room written
     taken-here x xs W h e m =
-        let kept : with-at k x (column n area i) ≡ given-at i = ap (λ (v : Vector → Float). with-at k x v) (W .ahead i (omega arith) h) ∙ ap (λ (y : Float). with-at k y (column n a i)) e in
+        let kept : with-at k x (column n area i) ≡ given-at i = ap (λ (v : Vector → Float). with-at k x v) (W .ahead i (omega arith) h)
+        ∙ ap (λ (y : Float). with-at k y (column n a i)) e in
         let v = with-at k x (column n area i) in
         ap (λ (l : List (Vector × Float)). column n (stores n i ((k, x) ∷ l) area) i) (sent-made rs v xs m)
         ∙ stores-here n i ((k, λ y. x) ∷ rs) v area h (subst (λ (q : ℕ). Room n q ((k, λ y. x) ∷ rs)) (sym (W .long)) (W .fits))
@@ -70,7 +73,8 @@ module _ (k : Vector) (d : List Float) (n : ℕ) (a : List Float) where
     pub finish-taking : length d ≡ n → Taking rs area i → n ≤ i → unpack n area ≡ written-by n rs given given
     unfolding Before
     finish-taking long W h = fun-ext (λ b. ext-getD nan (unpack n area b) (written-by n rs given given b)
-        (unpack-length n area a (W .long) b ∙ sym (written-length n rs given given (still n rs (unpack n a) k d (before .0) long (before .1)) b ∙ length-with n (unpack n a) k d (before .0) long b))
+        (unpack-length n area a (W .long) b ∙ sym (written-length n rs given given (still n rs (unpack n a) k d (before .0) long (before .1)) b
+        ∙ length-with n (unpack n a) k d (before .0) long b))
         (λ j l. ap (λ (c : Vector → Float). c b) (by-columns j (let g : j < n = omega (arith, unpack-short n area b) in g))))
       where
         before : Before n ((k, λ x. x k) ∷ rs) (unpack n a)
@@ -81,4 +85,5 @@ module _ (k : Vector) (d : List Float) (n : ℕ) (a : List Float) where
             unpack-column n j area p
             ∙ W .past j (omega arith)
             ∙ sym (written-column n j rs given given p
-            ∙ ap (λ (c : Vector → Float). written rs c c) (with-column (unpack n a) k d j ∙ ap (λ (v : Vector → Float). with-at k (getD d j nan) v) (unpack-column n j a p)))
+            ∙ ap (λ (c : Vector → Float). written rs c c) (with-column (unpack n a) k d j
+            ∙ ap (λ (v : Vector → Float). with-at k (getD d j nan) v) (unpack-column n j a p)))

@@ -19,7 +19,8 @@ use Rattle.family.specs.Family.{facts-of, kind}
 use Rattle.coefficients.specs.declared.Coefficients.{Coefficients}
 use Rattle.coefficients.specs.declared.Recurrence.{Recurrence}
 use Rattle.workspace.specs.declared.Arguments.{Arguments}
-use Rattle.workspace.specs.Vectors.{Vector, Vectors, _with_≔_, each, root-of-squares, vector-norm, first-derivative, last-derivative, derivative, previous-two, previous-one, next-stage, eigenvector, perturbed-state, perturbed-derivative, state, candidate}
+use Rattle.workspace.specs.Vectors.{Vector, Vectors, _with_≔_, each, root-of-squares, vector-norm, first-derivative, last-derivative, derivative}
+use Rattle.workspace.specs.Vectors.{previous-two, previous-one, next-stage, eigenvector, perturbed-state, perturbed-derivative, state, candidate}
 
 -- ---- the power iteration: `spectral_radius`
 

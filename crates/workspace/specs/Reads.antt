@@ -55,4 +55,10 @@ Put p x l m =
 
 -- what a row reads at one of four columns
 abbrev pub picked : Four → Four → Four → Four → Four → ℕ → Entries
-picked one two initial slope first u = record { one = element one u; two = element two u; initial = element initial u; slope = element slope u; first = element first u }
+picked one two initial slope first u = record {
+  one = element one u;
+  two = element two u;
+  initial = element initial u;
+  slope = element slope u;
+  first = element first u;
+}

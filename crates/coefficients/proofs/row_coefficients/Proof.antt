@@ -51,7 +51,11 @@ returns-4 c = rw (c .gegenbauer-one .ensures, c .before .gegenbauer-one-omega .e
 
 returns-5 : tie.Need-returns-5
 unfolding coefficients-of
-returns-5 c = let r = c .before .before .match .rest in rw (c .gegenbauer-two .ensures, c .before .gegenbauer-two-omega .ensures, last-family _ (r .0 .0 .0 .1) (r .0 .0 .1) (r .0 .1) (r .1))
+returns-5 c = let r = c .before .before .match .rest in rw (
+  c .gegenbauer-two .ensures,
+  c .before .gegenbauer-two-omega .ensures,
+  last-family _ (r .0 .0 .0 .1) (r .0 .0 .1) (r .0 .1) (r .1),
+)
 
 pub row-coefficients-spec : {M : Type 1} → statement M
 row-coefficients-spec =

@@ -34,13 +34,21 @@ put-malformed-requires : tie.Need-put-malformed-requires
 put-malformed-requires c κs = search needs
 
 returns : tie.Need-returns
-returns c = let p = c .put-day .ensures in
-    (puts-counts p, p .bytes ∙ day-written _ _ _ (c .before .before .before .before .before .before .before .before .before .before .no-refusals .ensures) (c .before .before .before .before .before .before .before .before .before .no-junctions .ensures) (c .before .before .before .before .total .given .1) (c .before .before .before .before .before .before .day .ensures))
+returns c = let p = c .put-day .ensures in (
+  puts-counts p,
+  p .bytes ∙ day-written _ _ _ (c .before .before .before .before .before .before .before .before .before .before .no-refusals .ensures)
+      (c .before .before .before .before .before .before .before .before .before .no-junctions .ensures) (c .before .before .before .before .total .given .1)
+      (c .before .before .before .before .before .before .day .ensures),
+)
 
 returns-2 : tie.Need-returns-2
 unfolding day-text
-returns-2 c = let p = c .put-malformed .ensures in
-    (puts-counts p, p .bytes ∙ day-written _ _ _ (c .before .before .before .before .before .before .before .before .before .no-refusals .ensures) (c .before .before .before .before .before .before .before .before .no-junctions .ensures) (c .before .before .before .line .given .1) (c .before .before .before .before .before .day .ensures))
+returns-2 c = let p = c .put-malformed .ensures in (
+  puts-counts p,
+  p .bytes ∙ day-written _ _ _ (c .before .before .before .before .before .before .before .before .before .no-refusals .ensures)
+      (c .before .before .before .before .before .before .before .before .no-junctions .ensures) (c .before .before .before .line .given .1)
+      (c .before .before .before .before .before .day .ensures),
+)
 
 pub day-page-spec : {M : Type 1} → statement M
 day-page-spec =

@@ -35,13 +35,21 @@ put-malformed-requires c κs = search needs
 
 returns : tie.Need-returns
 unfolding junctions-text
-returns c = let p = c .put-junctions .ensures in
-    (puts-counts p, p .bytes ∙ junctions-written _ _ _ (c .before .before .before .before .before .before .before .before .before .no-refusals .ensures) (c .before .before .before .before .before .before .before .before .no-junctions .ensures) (c .before .before .before .enum-told .given .1) (c .before .before .before .before .before .day .ensures))
+returns c = let p = c .put-junctions .ensures in (
+  puts-counts p,
+  p .bytes ∙ junctions-written _ _ _ (c .before .before .before .before .before .before .before .before .before .no-refusals .ensures)
+      (c .before .before .before .before .before .before .before .before .no-junctions .ensures) (c .before .before .before .enum-told .given .1)
+      (c .before .before .before .before .before .day .ensures),
+)
 
 returns-2 : tie.Need-returns-2
 unfolding junctions-text
-returns-2 c = let p = c .put-malformed .ensures in
-    (puts-counts p, p .bytes ∙ junctions-written _ _ _ (c .before .before .before .before .before .before .before .before .before .no-refusals .ensures) (c .before .before .before .before .before .before .before .before .no-junctions .ensures) (c .before .before .before .line .given .1) (c .before .before .before .before .before .day .ensures))
+returns-2 c = let p = c .put-malformed .ensures in (
+  puts-counts p,
+  p .bytes ∙ junctions-written _ _ _ (c .before .before .before .before .before .before .before .before .before .no-refusals .ensures)
+      (c .before .before .before .before .before .before .before .before .no-junctions .ensures) (c .before .before .before .line .given .1)
+      (c .before .before .before .before .before .day .ensures),
+)
 
 pub junctions-page-spec : {M : Type 1} → statement M
 junctions-page-spec =

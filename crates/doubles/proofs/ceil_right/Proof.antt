@@ -18,7 +18,8 @@ bits-of-requires : tie.Need-bits-of-requires
 bits-of-requires c κs = search needs
 
 returns : tie.Need-returns
-returns c = ap (λ (n : ℕ). eqb n (c .before .before .before .args .want)) (c .bits-of .ensures ∙ ap (toBits binary64) (c .before .ceil .ensures ∙ ap ceil (c .before .before .float-of .ensures)))
+returns c = ap (λ (n : ℕ). eqb n (c .before .before .before .args .want)) (c .bits-of .ensures
+    ∙ ap (toBits binary64) (c .before .ceil .ensures ∙ ap ceil (c .before .before .float-of .ensures)))
 
 pub ceil-right-spec : {M : Type 1} → statement M
 ceil-right-spec = tie.close (tie.spec float-of-requires ceil-requires bits-of-requires returns)

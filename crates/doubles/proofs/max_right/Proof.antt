@@ -22,7 +22,8 @@ bits-of-requires c κs = search needs
 
 returns : tie.Need-returns
 returns c = ap (λ (n : ℕ). eqb n (c .before .before .before .before .args .want))
-    (c .bits-of .ensures ∙ ap (toBits binary64) (c .before .max .ensures ∙ ap₂ max (c .before .before .before .float-of .ensures) (c .before .before .float-of2 .ensures)))
+    (c .bits-of .ensures ∙ ap (toBits binary64) (c .before .max .ensures
+    ∙ ap₂ max (c .before .before .before .float-of .ensures) (c .before .before .float-of2 .ensures)))
 
 pub max-right-spec : {M : Type 1} → statement M
 max-right-spec =

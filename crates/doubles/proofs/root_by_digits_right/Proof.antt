@@ -18,7 +18,8 @@ bits-of-requires : tie.Need-bits-of-requires
 bits-of-requires c κs = search needs
 
 returns : tie.Need-returns
-returns c = ap (λ (n : ℕ). eqb n (c .before .before .before .args .want)) (c .bits-of .ensures ∙ ap (toBits binary64) (c .before .sqrt-by-digits .ensures ∙ ap sqrt (c .before .before .float-of .ensures)))
+returns c = ap (λ (n : ℕ). eqb n (c .before .before .before .args .want)) (c .bits-of .ensures
+    ∙ ap (toBits binary64) (c .before .sqrt-by-digits .ensures ∙ ap sqrt (c .before .before .float-of .ensures)))
 
 pub root-by-digits-right-spec : {M : Type 1} → statement M
 root-by-digits-right-spec =

@@ -18,7 +18,8 @@ bits-of-requires : tie.Need-bits-of-requires
 bits-of-requires c κs = search needs
 
 returns : tie.Need-returns
-returns c = ap (λ (n : ℕ). eqb n (c .before .before .before .args .want)) (c .bits-of .ensures ∙ ap (toBits binary64) (c .before .sqrt .ensures ∙ ap sqrt (c .before .before .float-of .ensures)))
+returns c = ap (λ (n : ℕ). eqb n (c .before .before .before .args .want)) (c .bits-of .ensures
+    ∙ ap (toBits binary64) (c .before .sqrt .ensures ∙ ap sqrt (c .before .before .float-of .ensures)))
 
 pub root-right-spec : {M : Type 1} → statement M
 root-right-spec = tie.close (tie.spec float-of-requires sqrt-requires bits-of-requires returns)

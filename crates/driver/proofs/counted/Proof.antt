@@ -52,7 +52,8 @@ returns-2 : tie.Need-returns-2
 unfolding counted
 returns-2 c =
     let k = c .before .before .before .before .args .counters in
-    ap (λ (y : Counters). let z : Counters = record { evaluations = y .evaluations; «finished_attempts» = k .«finished_attempts» + 1 } in z) (c .before .evaluated2 .ensures)
+    ap (λ (y : Counters). let z : Counters = record { evaluations = y .evaluations; «finished_attempts» = k .«finished_attempts» + 1 } in
+    z) (c .before .evaluated2 .ensures)
     ∙ ap (λ (a : Answer). counted a k) (sym (c .before .before .enum-told2 .given .1))
 
 returns-3 : tie.Need-returns-3

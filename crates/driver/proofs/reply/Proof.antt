@@ -62,21 +62,24 @@ same-length-2 c = search needs
 
 returns-2 : tie.Need-returns-2
 unfolding outcome-of
-returns-2 c = comes _ (c .before .before .before .before .before .before .before .before .reply-in-stages .ensures) (c .before .before .before .before .staged .given .1) (c .evaluated-with .ensures) (c .before .at-stage .ensures)
+returns-2 c = comes _ (c .before .before .before .before .before .before .before .before .reply-in-stages .ensures)
+    (c .before .before .before .before .staged .given .1) (c .evaluated-with .ensures) (c .before .at-stage .ensures)
 
 same-length-3 : tie.Need-same-length-3
 same-length-3 c = search needs
 
 returns-3 : tie.Need-returns-3
 unfolding outcome-of
-returns-3 c = comes _ (c .before .before .before .before .before .before .before .reply-in-stages .ensures) (c .before .before .before .staged2 .given .1) (c .evaluated-with2 .ensures) (c .before .in-phase .ensures)
+returns-3 c = comes _ (c .before .before .before .before .before .before .before .reply-in-stages .ensures) (c .before .before .before .staged2 .given .1)
+    (c .evaluated-with2 .ensures) (c .before .in-phase .ensures)
 
 same-length-4 : tie.Need-same-length-4
 same-length-4 c = search needs
 
 returns-4 : tie.Need-returns-4
 unfolding outcome-of
-returns-4 c = comes _ (c .before .before .before .before .before .before .reply-in-stages .ensures) (c .before .before .enum-told .given .1) (c .evaluated-with3 .ensures) (c .before .in-phase2 .ensures)
+returns-4 c = comes _ (c .before .before .before .before .before .before .reply-in-stages .ensures) (c .before .before .enum-told .given .1)
+    (c .evaluated-with3 .ensures) (c .before .in-phase2 .ensures)
 
 pub reply-spec : {M : Type 1} → statement M
 reply-spec =

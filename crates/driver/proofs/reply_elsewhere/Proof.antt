@@ -1,4 +1,5 @@
--- `reply_elsewhere` meets its contract: turned away with the number of its cause (Ladder); without one (Clear), the derivative is spoiled or taken, and counted.
+-- `reply_elsewhere` meets its contract: turned away with the number of its cause (Ladder); without one (Clear), the derivative is spoiled or taken, and
+-- counted.
 use mathlib.Core.Path.{refl, sym, _∙_}
 use borrow.Author.Needs.{needs}
 use Rattle.family.specs.Family.{family-of}

@@ -35,11 +35,23 @@ saturating-u64-requires-2 c κs = search needs
 
 returns : tie.Need-returns
 unfolding by-rule ofBits
-returns c = rw (c .one-more .ensures, c .before .saturating-u64 .ensures, c .before .before .floor .ensures, c .before .before .before .sqrt .ensures, c .before .before .before .before .before .rule .given .1)
+returns c = rw (
+  c .one-more .ensures,
+  c .before .saturating-u64 .ensures,
+  c .before .before .floor .ensures,
+  c .before .before .before .sqrt .ensures,
+  c .before .before .before .before .before .rule .given .1,
+)
 
 returns-2 : tie.Need-returns-2
 unfolding by-rule ofBits
-returns-2 c = rw (c .saturating-u642 .ensures, c .before .ceil .ensures, c .before .before .sqrt2 .ensures, c .before .before .before .before .rule2 .given .1, ← cast-kept)
+returns-2 c = rw (
+  c .saturating-u642 .ensures,
+  c .before .ceil .ensures,
+  c .before .before .sqrt2 .ensures,
+  c .before .before .before .before .rule2 .given .1,
+  ← cast-kept,
+)
 
 pub by-rule-spec : {M : Type 1} → statement M
 by-rule-spec =

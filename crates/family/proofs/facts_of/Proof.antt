@@ -51,7 +51,8 @@ returns-4 c = rw (c .orthogonal3 .ensures, c .before .rounded-up3 .ensures, c .b
 
 returns-5 : tie.Need-returns-5
 unfolding facts-of ofBits
-returns-5 c = let r = c .before .before .match .rest in rw (c .orthogonal4 .ensures, c .before .rounded-up4 .ensures, last-family _ (r .0 .0 .0 .1) (r .0 .0 .1) (r .0 .1) (r .1))
+returns-5 c = let r = c .before .before .match .rest in
+    rw (c .orthogonal4 .ensures, c .before .rounded-up4 .ensures, last-family _ (r .0 .0 .0 .1) (r .0 .0 .1) (r .0 .1) (r .1))
 
 pub facts-of-spec : {M : Type 1} → statement M
 facts-of-spec =

@@ -46,7 +46,8 @@ loop-again c =
     let h : l .i < length (a .point .now) = c .before .loop-test .taken in
     let e = c .out-of .ensures in (
       front-turn _ (l .inv .0) (omega (arith, length-rates (a .m) (a .point .now) (a .reading)))
-          (ap (λ (x : Float). x ⊖ c .out-of .result) (l .inv .1 h) ∙ ap (λ (x : Float). spec.into (a .m) (a .point .now) (a .reading) (l .i) ⊖ x) e ∙ rate-at (a .m) (a .point .now) (a .reading) (l .i) h),
+          (ap (λ (x : Float). x ⊖ c .out-of .result) (l .inv .1 h) ∙ ap (λ (x : Float). spec.into (a .m) (a .point .now) (a .reading) (l .i) ⊖ x) e
+          ∙ rate-at (a .m) (a .point .now) (a .reading) (l .i) h),
       λ k. e ∙ handed-on (a .m) (a .point .now) (a .reading) (l .i) k,
     )
 

@@ -16,7 +16,8 @@ is-nan (fin s m e) t = absurd t
 
 returns : tie.Need-returns
 unfolding div ofBits
-returns c = let b = c .before .args .bits in is-nan (ofBits binary64 b) (subst T (sym (sym (nanBits-is binary64 b) ∙ nanBits-above binary64 b ∙ lt-ltb _ _ (c .if1 .taken))) tt)
+returns c = let b = c .before .args .bits in is-nan (ofBits binary64 b)
+    (subst T (sym (sym (nanBits-is binary64 b) ∙ nanBits-above binary64 b ∙ lt-ltb _ _ (c .if1 .taken))) tt)
 
 float-from-bits-result : tie.Need-float-from-bits-result
 float-from-bits-result c = subst (λ (b : Bool). T (not b)) (sym (nanBits-above binary64 (c .before .args .bits) ∙ le-ltb _ _ (c .if1 .left))) tt

@@ -55,7 +55,8 @@ same-length-2 : tie.Need-same-length-2
 same-length-2 c = simp length-set
 
 returns : tie.Need-returns
-returns c = placed (c .before .before .args .time) (c .before .before .args .staging) (c .before .before .args .wholes .now) (c .before .before .args .doubles .now) (c .before .before .pre .0) (c .before .before .pre .1)
+returns c = placed (c .before .before .args .time) (c .before .before .args .staging) (c .before .before .args .wholes .now)
+    (c .before .before .args .doubles .now) (c .before .before .pre .0) (c .before .before .pre .1)
 
 pub ask-stage-spec : {M : Type 1} → statement M
 ask-stage-spec =

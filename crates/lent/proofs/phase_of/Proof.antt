@@ -33,7 +33,8 @@ unfolding phase-of
 returns-7 c = rw (c .match .keys7)
 
 returns-8 : tie.Need-returns-8
-returns-8 c = let r = c .match .rest in no-other _ (r .0 .0 .0 .0 .0 .0 .1) (r .0 .0 .0 .0 .0 .1) (r .0 .0 .0 .0 .1) (r .0 .0 .0 .1) (r .0 .0 .1) (r .0 .1) (r .1)
+returns-8 c = let r = c .match .rest in no-other _ (r .0 .0 .0 .0 .0 .0 .1) (r .0 .0 .0 .0 .0 .1) (r .0 .0 .0 .0 .1) (r .0 .0 .0 .1) (r .0 .0 .1)
+    (r .0 .1) (r .1)
 
 pub phase-of-spec : {M : Type 1} → statement M
 phase-of-spec =

@@ -25,7 +25,10 @@ element-copy-out-t21 : tie.Need-element-copy-out-t21
 element-copy-out-t21 c = search needs
 
 returns : tie.Need-returns
-returns c = rw (c .before .before .before .before .before .before .before .new-record .ensures, c .before .before .before .before .before .before .before .before .phase-of .ensures)
+returns c = rw (
+  c .before .before .before .before .before .before .before .new-record .ensures,
+  c .before .before .before .before .before .before .before .before .phase-of .ensures,
+)
 
 pub place-spec : {M : Type 1} → statement M
 place-spec =

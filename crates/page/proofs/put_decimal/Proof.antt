@@ -14,7 +14,8 @@ same-length : tie.Need-same-length
 same-length c = search needs
 
 returns : tie.Need-returns
-returns c = puts-decimal (c .before .before .before .before .before .before .args .n) (c .before .before .before .before .places .ensures .0) (c .before .before .put-digits .ensures)
+returns c = puts-decimal (c .before .before .before .before .before .before .args .n) (c .before .before .before .before .places .ensures .0)
+    (c .before .before .put-digits .ensures)
 
 pub put-decimal-spec : {M : Type 1} → statement M
 put-decimal-spec = tie.close (tie.spec places-requires put-digits-requires same-length returns)

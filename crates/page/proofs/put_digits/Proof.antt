@@ -12,7 +12,8 @@ use Rattle.page.proofs.put_digits.Statement.{statement}
 use Rattle.page.proofs.put_digits.Tie as tie
 
 abbrev Inv-loop : tie.InvT-loop
-Inv-loop page₀ at base k n i₀ rest₀ page i rest = (i ≤ k) × (length page ≡ length page₀) × (take at page ≡ take at page₀) × (digits base k n ≡ digits base i rest ++ take (k - i) (drop (at + i) page))
+Inv-loop page₀ at base k n i₀ rest₀ page i rest = (i ≤ k) × (length page ≡ length page₀) × (take at page ≡ take at page₀)
+    × (digits base k n ≡ digits base i rest ++ take (k - i) (drop (at + i) page))
 
 abbrev μ-loop : tie.MeasureT-loop
 μ-loop page₀ at base k n i₀ rest₀ page i rest = i
@@ -33,7 +34,13 @@ add-page : tie.Need-add-page Inv-loop μ-loop
 add-page c = omega (arith, c .before .before .loop .inv .0, c .before .before .before .before .pre .1, c .before .before .loop .inv .1)
 
 slice-write-page : tie.Need-slice-write-page Inv-loop μ-loop
-slice-write-page c = omega (arith, c .before .loop-test .taken, c .before .before .loop .inv .0, c .before .before .before .before .pre .1, c .before .before .loop .inv .1)
+slice-write-page c = omega (
+  arith,
+  c .before .loop-test .taken,
+  c .before .before .loop .inv .0,
+  c .before .before .before .before .pre .1,
+  c .before .before .loop .inv .1,
+)
 
 div-rest : tie.Need-div-rest Inv-loop μ-loop
 div-rest c = omega (arith, c .before .before .before .before .pre .0 .0)

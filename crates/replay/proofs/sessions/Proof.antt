@@ -6,7 +6,8 @@ use Rattle.replay.proofs.sessions.Statement.{statement}
 use Rattle.replay.proofs.sessions.Tie as tie
 
 abbrev Inv-loop : tie.InvT-loop
-Inv-loop s area₀ expected₀ brought₀ seen₀ session₀ left₀ area expected brought seen session left = (length area ≡ length area₀) × (length expected ≡ length expected₀) × (length brought ≡ length brought₀)
+Inv-loop s area₀ expected₀ brought₀ seen₀ session₀ left₀ area expected brought seen session left =
+    (length area ≡ length area₀) × (length expected ≡ length expected₀) × (length brought ≡ length brought₀)
 
 abbrev μ-loop : tie.MeasureT-loop
 μ-loop s area₀ expected₀ brought₀ seen₀ session₀ left₀ area expected brought seen session left = left

@@ -25,17 +25,21 @@ mul-wrapping-add-u64-2 c = search needs
 wrapping-add-u64-requires : tie.Need-wrapping-add-u64-requires
 wrapping-add-u64-requires c κs = search needs
 
-split : (h : ℕ) → h * 1099511628211 ≡ 2 ^ 64 * (h / 4294967296 * 256 + (h / 4294967296 * 435 + h % 4294967296 * 256) / 4294967296) + ((h / 4294967296 * 435 + h % 4294967296 * 256) % 4294967296 * 4294967296 + h % 4294967296 * 435)
-split h = go (h / 4294967296) (h % 4294967296) ((h / 4294967296 * 435 + h % 4294967296 * 256) / 4294967296) ((h / 4294967296 * 435 + h % 4294967296 * 256) % 4294967296) (omega arith) (omega arith)
+split : (h : ℕ) → h * 1099511628211 ≡ 2 ^ 64 * (h / 4294967296 * 256 + (h / 4294967296 * 435 + h % 4294967296 * 256) / 4294967296)
+    + ((h / 4294967296 * 435 + h % 4294967296 * 256) % 4294967296 * 4294967296 + h % 4294967296 * 435)
+split h = go (h / 4294967296) (h % 4294967296) ((h / 4294967296 * 435 + h % 4294967296 * 256) / 4294967296)
+    ((h / 4294967296 * 435 + h % 4294967296 * 256) % 4294967296) (omega arith) (omega arith)
   where
-    go : (a b u r : ℕ) → h ≡ a * 4294967296 + b → a * 435 + b * 256 ≡ u * 4294967296 + r → h * 1099511628211 ≡ 2 ^ 64 * (a * 256 + u) + (r * 4294967296 + b * 435)
+    go : (a b u r : ℕ) → h ≡ a * 4294967296 + b → a * 435 + b * 256 ≡ u * 4294967296 + r → h * 1099511628211 ≡ 2 ^ 64 * (a * 256 + u)
+        + (r * 4294967296 + b * 435)
     go a b u r e f = omega arith
 
 returns : tie.Need-returns
 returns c =
     let h = c .before .args .h in
     let t = h / 4294967296 * 435 + h % 4294967296 * 256 in
-    c .wrapping-add-u64 .ensures ∙ sym (ap (λ (n : ℕ). n % 2 ^ 64) (split h) ∙ mul-add-mod-self-left (2 ^ 64) (h / 4294967296 * 256 + t / 4294967296) (t % 4294967296 * 4294967296 + h % 4294967296 * 435))
+    c .wrapping-add-u64 .ensures ∙ sym (ap (λ (n : ℕ). n % 2 ^ 64) (split h) ∙ mul-add-mod-self-left (2 ^ 64) (h / 4294967296 * 256 + t / 4294967296)
+    (t % 4294967296 * 4294967296 + h % 4294967296 * 435))
 
 pub times-prime-spec : {M : Type 1} → statement M
 times-prime-spec =

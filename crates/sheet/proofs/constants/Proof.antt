@@ -155,7 +155,14 @@ returns-7 c =
     (on _ _ (d₄ .before .before .before .word-field4 .ensures) (d₄ .before .cool .given .1)
     (on _ _ (d₅ .before .before .before .word-field5 .ensures) (d₅ .before .heat .given .1)
     (on _ _ (d₆ .before .before .before .word-field6 .ensures) (d₆ .before .rated .given .1)
-    (rw (← c .before .before .before .before .before .before .float-of .ensures, ← c .before .before .before .before .before .float-of2 .ensures, ← c .before .before .before .before .float-of3 .ensures, ← c .before .before .before .float-of4 .ensures, ← c .before .before .float-of5 .ensures, ← c .before .float-of6 .ensures) (c .if-sound .ensures)))))))
+    (rw (
+      ← c .before .before .before .before .before .before .float-of .ensures,
+      ← c .before .before .before .before .before .float-of2 .ensures,
+      ← c .before .before .before .before .float-of3 .ensures,
+      ← c .before .before .before .float-of4 .ensures,
+      ← c .before .before .float-of5 .ensures,
+      ← c .before .float-of6 .ensures,
+    ) (c .if-sound .ensures)))))))
 
 pub constants-spec : {M : Type 1} → statement M
 constants-spec =

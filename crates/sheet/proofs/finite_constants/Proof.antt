@@ -24,7 +24,14 @@ is-finite-requires-6 c κs = search needs
 
 returns : tie.Need-returns
 unfolding finite-constants
-returns c = rw (c .before .before .before .before .before .is-finite .ensures, c .before .before .before .before .is-finite2 .ensures, c .before .before .before .is-finite3 .ensures, c .before .before .is-finite4 .ensures, c .before .is-finite5 .ensures, c .is-finite6 .ensures)
+returns c = rw (
+  c .before .before .before .before .before .is-finite .ensures,
+  c .before .before .before .before .is-finite2 .ensures,
+  c .before .before .before .is-finite3 .ensures,
+  c .before .before .is-finite4 .ensures,
+  c .before .is-finite5 .ensures,
+  c .is-finite6 .ensures,
+)
 
 pub finite-constants-spec : {M : Type 1} → statement M
 finite-constants-spec =

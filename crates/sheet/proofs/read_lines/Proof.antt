@@ -45,7 +45,8 @@ returns c =
     let a = c .before .before .before .before .before .before .before .args in
     let l = c .before .before .before .before .loop in
     let e : word-field line-end (a .text .now) (l .at) ≡ _ = sym (c .before .before .word-field .ensures) ∙ c .enum-told .given .1 in
-    fills-bad (l .readings) (l .inv .2 ∙ line-off (a .text .now) (l .at) (l .i + 2) (take (l .i) (l .readings)) (length (a .readings .now) - l .i) (omega arith) e)
+    fills-bad (l .readings) (l .inv .2 ∙ line-off (a .text .now) (l .at) (l .i + 2) (take (l .i) (l .readings)) (length (a .readings .now) - l .i)
+    (omega arith) e)
 
 float-of-requires : tie.Need-float-of-requires Inv-loop μ-loop
 float-of-requires c κs = search needs

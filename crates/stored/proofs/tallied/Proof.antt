@@ -17,7 +17,10 @@ more : (c : tie.Joined1) → c .if1 .more ≡ cond (c .before .before .args .rig
 more c = ⊎-elim (λ w. w .1 ∙ sym (ap (λ (b : Bool). cond b 0 1) (w .0 .taken))) (λ w. w .1 ∙ sym (ap (λ (b : Bool). cond b 0 1) (w .0 .left))) (c .if1 .came)
 
 returns : tie.Need-returns
-returns c = (c .before .before .wrapping-add-u64 .ensures, c .wrapping-add-u642 .ensures ∙ ap (λ (n : ℕ). (c .before .before .before .args .tally .differ + n) % 2 ^ 64) (more (c .before)))
+returns c = (
+  c .before .before .wrapping-add-u64 .ensures,
+  c .wrapping-add-u642 .ensures ∙ ap (λ (n : ℕ). (c .before .before .before .args .tally .differ + n) % 2 ^ 64) (more (c .before)),
+)
 
 pub tallied-spec : {M : Type 1} → statement M
 tallied-spec = tie.close (tie.spec wrapping-add-u64-requires wrapping-add-u64-requires-2 returns)

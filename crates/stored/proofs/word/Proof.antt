@@ -43,7 +43,8 @@ past s i h = sym (ap (λ (b : Bool). cond b (four-bytes s (i * 8) + four-bytes s
 returns : tie.Need-returns
 returns c =
     let a = c .before .before .before .before .args in
-    ap₂ (λ (x y : ℕ). x + y * 2 ^ 32) (c .before .four-bytes .ensures .0) (c .four-bytes2 .ensures .0) ∙ there (now (a .s)) (a .i) (c .before .before .if1 .taken)
+    ap₂ (λ (x y : ℕ). x + y * 2 ^ 32) (c .before .four-bytes .ensures .0) (c .four-bytes2 .ensures .0)
+    ∙ there (now (a .s)) (a .i) (c .before .before .if1 .taken)
 
 returns-2 : tie.Need-returns-2
 returns-2 c = let a = c .before .before .args in past (now (a .s)) (a .i) (c .if1 .left)

@@ -44,8 +44,12 @@ loop-less c = search needs
 loop-again : tie.Need-loop-again Inv-loop μ-loop
 loop-again c =
     let a = c .before .before .before .before .before .before .before .args in
-    let l = c .before .before .before .loop in
-    (omega arith, l .inv .1, simp length-set (omega arith), roots-turn (a .x .now) (a .out .now) (l .i) (omega arith) (omega arith) (l .inv .3) (c .sqrt .ensures))
+    let l = c .before .before .before .loop in (
+      omega arith,
+      l .inv .1,
+      simp length-set (omega arith),
+      roots-turn (a .x .now) (a .out .now) (l .i) (omega arith) (omega arith) (l .inv .3) (c .sqrt .ensures),
+    )
 
 same-length : tie.Need-same-length Inv-loop μ-loop
 same-length c = search needs

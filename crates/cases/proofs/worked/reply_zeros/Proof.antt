@@ -31,7 +31,11 @@ loop-less : tie.Need-loop-less Inv-loop μ-loop
 loop-less c = omega arith
 
 loop-again : tie.Need-loop-again Inv-loop μ-loop
-loop-again c = omega (arith, c .before .before .before .area .given, c .before .before .before .before .before .before .before .before .before .before .loop .inv)
+loop-again c = omega (
+  arith,
+  c .before .before .before .area .given,
+  c .before .before .before .before .before .before .before .before .before .before .loop .inv,
+)
 
 same-length : tie.Need-same-length Inv-loop μ-loop
 same-length c = omega (arith, c .before .loop .inv)

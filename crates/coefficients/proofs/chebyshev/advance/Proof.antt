@@ -25,7 +25,11 @@ returns c =
     let w = c .before .before .before .omega-zero .ensures in
     let on = c .before .next-polynomials .ensures in
     let row = c .row-from in
-    let carried : Polynomials → Recurrence = λ q. record { «theta_previous» = row .result .theta; «theta_previous_two» = a .c .«theta_previous»; polynomials = q } in
+    let carried : Polynomials → Recurrence = λ q. record {
+      «theta_previous» = row .result .theta;
+      «theta_previous_two» = a .c .«theta_previous»;
+      polynomials = q;
+    } in
     (row .ensures (a .s) w (ap (λ (q : Polynomials). q .«b_previous») on), ap carried (on ∙ ap (λ (x : Float). polynomials-on x (a .c .polynomials)) w))
 
 pub advance-spec : {M : Type 1} → statement M

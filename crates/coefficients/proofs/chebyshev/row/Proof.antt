@@ -17,7 +17,8 @@ row-from-requires c κs = search needs
 
 returns : tie.Need-returns
 unfolding polynomials-on
-returns c = c .row-from .ensures (c .before .before .before .before .args .s) (c .before .before .before .omega-zero .ensures) (ap (λ (p : Polynomials). p .«b_previous») (c .before .next-polynomials .ensures))
+returns c = c .row-from .ensures (c .before .before .before .before .args .s) (c .before .before .before .omega-zero .ensures)
+    (ap (λ (p : Polynomials). p .«b_previous») (c .before .next-polynomials .ensures))
 
 pub row-spec : {M : Type 1} → statement M
 row-spec =

@@ -28,7 +28,13 @@ with-theta-requires c κs = search needs
 
 returns : tie.Need-returns
 unfolding gegenbauer-one ofBits
-returns c = rw (c .with-theta .ensures, c .before .gegenbauer-one-b3 .ensures, c .before .before .gegenbauer-one-b2 .ensures, c .before .before .before .gegenbauer-one-b .ensures, c .before .before .before .before .double-of .ensures)
+returns c = rw (
+  c .with-theta .ensures,
+  c .before .gegenbauer-one-b3 .ensures,
+  c .before .before .gegenbauer-one-b2 .ensures,
+  c .before .before .before .gegenbauer-one-b .ensures,
+  c .before .before .before .before .double-of .ensures,
+)
 
 pub gegenbauer-one-spec : {M : Type 1} → statement M
 gegenbauer-one-spec =

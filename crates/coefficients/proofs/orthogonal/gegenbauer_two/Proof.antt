@@ -40,7 +40,14 @@ with-theta-requires c κs = search needs
 
 returns : tie.Need-returns
 unfolding gegenbauer-two ofBits
-returns c = rw (c .with-theta .ensures, c .before .double-of2 .ensures, c .before .before .gegenbauer-two-b3 .ensures, c .before .before .before .gegenbauer-two-b2 .ensures, c .before .before .before .before .gegenbauer-two-b .ensures, c .before .before .before .before .before .double-of .ensures)
+returns c = rw (
+  c .with-theta .ensures,
+  c .before .double-of2 .ensures,
+  c .before .before .gegenbauer-two-b3 .ensures,
+  c .before .before .before .gegenbauer-two-b2 .ensures,
+  c .before .before .before .before .gegenbauer-two-b .ensures,
+  c .before .before .before .before .before .double-of .ensures,
+)
 
 pub gegenbauer-two-spec : {M : Type 1} → statement M
 gegenbauer-two-spec =

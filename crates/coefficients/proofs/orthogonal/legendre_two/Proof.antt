@@ -28,7 +28,13 @@ with-theta-requires c κs = search needs
 
 returns : tie.Need-returns
 unfolding legendre-two ofBits
-returns c = rw (c .with-theta .ensures, c .before .legendre-two-b3 .ensures, c .before .before .legendre-two-b2 .ensures, c .before .before .before .legendre-two-b .ensures, c .before .before .before .before .double-of .ensures)
+returns c = rw (
+  c .with-theta .ensures,
+  c .before .legendre-two-b3 .ensures,
+  c .before .before .legendre-two-b2 .ensures,
+  c .before .before .before .legendre-two-b .ensures,
+  c .before .before .before .before .double-of .ensures,
+)
 
 pub legendre-two-spec : {M : Type 1} → statement M
 legendre-two-spec =

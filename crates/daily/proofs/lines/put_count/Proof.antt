@@ -17,14 +17,23 @@ slice-aggregate-put : tie.Need-slice-aggregate-put
 slice-aggregate-put c = search needs
 
 put-requires-2 : tie.Need-put-requires-2
-put-requires-2 c κs = omega (arith, c .before .before .before .before .put-decimal .ensures .place, c .before .before .before .before .put-decimal .kept .0, c .before .before .before .before .before .before .before .before .put .ensures .place, c .before .before .before .before .before .before .before .before .put .kept .0, length-decimal (c .before .before .before .before .before .before .before .before .before .before .before .before .args .n), c .before .before .before .before .before .before .before .before .before .before .before .before .pre)
+put-requires-2 c κs = omega (
+  arith,
+  c .before .before .before .before .put-decimal .ensures .place,
+  c .before .before .before .before .put-decimal .kept .0,
+  c .before .before .before .before .before .before .before .before .put .ensures .place,
+  c .before .before .before .before .before .before .before .before .put .kept .0,
+  length-decimal (c .before .before .before .before .before .before .before .before .before .before .before .before .args .n),
+  c .before .before .before .before .before .before .before .before .before .before .before .before .pre,
+)
 
 same-length : tie.Need-same-length
 same-length c = search needs
 
 returns : tie.Need-returns
 unfolding count-line
-returns c = puts-then (puts-then (c .before .before .before .before .before .before .before .before .before .before .before .put .ensures) (c .before .before .before .before .before .before .before .put-decimal .ensures)) (c .before .before .put2 .ensures)
+returns c = puts-then (puts-then (c .before .before .before .before .before .before .before .before .before .before .before .put .ensures)
+    (c .before .before .before .before .before .before .before .put-decimal .ensures)) (c .before .before .put2 .ensures)
 
 pub put-count-spec : {M : Type 1} → statement M
 put-count-spec =

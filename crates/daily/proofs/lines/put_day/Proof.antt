@@ -11,17 +11,33 @@ put-heading-requires : tie.Need-put-heading-requires
 put-heading-requires c κs = search needs
 
 put-counts-requires : tie.Need-put-counts-requires
-put-counts-requires c κs = omega (arith, c .before .before .before .put-heading .ensures .place, c .before .before .before .put-heading .kept .0, length-heading (c .before .before .before .before .before .before .before .args .total), c .before .before .before .before .before .before .before .pre)
+put-counts-requires c κs = omega (
+  arith,
+  c .before .before .before .put-heading .ensures .place,
+  c .before .before .before .put-heading .kept .0,
+  length-heading (c .before .before .before .before .before .before .before .args .total),
+  c .before .before .before .before .before .before .before .pre,
+)
 
 put-refusals-requires : tie.Need-put-refusals-requires
-put-refusals-requires c κs = omega (arith, c .before .before .before .put-counts .ensures .place, c .before .before .before .put-counts .kept .0, c .before .before .before .before .before .before .before .put-heading .ensures .place, c .before .before .before .before .before .before .before .put-heading .kept .0, length-heading (c .before .before .before .before .before .before .before .before .before .before .before .args .total), length-counts (c .before .before .before .before .before .before .before .before .before .before .before .args .total), c .before .before .before .before .before .before .before .before .before .before .before .pre)
+put-refusals-requires c κs = omega (
+  arith,
+  c .before .before .before .put-counts .ensures .place,
+  c .before .before .before .put-counts .kept .0,
+  c .before .before .before .before .before .before .before .put-heading .ensures .place,
+  c .before .before .before .before .before .before .before .put-heading .kept .0,
+  length-heading (c .before .before .before .before .before .before .before .before .before .before .before .args .total),
+  length-counts (c .before .before .before .before .before .before .before .before .before .before .before .args .total),
+  c .before .before .before .before .before .before .before .before .before .before .before .pre,
+)
 
 same-length : tie.Need-same-length
 same-length c = search needs
 
 returns : tie.Need-returns
 unfolding day-text
-returns c = puts-then (puts-then (c .before .before .before .before .before .before .before .before .before .before .put-heading .ensures) (c .before .before .before .before .before .before .put-counts .ensures)) (c .before .before .put-refusals .ensures)
+returns c = puts-then (puts-then (c .before .before .before .before .before .before .before .before .before .before .put-heading .ensures)
+    (c .before .before .before .before .before .before .put-counts .ensures)) (c .before .before .put-refusals .ensures)
 
 pub put-day-spec : {M : Type 1} → statement M
 put-day-spec =

@@ -20,17 +20,41 @@ slice-aggregate-put-2 : tie.Need-slice-aggregate-put-2
 slice-aggregate-put-2 c = search needs
 
 put-requires-2 : tie.Need-put-requires-2
-put-requires-2 c κs = omega (arith, c .before .before .before .before .put-bits .ensures .place, c .before .before .before .before .put-bits .kept .0, c .before .before .before .before .before .before .before .before .put .ensures .place, c .before .before .before .before .before .before .before .before .put .kept .0, length-bits (c .before .before .before .before .before .before .before .before .before .before .before .before .args .total .hours), c .before .before .before .before .before .before .before .before .before .before .before .before .pre)
+put-requires-2 c κs = omega (
+  arith,
+  c .before .before .before .before .put-bits .ensures .place,
+  c .before .before .before .before .put-bits .kept .0,
+  c .before .before .before .before .before .before .before .before .put .ensures .place,
+  c .before .before .before .before .before .before .before .before .put .kept .0,
+  length-bits (c .before .before .before .before .before .before .before .before .before .before .before .before .args .total .hours),
+  c .before .before .before .before .before .before .before .before .before .before .before .before .pre,
+)
 
 put-hours-requires : tie.Need-put-hours-requires
-put-hours-requires c κs = omega (arith, c .before .before .before .put2 .ensures .place, c .before .before .before .put2 .kept .0, c .before .before .before .before .before .before .before .before .put-bits .ensures .place, c .before .before .before .before .before .before .before .before .put-bits .kept .0, c .before .before .before .before .before .before .before .before .before .before .before .before .put .ensures .place, c .before .before .before .before .before .before .before .before .before .before .before .before .put .kept .0, length-bits (c .before .before .before .before .before .before .before .before .before .before .before .before .before .before .before .before .args .total .hours), c .before .before .before .before .before .before .before .before .before .before .before .before .before .before .before .before .pre)
+put-hours-requires c κs = omega (
+  arith,
+  c .before .before .before .put2 .ensures .place,
+  c .before .before .before .put2 .kept .0,
+  c .before .before .before .before .before .before .before .before .put-bits .ensures .place,
+  c .before .before .before .before .before .before .before .before .put-bits .kept .0,
+  c .before .before .before .before .before .before .before .before .before .before .before .before .put .ensures .place,
+  c .before .before .before .before .before .before .before .before .before .before .before .before .put .kept .0,
+  length-bits
+      (c .before .before .before .before .before .before .before .before .before .before .before .before .before .before .before .before .args .total .hours),
+  c .before .before .before .before .before .before .before .before .before .before .before .before .before .before .before .before .pre,
+)
 
 same-length : tie.Need-same-length
 same-length c = search needs
 
 returns : tie.Need-returns
 unfolding heading
-returns c = puts-then (puts-then (puts-then (c .before .before .before .before .before .before .before .before .before .before .before .before .before .before .before .put .ensures) (c .before .before .before .before .before .before .before .before .before .before .before .put-bits .ensures)) (c .before .before .before .before .before .before .put2 .ensures)) (c .before .before .put-hours .ensures)
+returns c =
+    puts-then
+    (puts-then
+    (puts-then (c .before .before .before .before .before .before .before .before .before .before .before .before .before .before .before .put .ensures)
+    (c .before .before .before .before .before .before .before .before .before .before .before .put-bits .ensures))
+    (c .before .before .before .before .before .before .put2 .ensures)) (c .before .before .put-hours .ensures)
 
 pub put-heading-spec : {M : Type 1} → statement M
 put-heading-spec =

@@ -14,7 +14,13 @@ slice-aggregate-put : tie.Need-slice-aggregate-put
 slice-aggregate-put c = search needs
 
 put-requires : tie.Need-put-requires
-put-requires c κs = omega (arith, c .before .before .before .before .put-bits .ensures .place, c .before .before .before .before .put-bits .kept .0, length-bits (c .before .before .before .before .before .before .before .args .x), c .before .before .before .before .before .before .before .pre)
+put-requires c κs = omega (
+  arith,
+  c .before .before .before .before .put-bits .ensures .place,
+  c .before .before .before .before .put-bits .kept .0,
+  length-bits (c .before .before .before .before .before .before .before .args .x),
+  c .before .before .before .before .before .before .before .pre,
+)
 
 same-length : tie.Need-same-length
 same-length c = search needs

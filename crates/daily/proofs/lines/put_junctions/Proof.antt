@@ -15,7 +15,8 @@ use Rattle.daily.proofs.lines.put_junctions.Statement.{statement}
 use Rattle.daily.proofs.lines.put_junctions.Tie as tie
 
 abbrev Inv-loop : tie.InvT-loop
-Inv-loop out₀ junctions place₀ i₀ out place i = (i ≤ length junctions) × (length out ≡ length out₀) × (place + 17 * (length junctions - i) ≤ length out₀) × Puts out₀ 0 (junction-lines (take i junctions)) out place
+Inv-loop out₀ junctions place₀ i₀ out place i = (i ≤ length junctions) × (length out ≡ length out₀) × (place + 17 * (length junctions - i) ≤ length out₀)
+    × Puts out₀ 0 (junction-lines (take i junctions)) out place
 
 abbrev μ-loop : tie.MeasureT-loop
 μ-loop out₀ junctions place₀ i₀ out place i = length junctions - i
@@ -31,7 +32,12 @@ shared-slice-read-put-junction : tie.Need-shared-slice-read-put-junction Inv-loo
 shared-slice-read-put-junction c = omega arith
 
 put-junction-requires : tie.Need-put-junction-requires Inv-loop μ-loop
-put-junction-requires c κs = omega (arith, c .before .before .before .loop .inv .1, c .before .before .before .loop .inv .2, c .before .before .loop-test .taken)
+put-junction-requires c κs = omega (
+  arith,
+  c .before .before .before .loop .inv .1,
+  c .before .before .before .loop .inv .2,
+  c .before .before .loop-test .taken,
+)
 
 add-i : tie.Need-add-i Inv-loop μ-loop
 add-i c = omega arith
@@ -56,7 +62,8 @@ same-length c = c .before .loop .inv .1
 
 returns : tie.Need-returns Inv-loop μ-loop
 returns c = let l = c .before .loop in
-    puts-same (ap (λ (xs : List Float). junction-lines xs) (take-all (l .i) (c .before .before .before .before .args .junctions .now) (c .loop-test .left))) (l .inv .3)
+    puts-same (ap (λ (xs : List Float). junction-lines xs) (take-all (l .i) (c .before .before .before .before .args .junctions .now) (c .loop-test .left)))
+    (l .inv .3)
 
 pub put-junctions-spec : {M : Type 1} → statement M
 put-junctions-spec =

@@ -20,14 +20,23 @@ slice-aggregate-put-count : tie.Need-slice-aggregate-put-count
 slice-aggregate-put-count c = search needs
 
 put-count-requires : tie.Need-put-count-requires
-put-count-requires c κs = omega (arith, c .before .before .before .before .put-decimal .ensures .place, c .before .before .before .before .put-decimal .kept .0, c .before .before .before .before .before .before .before .before .put .ensures .place, c .before .before .before .before .before .before .before .before .put .kept .0, length-decimal (c .before .before .before .before .before .before .before .before .before .before .before .before .args .minute), c .before .before .before .before .before .before .before .before .before .before .before .before .pre)
+put-count-requires c κs = omega (
+  arith,
+  c .before .before .before .before .put-decimal .ensures .place,
+  c .before .before .before .before .put-decimal .kept .0,
+  c .before .before .before .before .before .before .before .before .put .ensures .place,
+  c .before .before .before .before .before .before .before .before .put .kept .0,
+  length-decimal (c .before .before .before .before .before .before .before .before .before .before .before .before .args .minute),
+  c .before .before .before .before .before .before .before .before .before .before .before .before .pre,
+)
 
 same-length : tie.Need-same-length
 same-length c = search needs
 
 returns : tie.Need-returns
 unfolding refusal-line
-returns c = puts-then (puts-then (c .before .before .before .before .before .before .before .before .before .before .before .put .ensures) (c .before .before .before .before .before .before .before .put-decimal .ensures)) (c .before .before .put-count .ensures)
+returns c = puts-then (puts-then (c .before .before .before .before .before .before .before .before .before .before .before .put .ensures)
+    (c .before .before .before .before .before .before .before .put-decimal .ensures)) (c .before .before .put-count .ensures)
 
 pub put-refusal-spec : {M : Type 1} → statement M
 put-refusal-spec =

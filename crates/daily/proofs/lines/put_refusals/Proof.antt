@@ -15,7 +15,8 @@ use Rattle.daily.proofs.lines.put_refusals.Statement.{statement}
 use Rattle.daily.proofs.lines.put_refusals.Tie as tie
 
 abbrev Inv-loop : tie.InvT-loop
-Inv-loop out₀ at refusals place₀ i₀ out place i = (i ≤ length refusals) × (length out ≡ length out₀) × (place + 62 * (length refusals - i) ≤ length out₀) × Puts out₀ at (refusal-lines (listed 0 (take i refusals))) out place
+Inv-loop out₀ at refusals place₀ i₀ out place i = (i ≤ length refusals) × (length out ≡ length out₀) × (place + 62 * (length refusals - i) ≤ length out₀)
+    × Puts out₀ at (refusal-lines (listed 0 (take i refusals))) out place
 
 abbrev μ-loop : tie.MeasureT-loop
 μ-loop out₀ at refusals place₀ i₀ out place i = length refusals - i
@@ -31,7 +32,12 @@ shared-slice-read-put-if-refused : tie.Need-shared-slice-read-put-if-refused Inv
 shared-slice-read-put-if-refused c = omega arith
 
 put-if-refused-requires : tie.Need-put-if-refused-requires Inv-loop μ-loop
-put-if-refused-requires c κs = omega (arith, c .before .before .before .loop .inv .1, c .before .before .before .loop .inv .2, c .before .before .loop-test .taken)
+put-if-refused-requires c κs = omega (
+  arith,
+  c .before .before .before .loop .inv .1,
+  c .before .before .before .loop .inv .2,
+  c .before .before .loop-test .taken,
+)
 
 add-i : tie.Need-add-i Inv-loop μ-loop
 add-i c = omega arith
@@ -56,7 +62,8 @@ same-length c = c .before .loop .inv .1
 
 returns : tie.Need-returns Inv-loop μ-loop
 returns c = let l = c .before .loop in
-    puts-same (ap (λ (xs : List ℕ). refusal-lines (listed 0 xs)) (take-all (l .i) (c .before .before .before .before .args .refusals .now) (c .loop-test .left))) (l .inv .3)
+    puts-same (ap (λ (xs : List ℕ). refusal-lines (listed 0 xs)) (take-all (l .i) (c .before .before .before .before .args .refusals .now)
+    (c .loop-test .left))) (l .inv .3)
 
 pub put-refusals-spec : {M : Type 1} → statement M
 put-refusals-spec =

@@ -19,11 +19,13 @@ is-finite-requires-2 c κs = search needs
 
 returns-2 : tie.Need-returns-2
 unfolding good-times
-returns-2 c = go-on (passes (c .before .before .before .is-finite .ensures) (c .before .before .if1 .left)) (stop _ (fails (c .before .is-finite2 .ensures) (c .if2 .taken)))
+returns-2 c = go-on (passes (c .before .before .before .is-finite .ensures) (c .before .before .if1 .left))
+    (stop _ (fails (c .before .is-finite2 .ensures) (c .if2 .taken)))
 
 returns-3 : tie.Need-returns-3
 unfolding good-times ofBits eq ne
-returns-3 c = go-on (passes (c .before .before .before .before .is-finite .ensures) (c .before .before .before .if1 .left)) (go-on (passes (c .before .before .is-finite2 .ensures) (c .before .if2 .left)) refl)
+returns-3 c = go-on (passes (c .before .before .before .before .is-finite .ensures) (c .before .before .before .if1 .left))
+    (go-on (passes (c .before .before .is-finite2 .ensures) (c .before .if2 .left)) refl)
 
 pub good-times-spec : {M : Type 1} → statement M
 good-times-spec =

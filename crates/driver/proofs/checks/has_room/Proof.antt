@@ -21,11 +21,13 @@ room-requires-2 c κs = search needs
 
 returns-2 : tie.Need-returns-2
 unfolding has-room
-returns-2 c = go-on (passes (c .before .before .before .before .room .ensures) (c .before .before .before .if1 .left)) (put-to (sym (c .before .before .finishes .ensures) ∙ c .before .if2 .taken) (c .room2 .ensures))
+returns-2 c = go-on (passes (c .before .before .before .before .room .ensures) (c .before .before .before .if1 .left))
+    (put-to (sym (c .before .before .finishes .ensures) ∙ c .before .if2 .taken) (c .room2 .ensures))
 
 returns-3 : tie.Need-returns-3
 unfolding has-room
-returns-3 c = go-on (passes (c .before .before .before .room .ensures) (c .before .before .if1 .left)) (spared _ (sym (c .before .finishes .ensures) ∙ c .if2 .left))
+returns-3 c = go-on (passes (c .before .before .before .room .ensures) (c .before .before .if1 .left))
+    (spared _ (sym (c .before .finishes .ensures) ∙ c .if2 .left))
 
 pub has-room-spec : {M : Type 1} → statement M
 has-room-spec =

@@ -31,11 +31,13 @@ room-requires c κs = search needs
 returns : tie.Need-returns
 unfolding stage-taken
 returns c =
-    stop _ (fails (all-four (c .before .before .before .before .known .ensures) (c .before .before .before .sized .ensures) (c .before .before .in-stages .ensures) (c .before .room .ensures)) (c .if1 .taken))
+    stop _ (fails (all-four (c .before .before .before .before .known .ensures) (c .before .before .before .sized .ensures)
+    (c .before .before .in-stages .ensures) (c .before .room .ensures)) (c .if1 .taken))
 
 both-long-requires : tie.Need-both-long-requires
 both-long-requires c κs =
-    let f = four (c .before .before .before .before .known .result) (c .before .before .before .sized .result) (c .before .before .in-stages .result) (c .before .room .result) (not-false _ (c .if1 .left)) in
+    let f = four (c .before .before .before .before .known .result) (c .before .before .before .sized .result) (c .before .before .in-stages .result)
+    (c .before .room .result) (not-false _ (c .if1 .left)) in
     most _ (sym (c .before .before .before .sized .ensures) ∙ f .1)
 
 setting-of-requires : tie.Need-setting-of-requires
@@ -48,8 +50,11 @@ returns-2 : tie.Need-returns-2
 unfolding stage-taken
 returns-2 c =
     let d = c .before .before .before .before in
-    go-on (passes (all-four (d .before .before .before .before .known .ensures) (d .before .before .before .sized .ensures) (d .before .before .in-stages .ensures) (d .before .room .ensures)) (d .if1 .left))
-    (stop _ (fails (ap₂ _&&_ (c .before .before .before .both-long .ensures) (placed (c .before .before .before .before .before .before .before .before .before .before .before .args .«record») (c .before .good-stage .ensures) (c .before .before .setting-of .ensures))) (c .if2 .taken)))
+    go-on (passes (all-four (d .before .before .before .before .known .ensures) (d .before .before .before .sized .ensures)
+    (d .before .before .in-stages .ensures) (d .before .room .ensures)) (d .if1 .left))
+    (stop _ (fails (ap₂ _&&_ (c .before .before .before .both-long .ensures)
+    (placed (c .before .before .before .before .before .before .before .before .before .before .before .args .«record») (c .before .good-stage .ensures)
+    (c .before .before .setting-of .ensures))) (c .if2 .taken)))
 
 all-finite-requires : tie.Need-all-finite-requires
 all-finite-requires c κs = search needs
@@ -58,8 +63,11 @@ returns-3 : tie.Need-returns-3
 unfolding stage-taken
 returns-3 c =
     let d = c .before .before .before .before .before in
-    go-on (passes (all-four (d .before .before .before .before .known .ensures) (d .before .before .before .sized .ensures) (d .before .before .in-stages .ensures) (d .before .room .ensures)) (d .if1 .left))
-    (go-on (passes (ap₂ _&&_ (c .before .before .before .before .both-long .ensures) (placed (c .before .before .before .before .before .before .before .before .before .before .before .before .args .«record») (c .before .before .good-stage .ensures) (c .before .before .before .setting-of .ensures))) (c .before .if2 .left)) (c .all-finite .ensures))
+    go-on (passes (all-four (d .before .before .before .before .known .ensures) (d .before .before .before .sized .ensures)
+    (d .before .before .in-stages .ensures) (d .before .room .ensures)) (d .if1 .left))
+    (go-on (passes (ap₂ _&&_ (c .before .before .before .before .both-long .ensures)
+    (placed (c .before .before .before .before .before .before .before .before .before .before .before .before .args .«record»)
+    (c .before .before .good-stage .ensures) (c .before .before .before .setting-of .ensures))) (c .before .if2 .left)) (c .all-finite .ensures))
 
 pub stage-taken-spec : {M : Type 1} → statement M
 stage-taken-spec =

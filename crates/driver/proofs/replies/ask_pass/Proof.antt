@@ -23,7 +23,9 @@ returns c =
     record {
       answer = says refl;
       kept = refl;
-      vectors = c .before .before .perturb .ensures .vectors ∙ ap (λ (m : Float). perturbed-by (r .n) (r .iteration .perturbation) m (unpack (r .n) (a .area .now))) (c .before .before .before .before .before .pre .1);
+      vectors = c .before .before .perturb .ensures .vectors
+          ∙ ap (λ (m : Float). perturbed-by (r .n) (r .iteration .perturbation) m (unpack (r .n) (a .area .now)))
+          (c .before .before .before .before .before .pre .1);
     }
 
 pub ask-pass-spec : {M : Type 1} → statement M

@@ -35,15 +35,19 @@ returns : tie.Need-returns
 unfolding begin-stages
 returns c =
     let a = c .before .before .before .before .before .before .before .before .before .before .args in
-    let need = c .before .before .before .before .before .before .before .stage-need .ensures ∙ ap (λ (m : Setting). stage-need m (a .scaled-radius)) (c .before .before .before .before .before .before .before .before .setting-of .ensures) in
-    as-step (ap (λ (y : Need). by-need y (a .«record») (unpack (a .«record» .n) (a .area .now)) (a .scaled-radius)) (sym (c .before .before .before .before .before .need .given .1) ∙ need)) (c .before .before .first-stage .ensures)
+    let need = c .before .before .before .before .before .before .before .stage-need .ensures
+    ∙ ap (λ (m : Setting). stage-need m (a .scaled-radius)) (c .before .before .before .before .before .before .before .before .setting-of .ensures) in
+    as-step (ap (λ (y : Need). by-need y (a .«record») (unpack (a .«record» .n) (a .area .now)) (a .scaled-radius))
+    (sym (c .before .before .before .before .before .need .given .1) ∙ need)) (c .before .before .first-stage .ensures)
 
 returns-2 : tie.Need-returns-2
 unfolding begin-stages by-need
 returns-2 c =
     let a = c .before .before .before .before .before .before .before .args in
-    let need = c .before .before .before .before .stage-need .ensures ∙ ap (λ (m : Setting). stage-need m (a .scaled-radius)) (c .before .before .before .before .before .setting-of .ensures) in
-    as-step (ap (λ (y : Need). by-need y (a .«record») (unpack (a .«record» .n) (a .area .now)) (a .scaled-radius)) (sym (c .before .before .need2 .given .1) ∙ need))
+    let need = c .before .before .before .before .stage-need .ensures
+    ∙ ap (λ (m : Setting). stage-need m (a .scaled-radius)) (c .before .before .before .before .before .setting-of .ensures) in
+    as-step (ap (λ (y : Need). by-need y (a .«record») (unpack (a .«record» .n) (a .area .now)) (a .scaled-radius))
+    (sym (c .before .before .need2 .given .1) ∙ need))
     (record { answer = says refl; kept = c .in-phase .ensures; vectors = refl })
 
 pub begin-stages-spec : {M : Type 1} → statement M

@@ -31,8 +31,10 @@ same-length c = search needs
 returns : tie.Need-returns
 returns c =
     let a = c .before .before .before .before .before .before .before .before .before .before .args in
-    let row = c .before .before .before .before .before .before .before .first-recurrence .ensures ∙ ap (λ (m : Setting). recurrence m (a .stages)) (c .before .before .before .before .before .before .before .before .setting-of .ensures) in
-    begun (a .«record») _ (a .scaled-radius) (a .stages) row (c .before .before .with-radius .ensures) (c .before .at-stage .ensures) (c .before .before .before .before .before .first-stage .ensures .vectors) (c .ask-stage .ensures _)
+    let row = c .before .before .before .before .before .before .before .first-recurrence .ensures
+    ∙ ap (λ (m : Setting). recurrence m (a .stages)) (c .before .before .before .before .before .before .before .before .setting-of .ensures) in
+    begun (a .«record») _ (a .scaled-radius) (a .stages) row (c .before .before .with-radius .ensures) (c .before .at-stage .ensures)
+    (c .before .before .before .before .before .first-stage .ensures .vectors) (c .ask-stage .ensures _)
 
 pub first-stage-spec : {M : Type 1} → statement M
 first-stage-spec =

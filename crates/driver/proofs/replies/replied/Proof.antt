@@ -17,7 +17,8 @@ enum-told c = search needs
 
 take-pass-requires : tie.Need-take-pass-requires
 take-pass-requires c κs =
-    let s = pass-in _ (ap (λ (p : Phase). in-range p (c .before .before .before .before .before .args .«record»)) (sym (c .before .enum-told .given .1)) ∙ c .before .before .before .before .before .pre .1 .1 .0) in
+    let s = pass-in _ (ap (λ (p : Phase). in-range p (c .before .before .before .before .before .args .«record»)) (sym (c .before .enum-told .given .1))
+    ∙ c .before .before .before .before .before .pre .1 .1 .0) in
     (c .before .before .before .before .before .pre .0, (c .before .before .before .before .before .pre .1 .0, s))
 
 enum-told-2 : tie.Need-enum-told-2
@@ -43,7 +44,8 @@ unfolding replied
 returns c =
     let a = c .before .before .before .before .before .before .before .before .args in
     let r = a .«record» in
-    as-step (ap (λ (p : Phase). replied p r (unpack (r .n) (a .area .now)) (a .derivative .now)) (sym (c .before .before .before .before .enum-told .given .1))) (c .before .before .take-pass .ensures)
+    as-step (ap (λ (p : Phase). replied p r (unpack (r .n) (a .area .now)) (a .derivative .now)) (sym (c .before .before .before .before .enum-told .given .1)))
+    (c .before .before .take-pass .ensures)
 
 same-length-2 : tie.Need-same-length-2
 same-length-2 c = search needs
@@ -53,7 +55,8 @@ unfolding replied
 returns-2 c =
     let a = c .before .before .before .before .before .before .before .before .args in
     let r = a .«record» in
-    as-step (ap (λ (p : Phase). replied p r (unpack (r .n) (a .area .now)) (a .derivative .now)) (sym (c .before .before .before .before .enum-told2 .given .1))) (c .before .before .take-candidate .ensures)
+    as-step (ap (λ (p : Phase). replied p r (unpack (r .n) (a .area .now)) (a .derivative .now))
+    (sym (c .before .before .before .before .enum-told2 .given .1))) (c .before .before .take-candidate .ensures)
 
 same-length-3 : tie.Need-same-length-3
 same-length-3 c = search needs
@@ -63,7 +66,8 @@ unfolding replied
 returns-3 c =
     let a = c .before .before .before .before .before .before .before .before .args in
     let r = a .«record» in
-    as-step (ap (λ (p : Phase). replied p r (unpack (r .n) (a .area .now)) (a .derivative .now)) (sym (c .before .before .before .before .enum-told3 .given .1))) (c .before .before .take-callback .ensures)
+    as-step (ap (λ (p : Phase). replied p r (unpack (r .n) (a .area .now)) (a .derivative .now))
+    (sym (c .before .before .before .before .enum-told3 .given .1))) (c .before .before .take-callback .ensures)
 
 same-length-4 : tie.Need-same-length-4
 same-length-4 c = search needs
@@ -72,7 +76,9 @@ returns-4 : tie.Need-returns-4
 returns-4 c =
     let a = c .before .before .before .before .before .before .before .args in
     let r = a .«record» in
-    as-step (ap (λ (take : Record → Vectors → List Float → Step). take r (unpack (r .n) (a .area .now)) (a .derivative .now)) (alike (r .phase) (c .before .before .before .before .before .before .before .pre .1 .1 .1) (c .before .before .before .before .match .keys4))) (c .before .before .take-first .ensures)
+    as-step (ap (λ (take : Record → Vectors → List Float → Step). take r (unpack (r .n) (a .area .now)) (a .derivative .now))
+    (alike (r .phase) (c .before .before .before .before .before .before .before .pre .1 .1 .1) (c .before .before .before .before .match .keys4)))
+    (c .before .before .take-first .ensures)
 
 pub replied-spec : {M : Type 1} → statement M
 replied-spec =

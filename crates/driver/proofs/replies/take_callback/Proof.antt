@@ -26,7 +26,13 @@ returns : tie.Need-returns
 unfolding take-callback ofBits
 returns c =
     let n = c .before .before .before .before .before .before .before .before .before .before .before .args .«record» .n in
-    record { answer = says refl; kept = c .in-phase .ensures; vectors = c .before .before .before .fill-vector .ensures .vectors ∙ ap (λ (v : Vectors). v with eigenvector ≔ replicate n nought) (c .before .before .before .before .before .before .before .put-vector .ensures .vectors) }
+    record {
+      answer = says refl;
+      kept = c .in-phase .ensures;
+      vectors = c .before .before .before .fill-vector .ensures .vectors
+          ∙ ap (λ (v : Vectors). v with eigenvector ≔ replicate n nought)
+          (c .before .before .before .before .before .before .before .put-vector .ensures .vectors);
+    }
 
 pub take-callback-spec : {M : Type 1} → statement M
 take-callback-spec =

@@ -13,10 +13,12 @@ use Rattle.driver.proofs.replies.take_candidate.Statement.{statement}
 use Rattle.driver.proofs.replies.take_candidate.Tie as tie
 
 -- the norm of the definition, from that of the code's setting and vectors
-finished : (r : Record) {m : Setting} {norm : Float} {v w : Vectors} → m ≡ setting-of r → norm ≡ error-norm m (r .n) (r .staging .stages) (r .arguments) v → v ≡ w
+finished : (r : Record) {m : Setting} {norm : Float} {v w : Vectors} → m ≡ setting-of r
+    → norm ≡ error-norm m (r .n) (r .staging .stages) (r .arguments) v → v ≡ w
     → norm ≡ error-norm (setting-of r) (r .n) (r .staging .stages) (r .arguments) w
 finished r {v = v} e f g =
-    f ∙ ap (λ (m : Setting). error-norm m (r .n) (r .staging .stages) (r .arguments) v) e ∙ ap (error-norm (setting-of r) (r .n) (r .staging .stages) (r .arguments)) g
+    f ∙ ap (λ (m : Setting). error-norm m (r .n) (r .staging .stages) (r .arguments) v) e
+    ∙ ap (error-norm (setting-of r) (r .n) (r .staging .stages) (r .arguments)) g
 
 setting-of-requires : tie.Need-setting-of-requires
 setting-of-requires c κs = search needs
@@ -40,7 +42,8 @@ returns c =
     let r = a .«record» in
     let e = c .before .before .before .before .before .before .before .before .setting-of .ensures in
     let v = unpack (r .n) (a .area .now) in
-    let last = c .before .before .before .before .before .last .ensures .vectors ∙ ap (λ (m : Setting). with-last m (r .n) (r .arguments) v (a .derivative .now)) e in
+    let last = c .before .before .before .before .before .last .ensures .vectors
+    ∙ ap (λ (m : Setting). with-last m (r .n) (r .arguments) v (a .derivative .now)) e in
     record {
       answer = says (ap (λ (norm : Float). Finished (figures-of norm)) (finished r e (c .before .error-norm .ensures) last));
       kept = c .in-phase .ensures;

@@ -35,7 +35,11 @@ unfolding radius-of
 returns c =
     let a = c .before .before .before .before .before .before .before .before .before .before .before .before .before .before .before .args in
     let r = a .«record» in
-    iterated r (unpack (r .n) (a .area .now)) (a .derivative .now) _ _ (c .before .before .before .before .before .before .before .before .before .before .before .turn .ensures .vectors) (ap (λ (m : Float). m ⊘ r .iteration .perturbation) (c .before .before .before .before .before .before .before .direction-norm .ensures)) (c .before .before .before .before .before .before .last-pass .ensures) (c .before .before .before .before .before .if1 .taken) (c .before .before .before .before .scaled-radius .ensures) (c .before .before .begin-stages .ensures)
+    iterated r (unpack (r .n) (a .area .now)) (a .derivative .now) _ _
+    (c .before .before .before .before .before .before .before .before .before .before .before .turn .ensures .vectors)
+    (ap (λ (m : Float). m ⊘ r .iteration .perturbation) (c .before .before .before .before .before .before .before .direction-norm .ensures))
+    (c .before .before .before .before .before .before .last-pass .ensures) (c .before .before .before .before .before .if1 .taken)
+    (c .before .before .before .before .scaled-radius .ensures) (c .before .before .begin-stages .ensures)
 
 add-at-pass : tie.Need-add-at-pass
 add-at-pass c = search needs
@@ -46,8 +50,17 @@ at-pass-requires c κs = search needs
 ask-pass-requires : tie.Need-ask-pass-requires
 unfolding at-pass
 ask-pass-requires c κs =
-    let n : c .before .at-pass .result .n ≡ c .before .before .before .before .before .before .before .before .before .before .before .before .before .args .«record» .n = ap (λ (y : Record). y .n) (c .before .at-pass .ensures) in
-    rw n (omega (arith, c .before .before .before .before .before .before .before .before .before .before .before .before .before .pre .0, c .before .before .before .before .before .before .before .before .area .given), c .before .before .before .before .before .direction-norm .ensures)
+    let n : c .before .at-pass .result .n
+    ≡ c .before .before .before .before .before .before .before .before .before .before .before .before .before .args .«record» .n =
+    ap (λ (y : Record). y .n) (c .before .at-pass .ensures) in
+    rw n (
+      omega (
+        arith,
+        c .before .before .before .before .before .before .before .before .before .before .before .before .before .pre .0,
+        c .before .before .before .before .before .before .before .before .area .given,
+      ),
+      c .before .before .before .before .before .direction-norm .ensures,
+    )
 
 same-length-2 : tie.Need-same-length-2
 same-length-2 c = search needs
@@ -58,7 +71,10 @@ returns-2 c =
     let a = c .before .before .before .before .before .before .before .before .before .before .before .before .before .before .before .before .args in
     let r = a .«record» in
     let on = c .before .before .before .before .at-pass .ensures in
-    iterates r (unpack (r .n) (a .area .now)) (a .derivative .now) _ _ (c .before .before .before .before .before .before .before .before .before .before .before .before .turn .ensures .vectors) (ap (λ (m : Float). m ⊘ r .iteration .perturbation) (c .before .before .before .before .before .before .before .before .direction-norm .ensures)) (c .before .before .before .before .before .before .before .last-pass .ensures) (c .before .before .before .before .before .before .if1 .left) on
+    iterates r (unpack (r .n) (a .area .now)) (a .derivative .now) _ _
+    (c .before .before .before .before .before .before .before .before .before .before .before .before .turn .ensures .vectors)
+    (ap (λ (m : Float). m ⊘ r .iteration .perturbation) (c .before .before .before .before .before .before .before .before .direction-norm .ensures))
+    (c .before .before .before .before .before .before .before .last-pass .ensures) (c .before .before .before .before .before .before .if1 .left) on
     (measured _ _ _ (ap (λ (y : Record). y .n) on) (c .before .before .ask-pass .ensures))
 
 pub take-pass-spec : {M : Type 1} → statement M

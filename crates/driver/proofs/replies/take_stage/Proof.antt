@@ -31,7 +31,9 @@ returns c =
     let r = a .«record» in
     let both = c .before .before .before .before .before .before .before .before .before .row-and-recurrence .ensures in
     let exchanged = c .before .before .before .before .before .row-and-exchange .ensures .vectors in
-    stages-on r (unpack (r .n) (a .area .now)) (a .derivative .now) (c .before .before .before .before .before .before .before .before .before .before .before .setting-of .ensures) (both .0) (c .before .before .before .before .before .before .before .if1 .taken) exchanged (both .1) refl
+    stages-on r (unpack (r .n) (a .area .now)) (a .derivative .now)
+    (c .before .before .before .before .before .before .before .before .before .before .before .setting-of .ensures) (both .0)
+    (c .before .before .before .before .before .before .before .if1 .taken) exchanged (both .1) refl
     (record { answer = says refl; kept = refl; vectors = refl })
 
 row-requires : tie.Need-row-requires
@@ -48,22 +50,35 @@ same-length-2 c = search needs
 
 returns-2 : tie.Need-returns-2
 returns-2 c =
-    let a = c .before .before .before .before .before .before .before .before .before .before .before .before .before .before .before .before .before .before .before .args in
+    let a =
+    c .before .before .before .before .before .before .before .before .before .before .before .before .before .before .before .before .before .before
+    .before .args in
     let r = a .«record» in
-    let row = c .before .before .before .before .before .before .before .before .before .before .before .before .before .before .row-and-recurrence .ensures .0 in
+    let row =
+    c .before .before .before .before .before .before .before .before .before .before .before .before .before .before .row-and-recurrence .ensures .0 in
     let asked = candidate-asked r _ (c .before .before .finite-vector .ensures) (c .before .if2 .taken) in
-    stages-end r (unpack (r .n) (a .area .now)) (a .derivative .now) (c .before .before .before .before .before .before .before .before .before .before .before .before .before .before .before .before .setting-of .ensures) row (c .before .before .before .before .before .before .before .before .before .before .before .before .if1 .left) (c .before .before .before .before .before .before .before .before .before .before .row2 .ensures .vectors) (c .before .before .before .before .before .before .keep-candidate .ensures .vectors) asked
+    stages-end r (unpack (r .n) (a .area .now)) (a .derivative .now)
+    (c .before .before .before .before .before .before .before .before .before .before .before .before .before .before .before .before .setting-of .ensures)
+    row (c .before .before .before .before .before .before .before .before .before .before .before .before .if1 .left)
+    (c .before .before .before .before .before .before .before .before .before .before .row2 .ensures .vectors)
+    (c .before .before .before .before .before .before .keep-candidate .ensures .vectors) asked
 
 same-length-3 : tie.Need-same-length-3
 same-length-3 c = search needs
 
 returns-3 : tie.Need-returns-3
 returns-3 c =
-    let a = c .before .before .before .before .before .before .before .before .before .before .before .before .before .before .before .before .before .before .args in
+    let a =
+    c .before .before .before .before .before .before .before .before .before .before .before .before .before .before .before .before .before .before .args
+    in
     let r = a .«record» in
     let row = c .before .before .before .before .before .before .before .before .before .before .before .before .before .row-and-recurrence .ensures .0 in
     let refused = candidate-refused r _ (c .before .finite-vector .ensures) (c .if2 .left) in
-    stages-end r (unpack (r .n) (a .area .now)) (a .derivative .now) (c .before .before .before .before .before .before .before .before .before .before .before .before .before .before .before .setting-of .ensures) row (c .before .before .before .before .before .before .before .before .before .before .before .if1 .left) (c .before .before .before .before .before .before .before .before .before .row2 .ensures .vectors) (c .before .before .before .before .before .keep-candidate .ensures .vectors) refused
+    stages-end r (unpack (r .n) (a .area .now)) (a .derivative .now)
+    (c .before .before .before .before .before .before .before .before .before .before .before .before .before .before .before .setting-of .ensures) row
+    (c .before .before .before .before .before .before .before .before .before .before .before .if1 .left)
+    (c .before .before .before .before .before .before .before .before .before .row2 .ensures .vectors)
+    (c .before .before .before .before .before .keep-candidate .ensures .vectors) refused
 
 pub take-stage-spec : {M : Type 1} → statement M
 take-stage-spec =

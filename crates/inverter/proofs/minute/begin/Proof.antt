@@ -30,7 +30,8 @@ returns c = let s = c .before .before .before .before .before .before .before .b
     let h = holding (s .args .«record») (s .args .counters) (s .args .area .now) in
     ap (λ (r : Replied). given r (c .before .before .before .accept .last .1 .0)) (c .with-counters .ensures)
     ∙ met (c .before .before .before .accept .ensures (s .args .counters))
-    ∙ accepted (s .args .m) (s .args .minute) h (sym (c .before .before .before .before .before .before .may-accept .ensures) ∙ c .before .before .before .before .before .if1 .taken)
+    ∙ accepted (s .args .m) (s .args .minute) h (sym (c .before .before .before .before .before .before .may-accept .ensures)
+    ∙ c .before .before .before .before .before .if1 .taken)
 
 read-vector-requires : tie.Need-read-vector-requires
 read-vector-requires c κs = search needs
@@ -56,9 +57,12 @@ returns-2 c = let s = c .before .before .before .before .before .before .before 
     let h = holding (s .args .«record») (s .args .counters) (s .args .area .now) in
     ap (λ (r : Replied). given r (c .before .before .before .start .last .1 .0)) (c .with-counters2 .ensures)
     ∙ met (c .before .before .before .start .ensures (s .args .counters))
-    ∙ ap (λ (y : List Float). start h (m .family) (m .n) y (c .before .before .before .before .time-of .result)) (c .before .before .before .before .before .before .before .before .before .read-vector .ensures)
+    ∙ ap (λ (y : List Float). start h (m .family) (m .n) y (c .before .before .before .before .time-of .result))
+    (c .before .before .before .before .before .before .before .before .before .read-vector .ensures)
     ∙ ap (λ (t : Float). start h (m .family) (m .n) (unpack (m .n) (s .args .area .now) state) t) (c .before .before .before .before .time-of .ensures)
-    ∙ started m (s .args .minute) h (sym (c .before .before .before .before .before .before .before .before .before .before .before .before .before .may-accept .ensures) ∙ c .before .before .before .before .before .before .before .before .before .before .before .before .if1 .left)
+    ∙ started m (s .args .minute) h
+    (sym (c .before .before .before .before .before .before .before .before .before .before .before .before .before .may-accept .ensures)
+    ∙ c .before .before .before .before .before .before .before .before .before .before .before .before .if1 .left)
 
 pub begin-spec : {M : Type 1} → statement M
 begin-spec =

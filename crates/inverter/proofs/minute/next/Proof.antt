@@ -22,7 +22,8 @@ reading-at-requires : tie.Need-reading-at-requires
 reading-at-requires c κs = search needs
 
 rates-at-requires : tie.Need-rates-at-requires
-rates-at-requires c κs = let p = c .before .before .before .before .before .before .before .before .before .before .pre in (p .0, (p .1 .0, asked-vector (c .before .before .before .before .answer .given .1) (p .1 .1 .1)))
+rates-at-requires c κs = let p = c .before .before .before .before .before .before .before .before .before .before .pre in
+    (p .0, (p .1 .0, asked-vector (c .before .before .before .before .answer .given .1) (p .1 .1 .1)))
 
 reply-requires : tie.Need-reply-requires
 reply-requires c κs = search needs
@@ -55,14 +56,17 @@ same-length-2 : tie.Need-same-length-2
 same-length-2 c = search needs
 
 returns : tie.Need-returns
-returns c = let s = c .before .before .before .before .before .before .before .before .before .before .before .before .before .before .before .before .before .before in
+returns c = let s =
+    c .before .before .before .before .before .before .before .before .before .before .before .before .before .before .before .before .before .before in
     let m = s .args .m in
     let h = holding (s .args .reply .«record») (s .args .reply .counters) (s .args .area .now) in
     let v = c .before .before .before .before .before .before .before .before .before .before .before .before .answer .given .0 .1 .0 in
     met (c .before .before .reply .ensures)
     ∙ ap (λ (d : List Float). reply h d) (c .before .before .before .before .before .before .before .rates-at .ensures)
-    ∙ ap (λ (x : Float). reply h (rates m (unpack (m .n) (h .area) (named v)) x)) (c .before .before .before .before .before .before .before .before .before .before .reading-at .ensures)
-    ∙ next-reply m (s .args .minute) (s .args .reading) (s .args .upcoming) h (c .before .before .before .before .before .before .before .before .before .before .before .before .answer .given .1)
+    ∙ ap (λ (x : Float). reply h (rates m (unpack (m .n) (h .area) (named v)) x))
+    (c .before .before .before .before .before .before .before .before .before .before .reading-at .ensures)
+    ∙ next-reply m (s .args .minute) (s .args .reading) (s .args .upcoming) h
+    (c .before .before .before .before .before .before .before .before .before .before .before .before .answer .given .1)
 
 same-length-3 : tie.Need-same-length-3
 same-length-3 c = search needs
@@ -73,7 +77,8 @@ returns-2 c = let s = c .before .before .before .before .before .before .before 
     ap (λ (r : Replied). given r (c .before .before .before .attempt .last .1 .0)) (c .with-counters .ensures)
     ∙ met (c .before .before .before .attempt .ensures (s .args .reply .counters))
     ∙ ap (λ (a : Arguments). attempt h a) (c .before .before .before .before .arguments .ensures)
-    ∙ next-attempt (s .args .m) (s .args .minute) (s .args .reading) (s .args .upcoming) h (c .before .before .before .before .before .before .enum-told .given .1)
+    ∙ next-attempt (s .args .m) (s .args .minute) (s .args .reading) (s .args .upcoming) h
+    (c .before .before .before .before .before .before .enum-told .given .1)
 
 returns-3 : tie.Need-returns-3
 unfolding asks-nothing

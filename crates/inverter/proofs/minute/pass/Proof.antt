@@ -24,8 +24,14 @@ begin-requires c κs = c .before .before .before .before .pre
 loop-holds : tie.Need-loop-holds Inv-loop μ-loop
 loop-holds c = let s = c .before .before .before .before .before .before .before .before .before in
     let b = c .before .before .before .before .begin in
-    let f = begun-follows (s .args .m) (s .args .minute) (holding (s .args .«record») (s .args .counters) (s .args .area .now)) in
-    (omega (arith, b .kept .1 .1 .1 .0, s .pre .0), b .kept .1 .1 .1 .1 .0 ∙ s .pre .1 .0, s .pre .1 .1, refl, subst (Follows most-calls) (sym (b .ensures)) f, refl)
+    let f = begun-follows (s .args .m) (s .args .minute) (holding (s .args .«record») (s .args .counters) (s .args .area .now)) in (
+      omega (arith, b .kept .1 .1 .1 .0, s .pre .0),
+      b .kept .1 .1 .1 .1 .0 ∙ s .pre .1 .0,
+      s .pre .1 .1,
+      refl,
+      subst (Follows most-calls) (sym (b .ensures)) f,
+      refl,
+    )
 
 asks-nothing-requires : tie.Need-asks-nothing-requires Inv-loop μ-loop
 asks-nothing-requires c κs = tt
@@ -34,16 +40,19 @@ same-length : tie.Need-same-length Inv-loop μ-loop
 same-length c = c .before .before .before .loop .inv .3 ∙ c .before .before .before .before .before .before .before .before .begin .kept .1 .1 .1 .0
 
 same-length-2 : tie.Need-same-length-2 Inv-loop μ-loop
-same-length-2 c = c .before .before .before .loop .inv .1 ∙ sym (c .before .before .before .before .before .before .before .before .before .before .before .before .before .pre .1 .0)
+same-length-2 c = c .before .before .before .loop .inv .1
+    ∙ sym (c .before .before .before .before .before .before .before .before .before .before .before .before .before .pre .1 .0)
 
 returns : tie.Need-returns Inv-loop μ-loop
 unfolding passed
 returns c = let a = c .before .before .before .before .before .before .before .before .before .before .before .before .before .args in
     let l = c .before .before .before .loop in
     sym
-    (ap (driven (a .m) (a .minute) (a .reading) (a .upcoming) most-calls) (sym (c .before .before .before .before .before .before .before .before .begin .ensures))
+    (ap (driven (a .m) (a .minute) (a .reading) (a .upcoming) most-calls)
+    (sym (c .before .before .before .before .before .before .before .before .begin .ensures))
     ∙ l .inv .5
-    ∙ driven-stays (a .m) (a .minute) (a .reading) (a .upcoming) (l .left) (given (l .reply) (l .area)) (sym (c .before .asks-nothing .ensures) ∙ c .if1 .taken))
+    ∙ driven-stays (a .m) (a .minute) (a .reading) (a .upcoming) (l .left) (given (l .reply) (l .area)) (sym (c .before .asks-nothing .ensures)
+    ∙ c .if1 .taken))
 
 next-requires : tie.Need-next-requires Inv-loop μ-loop
 next-requires c κs = let l = c .before .before .before .before .before .loop in (l .inv .0, (l .inv .1, (l .inv .2, asked-below _ _ _ (l .inv .4))))
@@ -55,7 +64,9 @@ loop-less : tie.Need-loop-less Inv-loop μ-loop
 loop-less c = omega arith
 
 loop-again : tie.Need-loop-again Inv-loop μ-loop
-loop-again c = let a = c .before .before .before .before .before .before .before .before .before .before .before .before .before .before .before .before .before .before .before .before .args in
+loop-again c = let a =
+    c .before .before .before .before .before .before .before .before .before .before .before .before .before .before .before .before .before .before .before
+    .before .args in
     let l = c .before .before .before .before .before .before .before .before .before .before .loop in
     let n = c .before .before .before .before .next in
     let r = given (l .reply) (l .area) in

@@ -28,7 +28,12 @@ add-t14 c = omega (arith, c .before .one-if2 .ensures, one-most (not (eqb (c .be
 
 returns : tie.Need-returns
 unfolding count-after
-returns c = rw (c .before .before .before .before .one-if .ensures, c .before .before .before .before .before .is-above .ensures, c .before .one-if2 .ensures, c .before .before .refusal .ensures)
+returns c = rw (
+  c .before .before .before .before .one-if .ensures,
+  c .before .before .before .before .before .is-above .ensures,
+  c .before .one-if2 .ensures,
+  c .before .before .refusal .ensures,
+)
 
 pub count-after-spec : {M : Type 1} → statement M
 count-after-spec =

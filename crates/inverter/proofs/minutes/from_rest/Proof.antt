@@ -38,14 +38,17 @@ same-length-4 : tie.Need-same-length-4
 same-length-4 c = search needs
 
 returns : tie.Need-returns
-returns c = let s = c .before .before .before .before .before .before .before .before .before .before .before .before .before .before .before .before .before .before .before .before .before .before in
+returns c = let s =
+    c .before .before .before .before .before .before .before .before .before .before .before .before .before .before .before .before .before .before .before
+    .before .before .before in
     let m = s .args .m in
     let f = c .before .before .before .before .before .before .before .before .before .before .before .before .before .before .before .fill-vector in
     let r = c .before .before .before .before .before .before .before .before .run in
     let l : length (s .args .area .now) ≡ area-size m = ap length (s .pre .1 .0) ∙ length-replicate (area-size m) nought in
     let e = f .ensures .vectors ∙ ap (λ (a : List Float). unpack (m .n) a with state ≔ replicate (m .n) (m .initial)) (s .pre .1 .0) in
     let q = outset-area m (f .last .0) (f .kept .0 ∙ l) e in
-    subst (λ (a : List Float). Gives-total (run m 0 (s .args .readings .now) (outset a)) (r .result) (r .last .1 .1 .1 .1 .0) (r .last .1 .1 .1 .1 .1 .0)) q (r .ensures)
+    subst (λ (a : List Float). Gives-total (run m 0 (s .args .readings .now) (outset a)) (r .result) (r .last .1 .1 .1 .1 .0) (r .last .1 .1 .1 .1 .1 .0))
+    q (r .ensures)
 
 pub from-rest-spec : {M : Type 1} → statement M
 from-rest-spec =

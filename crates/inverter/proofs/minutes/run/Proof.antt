@@ -135,8 +135,13 @@ same-length-4 c = c .before .before .loop .inv .5 ∙ sym (c .before .before .be
 returns : tie.Need-returns Inv-loop μ-loop
 returns c = let a = c .before .before .before .before .before .before .before .before .before .args in
     let l = c .before .before .loop in
-    let e = l .inv .8 ∙ minutes-end (a .m) (a .readings .now) (l .i) (l .count) (l .area) (l .refusals) (l .junctions) (c .before .loop-test .left) (l .inv .4) (l .inv .5) in
-    record { totals = c .total .ensures ∙ sym (ap total e); numbers = sym (ap (λ (t : So-far). t .refusals) e); temperatures = sym (ap (λ (t : So-far). t .junctions) e) }
+    let e = l .inv .8 ∙ minutes-end (a .m) (a .readings .now) (l .i) (l .count) (l .area) (l .refusals) (l .junctions) (c .before .loop-test .left) (l .inv .4)
+    (l .inv .5) in
+    record {
+      totals = c .total .ensures ∙ sym (ap total e);
+      numbers = sym (ap (λ (t : So-far). t .refusals) e);
+      temperatures = sym (ap (λ (t : So-far). t .junctions) e);
+    }
 
 pub run-spec : {M : Type 1} → statement M
 run-spec =

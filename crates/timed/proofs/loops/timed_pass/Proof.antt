@@ -30,9 +30,14 @@ unfolding perturbed
 returns c =
     let a = c .before .before .before .before .before .before .before .before .before .before .before .before .before .before .before .args in
     let turned = c .before .before .before .before .before .before .before .before .turn in
-    ran (c .before .before .before .before .before .before .before .before .before .before .before .before .if1 .taken, c .before .before .before .before .before .before .before .before .before .before .before .if2 .taken, c .before .before .before .before .before .before .before .before .before .before .if3 .taken)
+    ran (
+      c .before .before .before .before .before .before .before .before .before .before .before .before .if1 .taken,
+      c .before .before .before .before .before .before .before .before .before .before .before .if2 .taken,
+      c .before .before .before .before .before .before .before .before .before .before .if3 .taken,
+    )
     (becomes-then {g = perturbed (a .n) (a .perturbation)} (turned .ensures)
-    (becomes-as (c .before .before .perturb .ensures) (ap (λ (m : Float). perturbed-by (a .n) (a .perturbation) m (unpack (a .n) (turned .last .0))) (c .before .before .before .before .direction-norm .ensures))))
+    (becomes-as (c .before .before .perturb .ensures) (ap (λ (m : Float). perturbed-by (a .n) (a .perturbation) m (unpack (a .n) (turned .last .0)))
+    (c .before .before .before .before .direction-norm .ensures))))
 
 returns-2 : tie.Need-returns-2
 returns-2 c = passed-by (λ h. c .if3 .left (h .2))

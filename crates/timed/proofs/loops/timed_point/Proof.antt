@@ -27,7 +27,8 @@ unfolding perturbed
 returns c =
     let a = c .before .before .before .before .before .before .before .before .before .args in
     ran (c .before .before .before .before .before .before .before .if1 .taken, c .before .before .before .before .before .before .if2 .taken)
-    (becomes-as (c .before .before .perturb .ensures) (ap (λ (m : Float). perturbed-by (a .n) (a .perturbation) m (unpack (a .n) (a .area .now))) (c .before .before .before .before .direction-norm .ensures)))
+    (becomes-as (c .before .before .perturb .ensures) (ap (λ (m : Float). perturbed-by (a .n) (a .perturbation) m (unpack (a .n) (a .area .now)))
+    (c .before .before .before .before .direction-norm .ensures)))
 
 returns-2 : tie.Need-returns-2
 returns-2 c = passed-by (λ h. omega (arith, c .if2 .left, h .1))

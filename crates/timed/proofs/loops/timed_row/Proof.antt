@@ -17,7 +17,11 @@ same-length c = search needs
 
 returns : tie.Need-returns
 unfolding ofBits
-returns c = ran (c .before .before .before .before .before .before .if1 .taken, c .before .before .before .before .before .if2 .taken, c .before .before .before .before .if3 .taken) (c .before .before .row-and-exchange .ensures)
+returns c = ran (
+  c .before .before .before .before .before .before .if1 .taken,
+  c .before .before .before .before .before .if2 .taken,
+  c .before .before .before .before .if3 .taken,
+) (c .before .before .row-and-exchange .ensures)
 
 returns-2 : tie.Need-returns-2
 returns-2 c = passed-by (λ h. c .if3 .left (h .2))

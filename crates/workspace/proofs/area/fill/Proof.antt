@@ -33,7 +33,8 @@ loop-again : tie.Need-loop-again Inv-loop μ-loop
 loop-again c =
     let d = c .before .before .args .to .now in
     let h : c .before .loop .i < length d = omega arith in
-    front-turn _ (c .before .loop .inv) (omega (arith, length-replicate (length d) (c .before .before .args .x))) (sym (getD-replicate (length d) (c .before .loop .i) _ nan h))
+    front-turn _ (c .before .loop .inv) (omega (arith, length-replicate (length d) (c .before .before .args .x)))
+    (sym (getD-replicate (length d) (c .before .loop .i) _ nan h))
 
 same-length : tie.Need-same-length Inv-loop μ-loop
 same-length c = omega arith

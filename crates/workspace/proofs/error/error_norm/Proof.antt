@@ -23,7 +23,14 @@ divisor-requires c κs = search needs
 
 returns : tie.Need-returns
 unfolding error-norm scaled-error-norm root-of-squares
-returns c = rw (c .divisor .ensures, c .before .error-form .ensures, c .before .before .root-of .ensures, c .before .before .before .double-of .ensures, c .before .before .before .before .sum-of-scaled .ensures, c .before .before .before .before .before .if1 .taken)
+returns c = rw (
+  c .divisor .ensures,
+  c .before .error-form .ensures,
+  c .before .before .root-of .ensures,
+  c .before .before .before .double-of .ensures,
+  c .before .before .before .before .sum-of-scaled .ensures,
+  c .before .before .before .before .before .if1 .taken,
+)
 
 returns-2 : tie.Need-returns-2
 unfolding error-norm ofBits

@@ -51,7 +51,11 @@ shared-slice-read-result c = search needs
 
 returns : tie.Need-returns
 unfolding scaled-error
-returns c = rw (c .before .before .before .max .ensures, c .before .before .before .before .abs2 .ensures, c .before .before .before .before .before .before .abs .ensures)
+returns c = rw (
+  c .before .before .before .max .ensures,
+  c .before .before .before .before .abs2 .ensures,
+  c .before .before .before .before .before .before .abs .ensures,
+)
 
 pub scaled-error-at-spec : {M : Type 1} → statement M
 scaled-error-at-spec =

@@ -42,7 +42,11 @@ unfolding ofBits
 returns c =
     let a = c .before .before .before .before .before .before .before .before .before .before .before .before .before .args in (
       becomes-as (c .before .before .before .before .fill-vector .ensures)
-          (chosen (a .n) (unpack (a .n) (a .area .now)) true true (small (c .before .before .before .before .before .before .before .before .before .before .direction-norm .ensures) (c .before .before .before .before .before .before .before .before .before .if1 .taken)) (small (c .before .before .before .before .before .before .before .norm-of .ensures) (c .before .before .before .before .before .before .if2 .taken))),
+          (chosen (a .n) (unpack (a .n) (a .area .now)) true true
+          (small (c .before .before .before .before .before .before .before .before .before .before .direction-norm .ensures)
+          (c .before .before .before .before .before .before .before .before .before .if1 .taken))
+          (small (c .before .before .before .before .before .before .before .norm-of .ensures)
+          (c .before .before .before .before .before .before .if2 .taken))),
       c .direction-norm2 .ensures,
     )
 
@@ -58,7 +62,9 @@ returns-2 c =
     let first = c .before .before .before .before .before .norm-of .ensures in
     let moved = c .before .before .copy-vector .ensures in (
       becomes-as moved
-          (chosen (a .n) (unpack (a .n) (a .area .now)) true false (small (c .before .before .before .before .before .before .before .before .direction-norm .ensures) (c .before .before .before .before .before .before .before .if1 .taken)) (small first (c .before .before .before .before .if2 .left))),
+          (chosen (a .n) (unpack (a .n) (a .area .now)) true false
+          (small (c .before .before .before .before .before .before .before .before .direction-norm .ensures)
+          (c .before .before .before .before .before .before .before .if1 .taken)) (small first (c .before .before .before .before .if2 .left))),
       first ∙ sym (ap (λ (v : Vectors). vector-norm (v eigenvector)) (moved .vectors)),
     )
 

@@ -24,7 +24,12 @@ max-requires c κs = search needs
 
 returns-3 : tie.Need-returns-3
 unfolding ended nearest ofBits round
-returns-3 c = rw (c .max .ensures, c .before .abs .ensures, c .before .before .before .if1 .left, lt-ltb 1 (c .before .before .before .before .args .pass) (omega arith))
+returns-3 c = rw (
+  c .max .ensures,
+  c .before .abs .ensures,
+  c .before .before .before .if1 .left,
+  lt-ltb 1 (c .before .before .before .before .args .pass) (omega arith),
+)
 
 pub iteration-ended-spec : {M : Type 1} → statement M
 iteration-ended-spec = tie.close (tie.spec returns returns-2 abs-requires max-requires returns-3)

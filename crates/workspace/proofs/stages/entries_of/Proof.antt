@@ -37,9 +37,12 @@ entry-of-requires-4 c κs = search needs
 returns : tie.Need-returns
 returns c =
     let a = c .before .before .before .before .before .before .before .before .args in
-    four-cases (λ u. (v : Vector → Float) → Reads (picked (a .one) (a .two) (a .initial) (a .slope) (a .first) u) v → element _ u ≡ entry-in (a .form) (a .step) (a .c) v)
-    (λ v r. c .before .before .before .entry-of .ensures v (subst (λ (e : Entries). Reads e v) (sym (c .before .before .before .before .before .before .before .gather .ensures)) r))
-    (λ v r. c .before .before .entry-of2 .ensures v (subst (λ (e : Entries). Reads e v) (sym (c .before .before .before .before .before .before .gather2 .ensures)) r))
+    four-cases (λ u. (v : Vector → Float) → Reads (picked (a .one) (a .two) (a .initial) (a .slope) (a .first) u) v
+    → element _ u ≡ entry-in (a .form) (a .step) (a .c) v)
+    (λ v r. c .before .before .before .entry-of .ensures v
+    (subst (λ (e : Entries). Reads e v) (sym (c .before .before .before .before .before .before .before .gather .ensures)) r))
+    (λ v r. c .before .before .entry-of2 .ensures v
+    (subst (λ (e : Entries). Reads e v) (sym (c .before .before .before .before .before .before .gather2 .ensures)) r))
     (λ v r. c .before .entry-of3 .ensures v (subst (λ (e : Entries). Reads e v) (sym (c .before .before .before .before .before .gather3 .ensures)) r))
     (λ v r. c .entry-of4 .ensures v (subst (λ (e : Entries). Reads e v) (sym (c .before .before .before .before .gather4 .ensures)) r))
 

@@ -46,7 +46,8 @@ returns : tie.Need-returns
 unfolding Holds
 returns c =
     let x = c .before .before .before .before .args in
-    four-cases (λ u. element _ u ≡ getD (x .v .now) (x .p + u) nan) (sym (ap (λ (q : ℕ). getD (x .v .now) q nan) (let e : x .p + 0 ≡ x .p = omega arith in e))) refl refl refl
+    four-cases (λ u. element _ u ≡ getD (x .v .now) (x .p + u) nan) (sym (ap (λ (q : ℕ). getD (x .v .now) q nan) (let e : x .p + 0 ≡ x .p = omega arith in e)))
+    refl refl refl
 
 pub four-at-spec : {M : Type 1} → statement M
 four-at-spec =

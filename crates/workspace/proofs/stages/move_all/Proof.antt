@@ -13,7 +13,8 @@ use Rattle.workspace.proofs.stages.move_all.Statement.{statement}
 use Rattle.workspace.proofs.stages.move_all.Tie as tie
 
 abbrev Inv-loop : tie.InvT-loop
-Inv-loop ten₀ n form c step d short i₀ ten i = Taking derivative d n ten₀ (exchange-rules (entry-in form step c)) ten i × (length ten₀ ≡ 10 * n) × (length d ≡ n) × (short ≤ n)
+Inv-loop ten₀ n form c step d short i₀ ten i = Taking derivative d n ten₀ (exchange-rules (entry-in form step c)) ten i × (length ten₀ ≡ 10 * n)
+    × (length d ≡ n) × (short ≤ n)
 
 abbrev μ-loop : tie.MeasureT-loop
 μ-loop ten₀ n form c step d short i₀ ten i = n - i

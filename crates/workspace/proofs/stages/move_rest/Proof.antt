@@ -33,8 +33,13 @@ loop-less c = omega arith
 loop-again : tie.Need-loop-again Inv-loop μ-loop
 loop-again c =
     let r = c .before .before .before .before .before .loop .inv in
-    let m = c .before .before .move-one .ensures in
-    (moved-next _ _ _ _ _ _ _ _ (r .1) (c .before .before .before .before .loop-test .taken) (r .0) m, omega arith, omega arith, moved-length _ _ _ _ _ _ _ m ∙ r .3, r .4)
+    let m = c .before .before .move-one .ensures in (
+      moved-next _ _ _ _ _ _ _ _ (r .1) (c .before .before .before .before .loop-test .taken) (r .0) m,
+      omega arith,
+      omega arith,
+      moved-length _ _ _ _ _ _ _ m ∙ r .3,
+      r .4,
+    )
 
 same-length : tie.Need-same-length Inv-loop μ-loop
 same-length c = omega arith

@@ -26,7 +26,8 @@ returns : tie.Need-returns
 returns c =
     let x = c .before .before .before .before .before .before .before .before .args in
     c .before .before .move-all .ensures
-    ∙ ap (λ (f : RowForm). exchanged (with-row-in f (x .n) (x .step) (x .c) (unpack (x .n) (x .ten .now)) (x .derivative .now))) (sym (c .before .before .before .before .enum-told .given .1))
+    ∙ ap (λ (f : RowForm). exchanged (with-row-in f (x .n) (x .step) (x .c) (unpack (x .n) (x .ten .now)) (x .derivative .now)))
+    (sym (c .before .before .before .before .enum-told .given .1))
 
 same-length-2 : tie.Need-same-length-2
 same-length-2 c = search needs
@@ -35,7 +36,8 @@ returns-2 : tie.Need-returns-2
 returns-2 c =
     let x = c .before .before .before .before .before .before .before .before .args in
     c .before .before .move-all2 .ensures
-    ∙ ap (λ (f : RowForm). exchanged (with-row-in f (x .n) (x .step) (x .c) (unpack (x .n) (x .ten .now)) (x .derivative .now))) (sym (c .before .before .before .before .enum-told2 .given .1))
+    ∙ ap (λ (f : RowForm). exchanged (with-row-in f (x .n) (x .step) (x .c) (unpack (x .n) (x .ten .now)) (x .derivative .now)))
+    (sym (c .before .before .before .before .enum-told2 .given .1))
 
 pub row-and-exchange-in-spec : {M : Type 1} → statement M
 row-and-exchange-in-spec =
