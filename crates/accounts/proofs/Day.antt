@@ -19,7 +19,7 @@ use Rattle.sheet.specs.Text.{minutes-a-day}
 use Rattle.sheet.proofs.Soundness.{day-minutes}
 use Rattle.inverter.specs.declared.Total.{Total}
 use Rattle.inverter.specs.declared.DayResult.the-variants.{Day}
-use Rattle.inverter.specs.Day.{one-if, whole-minute, upcoming, finished, junction, is-above, refusal, count-after, end-of, So-far, held, with-minute, run}
+use Rattle.inverter.specs.Day.{one-if, whole-minute, upcoming, finished, junction, is-above, refusal, minute-counted, end-of, So-far, held, with-minute, run}
 use Rattle.inverter.specs.Day.{no-count, outset, first-area, total-of, total, reported, day, Reports}
 use Rattle.inverter.proofs.Run.{one-most}
 use Rattle.accounts.specs.Accounts.{Acceptable, Ended, Completed, Given-up, Kept-out, listed, Rising, Numbered, Accounts}
@@ -50,7 +50,7 @@ above-none f b e = ap (λ (x : Bool). one-if (x && b)) e
 with-finished : (m : Inverter) (k : ℕ) (c : Called) (t : So-far) → refusal (c .answer) ≡ 0
     → c .held .counters .«finished_attempts» ≡ t .count .counters .«finished_attempts» + 1 → Acceptable (c .held)
     → After k t → After (k + 1) (with-minute m c t)
-unfolding with-minute count-after is-above
+unfolding with-minute minute-counted is-above
 with-finished m k c t z n o a =
     let x = refusal (c .answer) in
     let temperature = junction m (c .held .kept .phase) (c .held .area) in
@@ -71,7 +71,7 @@ with-finished m k c t z n o a =
 with-refused : (m : Inverter) (k : ℕ) (c : Called) (t : So-far) → finished (c .answer) ≡ false → refusal (c .answer) ∈ refusal-numbers
     → c .held .counters .«finished_attempts» ≡ t .count .counters .«finished_attempts» → Acceptable (c .held)
     → After k t → After (k + 1) (with-minute m c t)
-unfolding with-minute count-after is-above
+unfolding with-minute minute-counted is-above
 with-refused m k c t f l n o a =
     let x = refusal (c .answer) in
     let temperature = junction m (c .held .kept .phase) (c .held .area) in

@@ -17,7 +17,8 @@ use Rattle.sheet.specs.Text as Text
 use Rattle.inverter.specs.declared.Total.{Total}
 use Rattle.inverter.specs.declared.DayResult.{DayResult}
 use Rattle.inverter.specs.declared.DayResult.the-variants.{Day}
-use Rattle.inverter.specs.Day.{whole-minute, upcoming, junction, refusal, count-after, So-far, held, with-minute, run, no-count, outset, first-area, total-of}
+use Rattle.inverter.specs.Day.{whole-minute, upcoming, junction, refusal, minute-counted, So-far, held, with-minute, run, no-count, outset, first-area}
+use Rattle.inverter.specs.Day.{total-of}
 use Rattle.inverter.specs.Day.{total, reported, day, Reports}
 use Rattle.inverter.specs.Finite.{kept-out}
 use Rattle.inverter.proofs.Finite.{kept-out-minute, left-by-finite, above-by-finite}
@@ -84,7 +85,7 @@ module _ (m : Inverter) where
   -- the junction of minute i + 1 from here on
   junction-there : (minute : ℕ) (readings : List Float) (t : So-far) (i p : ℕ) → p ≡ length (t .junctions) + i → i + 1 < length readings
       → finite (getD readings (i + 1) nan) ≡ false → getD (run m minute readings t .junctions) (p + 1) nan ≡ getD (run m minute readings t .junctions) p nan
-  unfolding run with-minute count-after kept-out
+  unfolding run with-minute minute-counted kept-out
   junction-there minute [] t i p q h e = absurd (omega arith)
   junction-there minute (reading ∷ []) t i p q h e = absurd (omega arith)
   junction-there minute (reading ∷ next ∷ readings) t zero p q h e =

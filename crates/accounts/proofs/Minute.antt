@@ -210,9 +210,9 @@ module _ (m : Inverter) (minute : ℕ) where
     driven-stands n (suc k) c s = driven-stands n k (next m minute reading upcoming c) (on n (c .answer) (c .held) s)
 
     -- the last answer, which asks for no call
-    last : (h : Held) (c : Called) (a : Answer) → finite reading ≡ true → c .answer ≡ a → day.asks-nothing a ≡ true
+    last : (h : Held) (c : Called) (a : Answer) → finite reading ≡ true → c .answer ≡ a → day.asks-no-call a ≡ true
         → Stand (h .counters .«finished_attempts») a (c .held) → Ended reading h c × Acceptable (c .held)
-    unfolding Stand day.asks-nothing finished refusal
+    unfolding Stand day.asks-no-call finished refusal
     last h c (Evaluate time vector) r e g s = absurd (false≢true g)
     last h c (Finished figures) r e g s = (Completed r (ap finished e) (ap refusal e) (s .1) (s .0), λ q. s .2)
     last h c Ready r e g s = absurd (false≢true g)

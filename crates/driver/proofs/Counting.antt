@@ -42,17 +42,17 @@ answer-of (suc (suc (suc zero))) x = Ready
 answer-of (suc (suc (suc (suc zero)))) x = Refused (getD (x .numbers) 0 0)
 answer-of (suc (suc (suc (suc (suc k))))) x = Empty
 
-same-answer : (a : Answer) → answer-of (case-number a) (case-values a) ≡ a
+answer-told : (a : Answer) → answer-of (case-number a) (case-values a) ≡ a
 unfolding answer-of case-number case-values
-same-answer (Evaluate t b) = refl
-same-answer (Finished figures) = refl
-same-answer Ready = refl
-same-answer (Refused i) = refl
-same-answer Empty = refl
+answer-told (Evaluate t b) = refl
+answer-told (Finished figures) = refl
+answer-told Ready = refl
+answer-told (Refused i) = refl
+answer-told Empty = refl
 
 -- so `Same-answer` leaves nothing of an answer open
 pub said : {a b : Answer} → Same-answer a b → a ≡ b
-said {a} {b} s = sym (same-answer a) ∙ ap₂ answer-of (s .same-case) (s .same-values) ∙ same-answer b
+said {a} {b} s = sym (answer-told a) ∙ ap₂ answer-of (s .same-case) (s .same-values) ∙ answer-told b
 
 -- ---- a step that does not finish an attempt
 

@@ -11,7 +11,7 @@ use Rattle.driver.specs.declared.Answer.the-variants.{Evaluate, Finished, Ready
 use Rattle.driver.specs.Calls.{Held, Called, may-accept, start, attempt, reply, accept}
 use Rattle.heat_sink.specs.declared.Inverter.{Inverter}
 use Rattle.heat_sink.specs.Model.{rates}
-use Rattle.inverter.specs.Day.{time-of, arguments, called, begun, reading-at, go-on, next, driven, passed, whole-minute, asked, asks-nothing}
+use Rattle.inverter.specs.Day.{time-of, arguments, called, begun, reading-at, go-on, next, driven, passed, whole-minute, asked, asks-no-call}
 
 pub asked-vector : {a : Answer} {time : Float} {vector : ℕ} → a ≡ Evaluate time vector → asked a < 11 → vector < 11
 unfolding asked
@@ -40,19 +40,19 @@ module _ (m : Inverter) (minute : ℕ) (reading upcoming : Float) where
   unfolding next go-on
   next-attempt h e = ap (λ (x : Answer). go-on m minute reading upcoming x h) (sym e)
 
-  stays : (a : Answer) (h : Held) → asks-nothing a ≡ true → go-on m minute reading upcoming a h ≡ called a h
-  unfolding go-on asks-nothing
+  stays : (a : Answer) (h : Held) → asks-no-call a ≡ true → go-on m minute reading upcoming a h ≡ called a h
+  unfolding go-on asks-no-call
   stays (Evaluate time vector) h e = absurd (false≢true e)
   stays (Finished figures) h e = refl
   stays Ready h e = absurd (false≢true e)
   stays (Refused number) h e = refl
   stays Empty h e = refl
 
-  pub next-stays : (c : Called) → asks-nothing (c .answer) ≡ true → next m minute reading upcoming c ≡ c
+  pub next-stays : (c : Called) → asks-no-call (c .answer) ≡ true → next m minute reading upcoming c ≡ c
   unfolding next
   next-stays c e = stays (c .answer) (c .held) e
 
-  pub driven-stays : (k : ℕ) (c : Called) → asks-nothing (c .answer) ≡ true → driven m minute reading upcoming k c ≡ c
+  pub driven-stays : (k : ℕ) (c : Called) → asks-no-call (c .answer) ≡ true → driven m minute reading upcoming k c ≡ c
   unfolding driven
   driven-stays zero c e = refl
   driven-stays (suc k) c e = ap (driven m minute reading upcoming k) (next-stays c e) ∙ driven-stays k c e

@@ -29,7 +29,7 @@ use Rattle.driver.proofs.Sizes.{both}
 use Rattle.driver.proofs.Ladder.{Passing, each-passes, by-tests}
 use Rattle.driver.proofs.Ranges.{pass-in, need-most}
 use Rattle.heat_sink.specs.declared.Inverter.{Inverter}
-use Rattle.inverter.specs.Day.{begun, go-on, next, driven, asks-nothing, asked, passed, time-of, most-calls}
+use Rattle.inverter.specs.Day.{begun, go-on, next, driven, asks-no-call, asked, passed, time-of, most-calls}
 
 -- the most calls that follow an evaluation in this phase, its reply included
 unfoldable pub calls-left : Phase → Record → ℕ
@@ -225,20 +225,20 @@ module _ (m : Inverter) (minute : ℕ) where
     some-left P.Finished r = omega arith
     some-left P.Callback r = omega arith
 
-    none-left : (a : Answer) (r : Record) → Follow 0 a r → asks-nothing a ≡ true
-    unfolding Follow asks-nothing
+    none-left : (a : Answer) (r : Record) → Follow 0 a r → asks-no-call a ≡ true
+    unfolding Follow asks-no-call
     none-left (Evaluate time vector) r f = absurd (omega (arith, some-left (r .phase) r, f .1))
     none-left (Finished figures) r f = refl
     none-left Ready r f = absurd (omega arith)
     none-left (Refused number) r f = refl
     none-left Empty r f = refl
 
-    driven-ends : (k : ℕ) (c : Called) → Follows k c → asks-nothing (driven m minute reading upcoming k c .answer) ≡ true
+    driven-ends : (k : ℕ) (c : Called) → Follows k c → asks-no-call (driven m minute reading upcoming k c .answer) ≡ true
     unfolding driven
     driven-ends zero c f = none-left (c .answer) (c .held .kept) f
     driven-ends (suc k) c f = driven-ends k (next m minute reading upcoming c) (next-follows k c f)
 
     -- the calls that a minute may take are enough
-    pub ends : (h : Held) → asks-nothing (passed m minute reading upcoming h .answer) ≡ true
+    pub ends : (h : Held) → asks-no-call (passed m minute reading upcoming h .answer) ≡ true
     unfolding passed
     ends h = driven-ends most-calls (begun m minute h) (begun-follows h)

@@ -14,7 +14,7 @@ use Rattle.workspace.specs.Vectors.{number, candidate}
 use Rattle.driver.specs.Calls.{Called}
 use Rattle.heat_sink.specs.declared.Inverter.{Inverter}
 use Rattle.inverter.specs.declared.Count.{Count}
-use Rattle.inverter.specs.Day.{reading-at, passed, whole-minute, upcoming, finished, junction, is-above, refusal, count-after, So-far, so-far, held}
+use Rattle.inverter.specs.Day.{reading-at, passed, whole-minute, upcoming, finished, junction, is-above, refusal, minute-counted, So-far, so-far, held}
 use Rattle.inverter.specs.Day.{with-minute, run}
 use Rattle.inverter.specs.Finite.{kept-out, Entering, entering-with, entering, next-reading, left-by, above-at, above-by}
 use Rattle.inverter.proofs.Calls.{minute-finite, minute-not-finite}
@@ -22,7 +22,7 @@ use Rattle.inverter.proofs.Calls.{minute-finite, minute-not-finite}
 module _ (m : Inverter) (minute : ℕ) (reading after : Float) where
   -- a minute whose reading is not finite
   pub kept-out-minute : (t : So-far) → finite reading ≡ false → with-minute m (whole-minute m minute reading after (held t)) t ≡ kept-out m t
-  unfolding with-minute count-after is-above finished refusal kept-out
+  unfolding with-minute minute-counted is-above finished refusal kept-out
   kept-out-minute t e =
       let n = t .count in
       let count : ℕ → Count = λ above. record { «record» = n .«record»; counters = n .counters; above = above; refused = n .refused + 1 } in
@@ -65,7 +65,7 @@ next-upcoming minute reading (after ∷ readings) = go (finite after) (next-upco
 -- the engine after a day's minutes
 pub left-by-finite : (m : Inverter) (minute : ℕ) (readings : List Float) (t : So-far)
     → held (run m minute readings t) ≡ left-by m (entering minute readings) (held t)
-unfolding run with-minute count-after entering left-by
+unfolding run with-minute minute-counted entering left-by
 left-by-finite m minute [] t = refl
 left-by-finite m minute (reading ∷ readings) t =
     let c = whole-minute m minute reading (upcoming reading readings) (held t) in
@@ -85,7 +85,7 @@ left-by-finite m minute (reading ∷ readings) t =
 -- and the minutes above
 pub above-by-finite : (m : Inverter) (minute : ℕ) (readings : List Float) (t : So-far)
     → run m minute readings t .count .above ≡ t .count .above + above-by m (entering minute readings) (held t)
-unfolding run with-minute count-after entering above-by is-above finished
+unfolding run with-minute minute-counted entering above-by is-above finished
 above-by-finite m minute [] t = omega arith
 above-by-finite m minute (reading ∷ readings) t =
     let c = whole-minute m minute reading (upcoming reading readings) (held t) in

@@ -20,7 +20,7 @@ use Rattle.heat_sink.specs.declared.Inverter.{Inverter}
 use Rattle.inverter.specs.declared.Count.{Count}
 use Rattle.inverter.specs.declared.Total.{Total}
 use Rattle.inverter.specs.declared.DayResult.the-variants.{Day, Malformed}
-use Rattle.inverter.specs.Day.{one-if, whole-minute, upcoming, junction, is-above, refusal, count-after, end-of, so-far, held, with-minute, run}
+use Rattle.inverter.specs.Day.{one-if, whole-minute, upcoming, junction, is-above, refusal, minute-counted, end-of, so-far, held, with-minute, run}
 use Rattle.inverter.specs.Day.{first-area, outset, Gives-total, Reports, reported, day}
 use Rattle.sheet.specs.Text as Text
 
@@ -29,12 +29,12 @@ one-most true = omega arith
 one-most false = omega arith
 
 -- a minute more counts at most one more
-pub above-most : (m : Inverter) (e : Replied) (x : Float) (t : Count) (i : ℕ) → t .above ≤ i → count-after m e x t .above ≤ i + 1
-unfolding count-after
+pub above-most : (m : Inverter) (e : Replied) (x : Float) (t : Count) (i : ℕ) → t .above ≤ i → minute-counted m e x t .above ≤ i + 1
+unfolding minute-counted
 above-most m e x t i h = omega (arith, one-most (is-above m (e .answer) x))
 
-pub refused-most : (m : Inverter) (e : Replied) (x : Float) (t : Count) (i : ℕ) → t .refused ≤ i → count-after m e x t .refused ≤ i + 1
-unfolding count-after
+pub refused-most : (m : Inverter) (e : Replied) (x : Float) (t : Count) (i : ℕ) → t .refused ≤ i → minute-counted m e x t .refused ≤ i + 1
+unfolding minute-counted
 refused-most m e x t i h = omega (arith, one-most (not (eqb (refusal (e .answer)) 0)))
 
 -- the junction: the first temperature of the candidate, or of the kept state
@@ -83,7 +83,7 @@ module _ (m : Inverter) (readings : List Float) (i : ℕ) (count : Count) (area 
       → after ≡ upcoming (getD readings i nan) (drop (i + 1) readings)
       → end ≡ whole-minute m i (getD readings i nan) after (holding (count .«record») (count .counters) area)
       → number ≡ refusal (end .answer) → temperature ≡ junction m (end .held .kept .phase) (end .held .area)
-      → count′ ≡ count-after m (end-of end) temperature count
+      → count′ ≡ minute-counted m (end-of end) temperature count
       → run m i (drop i readings) (so-far count area (take i refusals) (take i junctions))
       ≡ run m (i + 1) (drop (i + 1) readings) (so-far count′ (end .held .area) (take (i + 1) (set refusals i number))
       (take (i + 1) (set junctions i temperature)))
@@ -96,7 +96,8 @@ module _ (m : Inverter) (readings : List Float) (i : ℕ) (count : Count) (area 
       ∙ ap (λ (k : ℕ). run m (i + 1) (drop k readings) (with-minute m (whole-minute m i here (upcoming here (drop k readings)) (held t)) t)) (sym (add-one i))
       ∙ ap (λ (x : Float). run m (i + 1) rest (with-minute m (whole-minute m i here x (held t)) t)) (sym u)
       ∙ ap (λ (c : Called). run m (i + 1) rest (with-minute m c t)) (sym e)
-      ∙ ap (λ (x : Float). run m (i + 1) rest (so-far (count-after m (end-of end) x count) (end .held .area) (take i refusals ++ (refusal (end .answer) ∷ []))
+      ∙ ap (λ (x : Float). run m (i + 1) rest (so-far (minute-counted m (end-of end) x count) (end .held .area) (take i refusals
+      ++ (refusal (end .answer) ∷ []))
       (take i junctions ++ (x ∷ [])))) (sym j)
       ∙ ap (λ (c : Count). run m (i + 1) rest (so-far c (end .held .area) (take i refusals ++ (refusal (end .answer) ∷ [])) (take i junctions
       ++ (temperature ∷ [])))) (sym f)

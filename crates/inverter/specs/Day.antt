@@ -111,8 +111,8 @@ abbrev pub one-if : Bool → ℕ
 one-if b = cond b 1 0
 
 -- one more minute, its last answer, record and counters, and its junction temperature
-unfoldable pub count-after : Inverter → Replied → Float → Count → Count
-count-after m end temperature t = record {
+unfoldable pub minute-counted : Inverter → Replied → Float → Count → Count
+minute-counted m end temperature t = record {
   «record» = end .«record»;
   counters = end .counters;
   above = t .above + one-if (is-above m (end .answer) temperature);
@@ -137,7 +137,7 @@ end-of c = record { answer = c .answer; «record» = c .held .kept; counters = c
 
 unfoldable pub with-minute : Inverter → Called → So-far → So-far
 with-minute m c t = let temperature = junction m (c .held .kept .phase) (c .held .area) in
-    so-far (count-after m (end-of c) temperature (t .count)) (c .held .area) (t .refusals ++ (refusal (c .answer) ∷ [])) (t .junctions ++ (temperature ∷ []))
+    so-far (minute-counted m (end-of c) temperature (t .count)) (c .held .area) (t .refusals ++ (refusal (c .answer) ∷ [])) (t .junctions ++ (temperature ∷ []))
 
 unfoldable pub run : Inverter → ℕ → List Float → So-far → So-far
 run m minute [] t = t
@@ -218,9 +218,9 @@ asked (Refused number) = 0
 asked Empty = 0
 
 -- whether it asks for no call
-unfoldable pub asks-nothing : Answer → Bool
-asks-nothing (Evaluate time vector) = false
-asks-nothing (Finished figures) = true
-asks-nothing Ready = false
-asks-nothing (Refused number) = true
-asks-nothing Empty = true
+unfoldable pub asks-no-call : Answer → Bool
+asks-no-call (Evaluate time vector) = false
+asks-no-call (Finished figures) = true
+asks-no-call Ready = false
+asks-no-call (Refused number) = true
+asks-no-call Empty = true

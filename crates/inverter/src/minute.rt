@@ -144,8 +144,8 @@ fn next(
 }
 
 // Whether an answer asks for no call.
-fn asks_nothing(answer: Answer) -> bool
-    ensures { λ r. ⌜ r ≡ spec.asks-nothing answer ⌝ }
+fn asks_no_call(answer: Answer) -> bool
+    ensures { λ r. ⌜ r ≡ spec.asks-no-call answer ⌝ }
 {
     match answer {
         Answer::Evaluate { time: _, vector: _ } => false,
@@ -179,7 +179,7 @@ fn pass(
     let mut left: u64 = MOST_CALLS;
     while 0 < left {
         let answer = reply.answer;
-        if asks_nothing(answer) {
+        if asks_no_call(answer) {
             return reply;
         }
         reply = next(m, reply, area, scratch, reading, upcoming, minute);

@@ -82,9 +82,9 @@ fn outset() -> Count
 }
 
 // A minute's end counted.
-fn count_after(m: Inverter, end: Replied, junction: f64, count: Count) -> Count
+fn minute_counted(m: Inverter, end: Replied, junction: f64, count: Count) -> Count
     requires { ⌜ (count .above < 1440) × (count .refused < 1440) ⌝ }
-    ensures { λ r. ⌜ r ≡ spec.count-after m end junction count ⌝ }
+    ensures { λ r. ⌜ r ≡ spec.minute-counted m end junction count ⌝ }
 {
     let record = end.record;
     let counters = end.counters;
@@ -164,7 +164,7 @@ fn run(
         let temperature = junction(m, phase, area);
         refusals[i] = refusal(answer);
         junctions[i] = temperature;
-        count = count_after(m, end, temperature, count);
+        count = minute_counted(m, end, temperature, count);
         i += 1;
     }
     total(count)

@@ -21,9 +21,9 @@ pub stood : (before : Record) (adaptive : ℕ) (after : Kept) {told a : Answer} 
     → record { answer = told; «record» = before } ≡ handed-back before adaptive a after
 stood before adaptive after e t u = by-test before adaptive after e (sym u ∙ t)
 
-pub moved : (before : Record) (adaptive : ℕ) (after : Kept) {told a : Answer} {b : Bool} {r : Record} → told ≡ a → b ≡ stands told → b ≡ false
+pub was-written : (before : Record) (adaptive : ℕ) (after : Kept) {told a : Answer} {b : Bool} {r : Record} → told ≡ a → b ≡ stands told → b ≡ false
     → r ≡ written adaptive after → record { answer = told; «record» = r } ≡ handed-back before adaptive a after
-moved before adaptive after {told} e t u w = ap (with-record told) w ∙ by-test before adaptive after e (sym u ∙ t)
+was-written before adaptive after {told} e t u w = ap (with-record told) w ∙ by-test before adaptive after e (sym u ∙ t)
 
 pub of-case : (before : Record) {x y : Staged} {given : Answered} → x ≡ y → given ≡ staged-outcome before y → given ≡ staged-outcome before x
 of-case before e h = h ∙ ap (λ (v : Staged). staged-outcome before v) (sym e)

@@ -13,14 +13,14 @@ past k h = rw (lt-leb k 8 h, differs 0 tt, differs 1 tt, differs 2 tt, differs 3
     differs : (i : ℕ) → T (leb i 8) → eqb k i ≡ false
     differs i l = ne-eqb k i (λ e. omega (arith, leb→le i 8 l))
 
-pub in-range : (k : ℕ) → (not (eqb k 0) && leb k 8) ≡ one-of standing-numbers k
-in-range zero = refl
-in-range (suc zero) = refl
-in-range (suc (suc zero)) = refl
-in-range (suc (suc (suc zero))) = refl
-in-range (suc (suc (suc (suc zero)))) = refl
-in-range (suc (suc (suc (suc (suc zero))))) = refl
-in-range (suc (suc (suc (suc (suc (suc zero)))))) = refl
-in-range (suc (suc (suc (suc (suc (suc (suc zero))))))) = refl
-in-range (suc (suc (suc (suc (suc (suc (suc (suc zero)))))))) = refl
-in-range (suc (suc (suc (suc (suc (suc (suc (suc (suc k))))))))) = past (suc (suc (suc (suc (suc (suc (suc (suc (suc k))))))))) (omega arith)
+pub one-to-eight : (k : ℕ) → (not (eqb k 0) && leb k 8) ≡ one-of standing-numbers k
+one-to-eight zero = refl
+one-to-eight (suc zero) = refl
+one-to-eight (suc (suc zero)) = refl
+one-to-eight (suc (suc (suc zero))) = refl
+one-to-eight (suc (suc (suc (suc zero)))) = refl
+one-to-eight (suc (suc (suc (suc (suc zero))))) = refl
+one-to-eight (suc (suc (suc (suc (suc (suc zero)))))) = refl
+one-to-eight (suc (suc (suc (suc (suc (suc (suc zero))))))) = refl
+one-to-eight (suc (suc (suc (suc (suc (suc (suc (suc zero)))))))) = refl
+one-to-eight (suc (suc (suc (suc (suc (suc (suc (suc (suc k))))))))) = past (suc (suc (suc (suc (suc (suc (suc (suc (suc k))))))))) (omega arith)

@@ -29,6 +29,7 @@ pub struct Answer {
     pub value: f64,
 }
 
+// By driver's numbers. A number above 7 is a phase in which only start is allowed.
 fn phase_of(number: u64) -> Phase
     ensures { λ r. ⌜ r ≡ numbers.phase-of number ⌝ }
 {

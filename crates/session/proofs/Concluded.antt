@@ -95,7 +95,7 @@ concludes h calls x s t z =
       only-replies = t .only-replies;
       replies-are = (let e = p .replies-are in omega arith);
       answers-are = t .answers-are ∙ ap (λ (φ : Phase). cases-at φ m) (z .phase-is);
-      norm-is = z .norm-is ∙ rw (s .family-is, s .n-is, t .underway .arguments-are) refl;
+      figures-are = z .figures-are ∙ rw (s .family-is, s .n-is, t .underway .arguments-are) refl;
       one-pass = p .suits .one-pass;
       twelve-passes = p .suits .twelve-passes;
       evaluations-are = (let e = t .underway .evaluations-are in let e′ = p .replies-are in omega arith);

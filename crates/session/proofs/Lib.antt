@@ -1,7 +1,8 @@
 -- The theorems over the calls, in reading order, each with its sentence; the statements are in specs/.
 
--- An attempt that is taken, and replies of n doubles each, give the evaluations of the attempt in one piece and its end: `run`. A finished one takes s + k
--- replies, k from 1 to 12, and its candidate is the last stage: `took`.
+-- An attempt that is taken, and replies of n doubles each for which the counters have room, give the evaluations of the attempt in one piece and its end:
+-- `run`. Where that is finished it is so after s + k replies, and the candidate is the last stage (`finished`); k is from 1 to 12, and each reply but the last
+-- is answered by a further evaluation (`took`).
 pub mod Theorem
 -- Where the counters lack room the attempt is the same up to the reply that is turned away with 8, and stays there: `evaluations-lack`, `attempts-lack`.
 pub mod Room
@@ -11,7 +12,8 @@ pub mod Always
 pub mod Sequel
 -- An attempt depends on the kept state, the first derivative, the eigenvector and, with a history, the older state alone: `depends`.
 pub mod Depends
--- From a start on, any list of calls shows what the Rust's kernel shows, which begins with zeros: `every-sequence`.
+-- From a start that is taken on, any list of calls shows what the session of specs/Session shows, which is the Rust's kernel in direct style but for the
+-- listed differences and begins with zeros: `every-sequence`.
 pub mod Sequences
 -- Calls that are not taken may be left out: `skipped`.
 pub mod Skipped
@@ -24,9 +26,9 @@ pub mod Leaves
 -- In any calls from a start that is taken, a finished answer is that of a taken attempt and its s + k replies: `concluded`; what a stage's record carries:
 -- `carries`.
 pub mod Concluded
--- Demand 3 of the s that a finished attempt ran: `served`.
+-- Families 2 to 5: demand 3 of the s that a finished attempt ran, for its own r where that is finite: `served`.
 pub mod Served
--- Demand 3 of the rows of the stages that are run: `stage-close`, `rows-close`, `finished-stable`.
+-- Families 2 to 5: demand 3 of the rows of the stages that are run, and of a finished attempt's multiplier: `stage-close`, `rows-close`, `finished-stable`.
 pub mod Close
 -- Document 01's case, by computation: `case-of-calls`.
 pub mod Case

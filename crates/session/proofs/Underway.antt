@@ -230,7 +230,7 @@ stays x c y abandons other = (refl, refl)
 -- an answer "finished" leaves that phase, and has the norm of the vectors left
 pub record Left-finished (x : Called) : Type 0 where
   pub phase-is : x .held .kept .phase ≡ P.Finished
-  pub norm-is : x .answer ≡ Finished (figures-after (x .held .kept) (unpack (x .held .kept .n) (x .held .area)))
+  pub figures-are : x .answer ≡ Finished (figures-after (x .held .kept) (unpack (x .held .kept .n) (x .held .area)))
 
 pub leaves-finished : (x : Held) (c : Call) (y : Called) → Outcome x c y → case-number (y .answer) ≡ 2 → Left-finished y
 unfolding case-number in-phase
@@ -245,7 +245,7 @@ leaves-finished x c y (goes-on t b area p below) two = absurd (omega arith)
 leaves-finished x c y (asks-candidate t b area p at) two = absurd (omega arith)
 leaves-finished x c y (finishes w p long) two = record {
   phase-is = refl;
-  norm-is = ap (λ (v : Vectors). Finished (figures-after (x .kept) v)) (sym (unpack-pack (its-family (x .kept)) (x .kept .n) w long));
+  figures-are = ap (λ (v : Vectors). Finished (figures-after (x .kept) v)) (sym (unpack-pack (its-family (x .kept)) (x .kept .n) w long));
 }
 leaves-finished x c y (accepts area) two = absurd (omega arith)
 leaves-finished x c y (calls-back area) two = absurd (omega arith)

@@ -112,7 +112,7 @@ pub record Concluded (h : Held) (calls : List Call) (x : Called) : Type 0 where
   pub only-replies : taken-since attempt ≡ map Reply replies
   pub replies-are : length replies ≡ stages-of (x .held) + passes-of (x .held)
   pub answers-are : cases-since attempt ≡ replicate (length replies - 1) 1 ++ 2 ∷ []
-  pub norm-is :
+  pub figures-are :
       x .answer ≡ Finished (figures-of (error-norm (setting (start .family)) (start .n) (stages-of (x .held)) arguments (unpack (start .n) (x .held .area))))
   pub one-pass : 1 ≤ passes-of (x .held)
   pub twelve-passes : passes-of (x .held) ≤ 12

@@ -1,5 +1,5 @@
 -- `leave_with` meets its contract: the answer's test says whether the record stands or is written.
-use Rattle.lent.proofs.Handing.{stood, moved}
+use Rattle.lent.proofs.Handing.{stood, was-written}
 use borrow.Author.Needs.{needs}
 use Rattle.lent.proofs.leave_with.Statement.{statement}
 use Rattle.lent.proofs.leave_with.Tie as tie
@@ -19,7 +19,7 @@ write-requires c κs = search needs
 returns-2 : tie.Need-returns-2
 returns-2 c =
     let t = c .before .before .before .before in
-    moved _ _ _ (t .before .before .in-numbers .ensures) (t .before .stands .ensures) (t .if1 .left) (c .write .ensures)
+    was-written _ _ _ (t .before .before .in-numbers .ensures) (t .before .stands .ensures) (t .if1 .left) (c .write .ensures)
 
 pub leave-with-spec : {M : Type 1} → statement M
 leave-with-spec =

@@ -9,7 +9,7 @@ use Rattle.driver.specs.declared.Replied.{Replied}
 use Rattle.driver.specs.Calls.{reply, attempt}
 use Rattle.driver.specs.Promises.{holding}
 use Rattle.heat_sink.specs.Model.{rates}
-use Rattle.inverter.specs.Day.{given, asks-nothing}
+use Rattle.inverter.specs.Day.{given, asks-no-call}
 use Rattle.inverter.proofs.Said.{met}
 use Rattle.inverter.proofs.Calls.{asked-vector, next-reply, next-attempt, next-stays}
 use Rattle.inverter.proofs.minute.next.Statement.{statement}
@@ -81,19 +81,19 @@ returns-2 c = let s = c .before .before .before .before .before .before .before 
     (c .before .before .before .before .before .before .enum-told .given .1)
 
 returns-3 : tie.Need-returns-3
-unfolding asks-nothing
+unfolding asks-no-call
 returns-3 c = let a = c .before .before .before .before .before .before .args in
-    sym (next-stays (a .m) (a .minute) (a .reading) (a .upcoming) (given (a .reply) (a .area .now)) (ap asks-nothing (c .enum-told2 .given .1)))
+    sym (next-stays (a .m) (a .minute) (a .reading) (a .upcoming) (given (a .reply) (a .area .now)) (ap asks-no-call (c .enum-told2 .given .1)))
 
 returns-4 : tie.Need-returns-4
-unfolding asks-nothing
+unfolding asks-no-call
 returns-4 c = let a = c .before .before .before .before .before .before .args in
-    sym (next-stays (a .m) (a .minute) (a .reading) (a .upcoming) (given (a .reply) (a .area .now)) (ap asks-nothing (c .enum-told3 .given .1)))
+    sym (next-stays (a .m) (a .minute) (a .reading) (a .upcoming) (given (a .reply) (a .area .now)) (ap asks-no-call (c .enum-told3 .given .1)))
 
 returns-5 : tie.Need-returns-5
-unfolding asks-nothing
+unfolding asks-no-call
 returns-5 c = let a = c .before .before .before .before .before .before .args in
-    sym (next-stays (a .m) (a .minute) (a .reading) (a .upcoming) (given (a .reply) (a .area .now)) (ap asks-nothing (c .enum-told4 .given .1)))
+    sym (next-stays (a .m) (a .minute) (a .reading) (a .upcoming) (given (a .reply) (a .area .now)) (ap asks-no-call (c .enum-told4 .given .1)))
 
 pub next-spec : {M : Type 1} → statement M
 next-spec =

@@ -33,8 +33,8 @@ loop-holds c = let s = c .before .before .before .before .before .before .before
       refl,
     )
 
-asks-nothing-requires : tie.Need-asks-nothing-requires Inv-loop μ-loop
-asks-nothing-requires c κs = tt
+asks-no-call-requires : tie.Need-asks-no-call-requires Inv-loop μ-loop
+asks-no-call-requires c κs = tt
 
 same-length : tie.Need-same-length Inv-loop μ-loop
 same-length c = c .before .before .before .loop .inv .3 ∙ c .before .before .before .before .before .before .before .before .begin .kept .1 .1 .1 .0
@@ -51,7 +51,7 @@ returns c = let a = c .before .before .before .before .before .before .before .b
     (ap (driven (a .m) (a .minute) (a .reading) (a .upcoming) most-calls)
     (sym (c .before .before .before .before .before .before .before .before .begin .ensures))
     ∙ l .inv .5
-    ∙ driven-stays (a .m) (a .minute) (a .reading) (a .upcoming) (l .left) (given (l .reply) (l .area)) (sym (c .before .asks-nothing .ensures)
+    ∙ driven-stays (a .m) (a .minute) (a .reading) (a .upcoming) (l .left) (given (l .reply) (l .area)) (sym (c .before .asks-no-call .ensures)
     ∙ c .if1 .taken))
 
 next-requires : tie.Need-next-requires Inv-loop μ-loop
@@ -106,7 +106,7 @@ pass-spec =
     μ-loop
     begin-requires
     loop-holds
-    asks-nothing-requires
+    asks-no-call-requires
     same-length
     same-length-2
     returns

@@ -79,8 +79,9 @@ slice-write-junctions : tie.Need-slice-write-junctions Inv-loop μ-loop
 slice-write-junctions c = let t = c .before .before .before .before .before .before .before .before .before .before .before .before .before .before .before in
     omega (arith, t .loop-test .taken, t .before .loop .inv .5)
 
-count-after-requires : tie.Need-count-after-requires Inv-loop μ-loop
-count-after-requires c κs = let t = c .before .before .before .before .before .before .before .before .before .before .before .before .before .before .before in
+minute-counted-requires : tie.Need-minute-counted-requires Inv-loop μ-loop
+minute-counted-requires c κs = let t =
+    c .before .before .before .before .before .before .before .before .before .before .before .before .before .before .before in
     let l = t .before .loop in
     let most = t .before .before .before .before .before .before .before .before .pre .1 .1 .1 .0 in
     (omega (arith, most, t .loop-test .taken, l .inv .6), omega (arith, most, t .loop-test .taken, l .inv .7))
@@ -101,7 +102,7 @@ loop-again c = let test = c .before .before .before .before .before .before .bef
     let p = c .before .before .before .before .before .before .before .before .before .take in
     let after = c .before .before .before .before .before .before .before .before .before .before .before .before .before .upcoming in
     let x = c .before .before .junction in
-    let t = c .count-after .ensures in
+    let t = c .minute-counted .ensures in
     let end = given (p .result) (p .last .1 .1 .1 .0) in
     let h : l .i < length (a .readings .now) = test .loop-test .taken in (
       omega arith,
@@ -161,7 +162,7 @@ run-spec =
     slice-write-refusals
     mul-junctions
     slice-write-junctions
-    count-after-requires
+    minute-counted-requires
     add-i
     loop-less
     loop-again

@@ -1,12 +1,12 @@
--- `inverter::minutes::count_after` meets its contract, by those of its calls; each sum grows by at most 1. Assumes nothing.
+-- `inverter::minutes::minute_counted` meets its contract, by those of its calls; each sum grows by at most 1. Assumes nothing.
 use borrow.Author.Needs.{needs}
 use mathlib.Core.Bool.{not}
 use native.Mathlib.Omega.{arith}
 use lib.Dec.{eqb}
-use Rattle.inverter.specs.Day.{count-after}
+use Rattle.inverter.specs.Day.{minute-counted}
 use Rattle.inverter.proofs.Run.{one-most}
-use Rattle.inverter.proofs.minutes.count_after.Statement.{statement}
-use Rattle.inverter.proofs.minutes.count_after.Tie as tie
+use Rattle.inverter.proofs.minutes.minute_counted.Statement.{statement}
+use Rattle.inverter.proofs.minutes.minute_counted.Tie as tie
 
 is-above-requires : tie.Need-is-above-requires
 is-above-requires c κs = search needs
@@ -27,7 +27,7 @@ add-t14 : tie.Need-add-t14
 add-t14 c = omega (arith, c .before .one-if2 .ensures, one-most (not (eqb (c .before .before .refusal .result) 0)))
 
 returns : tie.Need-returns
-unfolding count-after
+unfolding minute-counted
 returns c = rw (
   c .before .before .before .before .one-if .ensures,
   c .before .before .before .before .before .is-above .ensures,
@@ -35,8 +35,8 @@ returns c = rw (
   c .before .before .refusal .ensures,
 )
 
-pub count-after-spec : {M : Type 1} → statement M
-count-after-spec =
+pub minute-counted-spec : {M : Type 1} → statement M
+minute-counted-spec =
     tie.close
     (tie.spec
     is-above-requires
