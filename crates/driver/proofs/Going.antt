@@ -13,6 +13,7 @@ use Rattle.driver.specs.declared.Phase.{Phase}
 use Rattle.driver.specs.declared.Phase.the-variants as P
 use Rattle.driver.specs.declared.Record.{Record}
 use Rattle.driver.specs.declared.Counters.{Counters}
+use Rattle.driver.specs.declared.Next.{Next}
 use Rattle.driver.specs.declared.Replied.{Replied}
 use Rattle.driver.specs.declared.Staged.{Staged}
 use Rattle.driver.specs.declared.Staged.the-variants.{On, Ended, NotFinite}
@@ -97,14 +98,20 @@ goes r c area d x left p h t =
 pub has-one : (r : Record) (c : Counters) (area d : List Float) → stage-taken r c area d ≡ true → c .evaluations < 2 ^ 64 - 1
 has-one r c area d e = counts-one _ (passed r c area d e .more)
 
+-- the case of what a reply comes to, with the record that is made of it
+pub of-case : (r : Record) (y : Staged) {x : Staged} {made : Record} → x ≡ y → made ≡ outcome-of y r .«record»
+    → record { answer = outcome-of y r .answer; «record» = made } ≡ outcome-of x r
+of-case r y e m =
+    let with-made : Record → Next = λ u. record { answer = outcome-of y r .answer; «record» = u } in
+    ap with-made m ∙ sym (ap (λ (v : Staged). outcome-of v r) e)
+
 -- what it stands for, written out
-pub comes : {promised : Called} {r : Record} {c : Counters} {left : List Float} {x : Staged} (y : Staged) {z : Replied} {made : Record}
-    → Stands-for promised r c x left → x ≡ y → z ≡ record { answer = outcome-of y r .answer; «record» = made; counters = one-more c }
-    → made ≡ outcome-of y r .«record» → Meets promised (z .answer) (z .«record») (z .counters) left
-comes {promised} {r} {c} {left} y {z} {made} w e q m =
-    let with-made : Record → Replied = λ u. record { answer = outcome-of y r .answer; «record» = u; counters = one-more c } in
-    subst (λ (u : Replied). Meets promised (u .answer) (u .«record») (u .counters) left) (sym (q ∙ ap with-made m))
-    (subst (λ (v : Staged). Stands-for promised r c v left) e w .meets)
+pub comes : {promised : Called} {r : Record} {c : Counters} {left : List Float} {x : Staged} {y : Next} {z : Replied} → Stands-for promised r c x left
+    → y ≡ outcome-of x r → z ≡ record { answer = y .answer; «record» = y .«record»; counters = one-more c }
+    → Meets promised (z .answer) (z .«record») (z .counters) left
+comes {promised} {c = c} {left} w m q =
+    let of-reply : Next → Replied = λ y. record { answer = y .answer; «record» = y .«record»; counters = one-more c } in
+    subst (λ (u : Replied). Meets promised (u .answer) (u .«record») (u .counters) left) (sym (q ∙ ap of-reply m)) (w .meets)
 
 -- ---- a reply that is not taken within the stages, and that the call's own tests pass
 

@@ -8,7 +8,7 @@ ghost use Rattle.driver.specs.declared.Phase.the-variants as P;
 ghost use Rattle.driver.specs.declared.Answer.the-variants.{Refused};
 ghost use Rattle.driver.specs.Answers.{case-number};
 ghost use Rattle.driver.specs.Calls as calls;
-ghost use Rattle.driver.specs.Promises.{Meets, Keeps, Stands-for, holding, stage-taken, refusal, turned-away, new-record, no-recurrence};
+ghost use Rattle.driver.specs.Promises.{Meets, Keeps, Stands-for, holding, stage-taken, outcome-of, refusal, turned-away, new-record, no-recurrence};
 use coefficients::Polynomials;
 use coefficients::Recurrence;
 use workspace::Arguments;
@@ -315,6 +315,36 @@ pub fn reply_elsewhere(
     }
 }
 
+// What a reply to a stage's evaluation stands for.
+fn outcome_of(record: Record, staged: Staged) -> Next
+    ensures { λ r. ⌜ r ≡ outcome-of staged «record» ⌝ }
+{
+    match staged {
+        Staged::On { time, staging } => {
+            let recurrence = staging.recurrence;
+            let on = position::at_stage(record, staging.stages, staging.stage, recurrence);
+            let vector = workspace::PREVIOUS_ONE;
+            Next {
+                answer: Answer::Evaluate { time, vector },
+                record: on,
+            }
+        }
+        Staged::Ended { time } => {
+            let asked = position::in_phase(record, Phase::Candidate);
+            let vector = workspace::CANDIDATE;
+            let answer = Answer::Evaluate { time, vector };
+            Next {
+                answer,
+                record: asked,
+            }
+        }
+        Staged::NotFinite => {
+            let empty = position::in_phase(record, Phase::Empty);
+            refused(empty, 10)
+        }
+    }
+}
+
 // Brings the derivative that was asked for.
 pub fn reply(record: Record, counters: Counters, area: &mut [f64], derivative: &[f64]) -> Replied
     ensures { λ r. ⌜ Meets (calls.reply (holding «record» counters (now (area .entry))) (now (derivative .entry))) (r .answer) (r .«record») (r .counters)
@@ -324,23 +354,10 @@ pub fn reply(record: Record, counters: Counters, area: &mut [f64], derivative: &
         return reply_elsewhere(record, counters, area, derivative);
     }
     let staged = reply_in_stages(record, counters, area, derivative);
-    match staged {
-        Staged::On { time, staging } => {
-            let recurrence = staging.recurrence;
-            let on = position::at_stage(record, staging.stages, staging.stage, recurrence);
-            let vector = workspace::PREVIOUS_ONE;
-            evaluated_with(Answer::Evaluate { time, vector }, on, counters)
-        }
-        Staged::Ended { time } => {
-            let asked = position::in_phase(record, Phase::Candidate);
-            let vector = workspace::CANDIDATE;
-            evaluated_with(Answer::Evaluate { time, vector }, asked, counters)
-        }
-        Staged::NotFinite => {
-            let empty = position::in_phase(record, Phase::Empty);
-            evaluated_with(Answer::Refused(10), empty, counters)
-        }
-    }
+    let next = outcome_of(record, staged);
+    let answer = next.answer;
+    let after = next.record;
+    evaluated_with(answer, after, counters)
 }
 
 // After a finished attempt: its candidate and last derivative are where the next attempt begins.
