@@ -1,4 +1,5 @@
 -- A day's total tells its minutes above: `minutes-told`, by a test over every number of minutes that a day can have. Assumes nothing.
+-- ⊘ is an operation on doubles: it rounds.
 use mathlib.Core.Path.{_≡_, refl}
 use mathlib.Core.Bool.{Bool, true, false}
 use Prim.Native.Nat.{ℕ, _≤_}

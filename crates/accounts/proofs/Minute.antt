@@ -1,5 +1,6 @@
 -- A minute comes to one of its three ends, and what it leaves can be accepted if it is finished: `minute-ended`, from a record of which that holds. From
 -- the definitions of the calls, from `ends`, that the calls of a minute are enough, and from the lengths that a reply keeps.
+-- ⊕ is an operation on doubles: it rounds.
 use mathlib.Core.Path.{_≡_, refl, sym, ap, subst, _∙_}
 use mathlib.Core.Bool.{Bool, true, false, cond, _&&_, _||_, false≢true}
 use mathlib.Core.List.{List}

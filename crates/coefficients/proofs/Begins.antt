@@ -1,5 +1,5 @@
 -- How the multiplier begins: 1 + z, and in the second-order families 1 + z + z²/2. By the recurrence of one coefficient from stage to stage: with e of
--- Normalized, the first is b̂ ω1 n1/(2 + e) and the second b̂ ω1² n2/(2 (4 + e) (2 + e)).
+-- Normalized, the first is b̂ ω1 n1/(2 + e) and the second b̂ ω1² n2/(2 (4 + e) (2 + e)). ⊕ ⊖ ⊗ are operations on fractions: they are exact.
 use mathlib.Core.Path.{_≡_, ap₂}
 use mathlib.Core.List.{List, [], _∷_}
 use Prim.Native.Nat.{ℕ, zero, suc, _+_, _*_}

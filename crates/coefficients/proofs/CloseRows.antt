@@ -1,5 +1,5 @@
 -- Every coefficient of RKL1, RKL2, RKG1 and RKG2 is within 2 ^ -48, relatively, of the papers' fraction, for every permitted s and stage 2 to s: `close-row`,
--- `close-first`. Assumes nothing.
+-- `close-first`. Assumes nothing. ⊕ ⊗ are operations on fractions: they are exact.
 use mathlib.Core.Path.{_≡_, refl, sym, ap, _∙_, subst}
 use mathlib.Core.List.{[], _∷_}
 use Prim.Native.Nat.{ℕ, zero, suc, _+_, _-_, _*_, _^_, _≤_, _<_}

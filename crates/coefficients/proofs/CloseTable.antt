@@ -1,5 +1,5 @@
 -- Every entry of RKC's table is within 2 ^ -36, relatively, of T' / T'', and so is what every row of an attempt takes.
--- Computed in whole numbers, each value times a power of 13 s². Assumes nothing.
+-- Computed in whole numbers, each value times a power of 13 s². Assumes nothing. ⊕ ⊖ ⊗ ⊘ are operations on fractions: they are exact.
 use mathlib.Core.Path.{_≡_, refl, sym, ap, ap₂, _∙_, subst}
 use mathlib.Core.Logic.{inl, inr}
 use mathlib.Core.List.{[], _∷_}

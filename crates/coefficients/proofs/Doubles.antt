@@ -1,4 +1,5 @@
 -- The coefficients of a row that depend on j alone, as `coefficients` has them: by b of the stage, z, of the stage before, y, and of the one before that, x.
+-- ⊕ ⊖ ⊗ ⊘ are operations on doubles: they round.
 use Prim.Native.Nat.{ℕ, _+_, _-_, _*_, _/_}
 use lib.Ieee.{Float, neg}
 use Rattle.family.specs.Family.{Orthogonal, Legendre1, Legendre2, Gegenbauer1, Gegenbauer2}

@@ -1,4 +1,4 @@
--- Document 01's example, by computation.
+-- Document 01's example, by computation. ⊕ ⊗ ⊘ are operations on fractions: they are exact.
 use mathlib.Core.Path.{refl}
 use Rattle.fractions.specs.Frac.{_⊕_, _⊗_, opp, int, _over_, frac, _⊘_, inverse-of}
 use Rattle.fractions.specs.Lists.{_⊞_, _·_}

@@ -1,5 +1,5 @@
 -- Each stage is y times 1 − b̂ + b̂ D(1 + ω1 z), with D the polynomial of Normalized: by entries in the attempt, by values in the multiplier. So the attempt is
--- y times the multiplier, and the multiplier is between −1 and 1 for z from −2/ω1 to 0.
+-- y times the multiplier, and the multiplier is between −1 and 1 for z from −2/ω1 to 0. ⊕ ⊖ ⊗ ⊘ are operations on fractions: they are exact.
 use mathlib.Core.Path.{refl, sym, _∙_}
 use mathlib.Core.List.{List, [], _∷_}
 use Prim.Native.Nat.{ℕ, zero, suc, _+_}

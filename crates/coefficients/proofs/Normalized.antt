@@ -1,6 +1,6 @@
 -- Legendre's polynomials (e = 0) and Gegenbauer's of index 3/2 (e = 2), divided by their values at 1, are between −1 and 1 on [−1, 1]. From their recurrence
 -- alone, without analysis: for α D(i+2) = (α + β) x D(i+1) − β D(i), with β ≤ α, the form v² − 2xvw + w² at two neighbors v, w falls as i grows: its fall is
--- (α² − β²)(v − xw)²/α². It begins at 1 − x² and is at least (1 − x²)v².
+-- (α² − β²)(v − xw)²/α². It begins at 1 − x² and is at least (1 − x²)v². ⊕ ⊖ ⊗ are operations on fractions: they are exact.
 use mathlib.Core.Path.{_≡_, subst}
 use mathlib.Core.List.{[], _∷_}
 use mathlib.Core.Logic.{inl, inr}

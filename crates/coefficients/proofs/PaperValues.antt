@@ -1,5 +1,5 @@
 -- What the papers' fractions come to, multiplied out: mu, nu, gamma-tilde and first-mu-tilde by ω1 and b̂, which is b times the polynomial's value at 1; and ω1
--- and b̂ in whole numbers. From specs/Paper alone.
+-- and b̂ in whole numbers. From specs/Paper alone. ⊕ ⊖ ⊗ ⊘ are operations on fractions: they are exact.
 use mathlib.Core.Path.{_≡_, refl, ap, ap₂, subst}
 use mathlib.Core.List.{[], _∷_}
 use Prim.Native.Nat.{ℕ, zero, suc, _+_, _*_, _-_}

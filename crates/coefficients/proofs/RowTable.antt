@@ -1,4 +1,5 @@
 -- The coefficients that depend on j alone, or on s alone, fit the papers' fractions: tests over all j and s, by computation.
+-- ⊕ ⊗ ⊘ are operations on fractions: they are exact.
 use mathlib.Core.Path.{_≡_, refl, ap, subst}
 use Prim.Native.Nat.{ℕ, _+_, _-_, _*_, _^_, _≤_}
 use native.Mathlib.Omega.{arith}

@@ -1,5 +1,5 @@
 -- `Stable` holds of each family and each permitted number of stages, and in fact of any s from 2 on. From Multiplier (the attempt, the bound), Begins, and the
--- reach against 2/ω1.
+-- reach against 2/ω1. ⊖ ⊗ ⊘ are operations on fractions: they are exact.
 use mathlib.Core.Path.{refl, ap₂}
 use mathlib.Core.List.{[], _∷_}
 use Prim.Native.Nat.{ℕ, zero, suc, _+_, _*_, _≤_}

@@ -1,4 +1,5 @@
 -- The attempt with fractions on y' = c·y, and its multiplier. Document 01, "Demand 3's attempt with fractions".
+-- ⊖ ⊗ are operations on fractions: they are exact.
 use mathlib.Core.List.{List, [], _∷_}
 use Prim.Native.Nat.{ℕ, zero, suc}
 use lib.IntN.{pos}

@@ -1,4 +1,4 @@
--- What is claimed of the multiplier. Document 01, "Demand 3's attempt with fractions", and demand 3.
+-- What is claimed of the multiplier. Document 01, "Demand 3's attempt with fractions", and demand 3. ⊗ ⊘ are operations on fractions: they are exact.
 use mathlib.Core.List.{List, [], _∷_}
 use Prim.Native.Nat.{ℕ}
 use lib.IntN.{pos}

@@ -1,5 +1,5 @@
 -- The coefficients of the papers of Meyer, Balsara and Aslam (RKL) and of Skaras and others (RKG), as exact fractions. Document 01, "orthogonal.rs: RKL and RKG
--- rows". s is the number of stages, j the stage, from 2 to s.
+-- rows". s is the number of stages, j the stage, from 2 to s. ⊖ ⊗ ⊘ are operations on fractions: they are exact.
 use Prim.Native.Nat.{ℕ, zero, suc, _+_, _*_, _-_}
 use lib.IntN.{pos}
 use Rattle.fractions.specs.Frac.{Frac, _⊗_, _⊖_, opp, int, frac, _⊘_}

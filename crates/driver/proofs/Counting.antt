@@ -1,4 +1,4 @@
--- What a reply counts: the answer's case tells, and only a reply to the candidate's evaluation finishes an attempt.
+-- What a reply counts: the answer's case tells, and only a reply to the candidate's evaluation finishes an attempt. ⊕ is an operation on doubles: it rounds.
 use mathlib.Core.Path.{_≡_, refl, sym, ap, ap₂, _∙_}
 use mathlib.Core.Bool.{Bool, true, false, cond, not, _||_}
 use mathlib.Core.List.{List}

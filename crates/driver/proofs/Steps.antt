@@ -1,4 +1,5 @@
 -- Steps in code are the steps of the definition: how one is put together from its parts, and what a call leaves of the area.
+-- ⊕ is an operation on doubles: it rounds.
 use mathlib.Core.Path.{_≡_, refl, sym, ap, subst, _∙_}
 use mathlib.Core.Bool.{Bool, true, false, cond, _||_, false≢true}
 use mathlib.Core.List.{List, [], _∷_}

@@ -1,5 +1,5 @@
 -- The calls, one after another: what each answers, and what it leaves of record, counters and area. Document 01, "driver.rs: the calls" and "When a call is
--- turned away".
+-- turned away". ⊕ ⊗ are operations on doubles: they round.
 use Prim.Native.Nat.{ℕ, _+_, _-_, _*_, _^_}
 use mathlib.Core.Bool.{Bool, true, false, cond, not, _&&_, _||_}
 use mathlib.Core.List.{List, [], _∷_}

@@ -1,5 +1,5 @@
 -- The stage counts serve every finite r that is not below 0 (`serves`), and every count of every family is permitted (`stage-count-permitted`). Assumes
--- nothing.
+-- nothing. ⊕ ⊗ are operations on doubles: they round.
 use mathlib.Core.Path.{_≡_, sym, ap, _∙_, subst}
 use mathlib.Core.Logic.{_⊎_, inl, inr}
 use Prim.Native.Nat.{ℕ, zero, suc, _+_, _-_, _*_, _≤_, _<_}

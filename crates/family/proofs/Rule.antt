@@ -1,5 +1,6 @@
 -- The stage rule of the four families as ⌈(√(offset + slope · r) − shift) / 2⌉: `inner`, the root, `after`. Each step keeps the order of the doubles that are
 -- not negative, so a bound of the count at one double is a bound of it at another (`more-from`, `less-to`). Assumes nothing.
+-- ⊕ ⊖ ⊗ ⊘ are operations on doubles: they round.
 use mathlib.Core.Path.{_≡_, refl, sym, subst}
 use mathlib.Core.Bool.{false}
 use Prim.Native.Nat.{ℕ, suc, _*_, _≤_}

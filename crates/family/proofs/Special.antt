@@ -1,4 +1,5 @@
 -- The counts of an infinite r, of what counts as 0, and of RKC: in 2 to 200, and 200 where the root reaches 2 ^ 64. Assumes nothing.
+-- ⊕ ⊗ are operations on doubles: they round.
 use mathlib.Core.Path.{_≡_, refl, ap}
 use Prim.Native.Nat.{ℕ, _+_, _-_, _*_, _^_, _≤_, _<_}
 use native.Mathlib.Nat.{le-div-iff-mul-le, mul-le-mul-right}

@@ -1,4 +1,5 @@
 -- An equation of fractions from given ones: l ≈ r, where l − r is the sum of each given side − other times a factor, by evaluation.
+-- ⊕ ⊖ ⊗ are operations on fractions: they are exact.
 use mathlib.Core.List.{List, [], _∷_}
 use lib.Dec.{T}
 use lib.IntN.{pos}

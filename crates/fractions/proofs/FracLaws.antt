@@ -1,5 +1,5 @@
 -- Fractions are a commutative ring up to ≈, so that `ring` proves their equations by evaluation. From the laws of ℤ, by cross multiplication; `ℤ-ring` does the
--- same over ℤ.
+-- same over ℤ. ⊕ ⊖ ⊗ are operations on fractions: they are exact.
 use mathlib.Core.Path.{_≡_, refl, sym, _∙_, ap, ap₂}
 use mathlib.Core.List.{List, [], _∷_}
 use Prim.Native.Nat.{ℕ, suc, _+_, _<_}

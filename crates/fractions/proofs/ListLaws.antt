@@ -1,4 +1,4 @@
--- Entries and length of sums and multiples of lists, and a polynomial's value at a number: all linear.
+-- Entries and length of sums and multiples of lists, and a polynomial's value at a number: all linear. ⊕ ⊗ are operations on fractions: they are exact.
 use mathlib.Core.Path.{_≡_, refl, sym, _∙_, ap}
 use mathlib.Core.List.{List, [], _∷_}
 use lib.ListN.{length}

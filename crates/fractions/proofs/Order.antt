@@ -1,4 +1,5 @@
 -- The order of fractions, by the signs of numerators: sums, products and squares that are not negative, and a ≼ b as b − a not negative.
+-- ⊕ ⊖ ⊗ are operations on fractions: they are exact.
 use mathlib.Core.Path.{_≡_, refl, sym, _∙_, ap, subst}
 use mathlib.Core.List.{[], _∷_}
 use mathlib.Core.Logic.{_⊎_, inl, inr}

@@ -1,4 +1,5 @@
 -- Fractions by whole numbers: `Is a m n` says that a is m / n. From it products, equality, signs and bounds by arithmetic of whole numbers.
+-- ⊕ ⊖ ⊗ ⊘ are operations on fractions: they are exact.
 use mathlib.Core.Path.{_≡_, subst}
 use mathlib.Core.List.{[], _∷_}
 use Prim.Native.Nat.{ℕ, zero, suc, _+_, _*_, _-_, _≤_, _<_}

@@ -1,4 +1,4 @@
--- Lists of fractions: sums and multiples entry by entry, an entry past the end counting as 0.
+-- Lists of fractions: sums and multiples entry by entry, an entry past the end counting as 0. ⊕ ⊗ are operations on fractions: they are exact.
 use mathlib.Core.Path.{_≡_}
 use mathlib.Core.List.{List, [], _∷_}
 use lib.ListN.{length}

@@ -1,4 +1,4 @@
--- Polynomials: the list of the coefficients, from the constant on. Sums and multiples are those of lists.
+-- Polynomials: the list of the coefficients, from the constant on. Sums and multiples are those of lists. ⊕ ⊗ are operations on fractions: they are exact.
 use mathlib.Core.List.{List, [], _∷_}
 use lib.IntN.{pos}
 use Rattle.fractions.specs.Frac.{Frac, _⊕_, _⊗_, int}

@@ -1,4 +1,4 @@
--- The chain's rates by index, and what leaves a link as what enters the next. Assumes nothing.
+-- The chain's rates by index, and what leaves a link as what enters the next. Assumes nothing. ⊖ is an operation on doubles: it rounds.
 use mathlib.Core.Path.{_≡_, sym, ap, _∙_}
 use mathlib.Core.List.{List}
 use Prim.Native.Nat.{ℕ, _+_, _<_}

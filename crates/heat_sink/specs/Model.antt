@@ -1,5 +1,5 @@
 -- The heat sink: a chain of temperatures, 0 the junction, and how fast each changes (K/s) while the meter reads `reading` (W). Every operation is a
--- double's, in this order. `heat` is in K per joule, `conduct` and `cool` in 1/s.
+-- double's, in this order. `heat` is in K per joule, `conduct` and `cool` in 1/s. ⊖ ⊗ are operations on doubles: they round.
 use Prim.Native.Nat.{ℕ, zero, suc, _+_}
 use mathlib.Core.Bool.{cond}
 use mathlib.Core.List.{List}

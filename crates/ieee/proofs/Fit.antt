@@ -1,5 +1,5 @@
 -- A double that fits a fraction: their signs agree, and their sizes do to n parts in 2 ^ 53. Negatives and products keep this, n growing by one a rounding;
--- and what fits is close (`fit-close`). Assumes nothing.
+-- and what fits is close (`fit-close`). Assumes nothing. ⊕ ⊗ are operations on fractions: they are exact.
 use mathlib.Core.Path.{_≡_, refl, sym, ap, ap₂, _∙_, subst}
 use mathlib.Core.Logic.{inl, inr}
 use Prim.Native.Nat.{ℕ, zero, suc, _+_, _-_, _*_, _^_, _≤_, _<_}

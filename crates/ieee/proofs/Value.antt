@@ -1,5 +1,5 @@
 -- A double is determined by its sign and its value (`same-value`), and rounding leaves it as it is (`round-own`); 0 rounds to 0 (`round-none`). So dividing by
--- 1 changes no double. Assumes nothing.
+-- 1 changes no double. Assumes nothing. ⊘ is an operation on doubles: it rounds.
 use mathlib.Core.Path.{_≡_, refl, sym, ap, _∙_, subst}
 use Prim.Native.Nat.{ℕ, zero, suc, _+_, _-_, _*_, _/_, _%_, _^_, _≤_, _<_}
 use native.Mathlib.Nat.{le-of-eq, lt-of-lt-of-le, lt-of-not-le, le-of-suc-le-suc, lt-irrefl, mul-assoc, mul-right-comm, mul-one, one-mul, zero-mul, mul-pos}

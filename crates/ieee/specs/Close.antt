@@ -1,4 +1,5 @@
 -- A double as a fraction, and when it is within 2 ^ -n, relatively, of another. Document 01, demand 3. Definitions only.
+-- ⊖ is an operation on fractions: it is exact.
 use Prim.Native.Nat.{ℕ, _*_, _^_, _≤_}
 use mathlib.Core.Bool.{Bool, true, false}
 use lib.IntN.{ℤ, pos, negℤ, natAbs}

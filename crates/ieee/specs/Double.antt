@@ -1,5 +1,5 @@
 -- Doubles: lib.Ieee's operators at binary64, each rounded once and nothing fused, and the constants of the kernel. Document 01, "Rust forms that cannot come
--- along".
+-- along". ⊕ ⊖ ⊗ ⊘ are operations on doubles: they round.
 use Prim.Native.Nat.{ℕ, _^_}
 use mathlib.Core.Bool.{false}
 use lib.IntN.{pos, negsuc}

@@ -1,5 +1,5 @@
 -- A minute ends: of the calls that may follow, each leaves one less, so that the last answer is finished, refused or empty. On the way an evaluation
--- asks for a vector of the area. From the definitions of the calls alone.
+-- asks for a vector of the area. From the definitions of the calls alone. ⊕ is an operation on doubles: it rounds.
 use mathlib.Core.Path.{_≡_, refl, subst}
 use mathlib.Core.Bool.{Bool, true, false, cond, _||_, false≢true}
 use mathlib.Core.List.{List}

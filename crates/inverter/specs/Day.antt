@@ -1,5 +1,5 @@
 -- A day of one inverter, over the calls of the engine: the heat sink's temperatures a minute at a time, each minute heated by its reading, and how
--- many minutes end with the junction above its rated temperature.
+-- many minutes end with the junction above its rated temperature. ⊘ is an operation on doubles: it rounds.
 use Prim.Native.Nat.{ℕ, zero, suc, _+_, _*_}
 use mathlib.Core.Bool.{Bool, true, false, cond, not, _&&_}
 use mathlib.Core.List.{List, [], _∷_, _++_}

@@ -1,5 +1,6 @@
 -- What an attempt asks for and how it ends depends only on the kept state, its derivative, the eigenvector and, with a history, the older state: how it ends
 -- is the finished attempt with all its vectors (without a history, but for the older state), or the number, and with number 10 ten of the vectors.
+-- ⊕ ⊗ are operations on doubles: they round.
 use mathlib.Core.Path.{_≡_, refl, sym, ap, subst}
 use mathlib.Core.Bool.{Bool, true, false, cond}
 use mathlib.Core.List.{List}

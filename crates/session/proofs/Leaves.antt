@@ -1,4 +1,5 @@
 -- What a call that is turned away leaves, by the kind of its number: everything as it was, or, with a number that only a reply gives, what `Left` names.
+-- ⊕ is an operation on doubles: it rounds.
 use mathlib.Core.Path.{_≡_, refl, sym, ap, _∙_, subst}
 use mathlib.Core.Bool.{Bool, true, false, cond, _&&_, _||_}
 use mathlib.Core.List.{List}

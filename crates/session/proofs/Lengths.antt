@@ -1,4 +1,4 @@
--- The area's length by the family's number of vectors, and every reply keeps its vectors n long.
+-- The area's length by the family's number of vectors, and every reply keeps its vectors n long. ⊕ is an operation on doubles: it rounds.
 use mathlib.Core.Path.{_≡_, refl, sym, _∙_}
 use mathlib.Core.Bool.{Bool, true, false, cond, _||_}
 use mathlib.Core.List.{List}

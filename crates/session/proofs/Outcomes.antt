@@ -1,4 +1,5 @@
 -- What a call can come to, each way on a line of its own: the answer, and the record, counters and area it leaves. From the definition of the calls alone.
+-- ⊕ is an operation on doubles: it rounds.
 use mathlib.Core.Path.{_≡_, refl}
 use mathlib.Core.Bool.{Bool, true, false, cond, _&&_, _||_}
 use mathlib.Core.List.{List}

@@ -1,4 +1,5 @@
 -- The radius and the scaled radius are never below 0: norms, the perturbation and the products made of them have no minus sign, where they are numbers.
+-- ⊕ ⊗ ⊘ are operations on doubles: they round.
 use mathlib.Core.Path.{_≡_, refl}
 use mathlib.Core.Bool.{Bool, true, false, cond}
 use mathlib.Core.List.{List, [], _∷_, foldl}

@@ -1,4 +1,5 @@
 -- The stages and the candidate: from stage j on the calls follow the loop of the rows, and after stage s the candidate's evaluation and the end.
+-- ⊕ ⊗ are operations on doubles: they round.
 use mathlib.Core.Path.{_≡_, refl, sym, ap, _∙_}
 use mathlib.Core.Bool.{Bool, true, false, cond}
 use mathlib.Core.List.{List}

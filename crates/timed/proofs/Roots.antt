@@ -1,5 +1,5 @@
 -- One turn of the loops over roots, whichever code the root is taken by, and where they end. From workspace's laws of folds and of slices written
--- from the front.
+-- from the front. ⊕ is an operation on doubles: it rounds.
 use mathlib.Core.Path.{_≡_, sym, ap, _∙_}
 use mathlib.Core.List.{List, _++_, map}
 use Prim.Native.Nat.{ℕ, _+_, _<_, min}

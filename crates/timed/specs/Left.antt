@@ -1,4 +1,4 @@
--- What the loops that bench/ measures leave, over the definitions of ieee and workspace.
+-- What the loops that bench/ measures leave, over the definitions of ieee and workspace. ⊕ is an operation on doubles: it rounds.
 use mathlib.Core.Path.{_≡_}
 use mathlib.Core.List.{List, _++_, map, foldl}
 use Prim.Native.Nat.{ℕ, _*_, _≤_, min}

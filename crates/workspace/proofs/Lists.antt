@@ -1,4 +1,4 @@
--- Laws of lists of doubles that the proofs of the loops cite.
+-- Laws of lists of doubles that the proofs of the loops cite. ⊕ is an operation on doubles: it rounds.
 use mathlib.Core.Path.{_≡_, refl, sym, ap, ap₂, _∙_}
 use mathlib.Core.List.{List, [], _∷_, foldl}
 use Prim.Native.Nat.{ℕ, zero, suc, _+_, _<_}

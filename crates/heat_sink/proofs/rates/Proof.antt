@@ -1,4 +1,5 @@
 -- `heat_sink::rates` meets its contract, by the law of a slice written from the front. Invariant beside it: `into` is what enters link i. Assumes nothing.
+-- ⊖ is an operation on doubles: it rounds.
 use mathlib.Core.Path.{_≡_, refl, sym, ap, _∙_}
 use Prim.Native.Nat.{_-_, _<_}
 use native.Mathlib.Omega.{arith}

@@ -1,4 +1,4 @@
--- `gegenbauer_two_b` meets its contract, from the cast.
+-- `gegenbauer_two_b` meets its contract, from the cast. ⊕ ⊖ ⊗ ⊘ are operations on doubles: they round.
 use mathlib.Core.Path.{_≡_, refl, _∙_, ap}
 use Prim.Native.Nat.{ℕ, zero, suc}
 use lib.Ieee.{Float, ofBits}

@@ -1,4 +1,4 @@
--- `take_pass` meets its contract, by whether the pass is the last.
+-- `take_pass` meets its contract, by whether the pass is the last. ⊘ is an operation on doubles: it rounds.
 use mathlib.Core.Path.{_≡_, ap}
 use native.Mathlib.Omega.{arith}
 use borrow.Author.Needs.{needs}

@@ -1,4 +1,4 @@
--- `perturb` meets its contract, by the law of a loop over columns with one rule.
+-- `perturb` meets its contract, by the law of a loop over columns with one rule. ⊕ ⊗ ⊘ are operations on doubles: they round.
 use mathlib.Core.Path.{refl, ap}
 use mathlib.Core.List.{[], _∷_}
 use Prim.Native.Nat.{_-_}

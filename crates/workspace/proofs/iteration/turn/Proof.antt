@@ -1,4 +1,4 @@
--- `turn` meets its contract: the derivative written, then the law of a loop over columns.
+-- `turn` meets its contract: the derivative written, then the law of a loop over columns. ⊖ is an operation on doubles: it rounds.
 use mathlib.Core.Path.{refl}
 use mathlib.Core.List.{[], _∷_}
 use Prim.Native.Nat.{_-_}

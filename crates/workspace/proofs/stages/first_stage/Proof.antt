@@ -1,4 +1,4 @@
--- `first_stage` meets its contract, by the law of a loop over columns with two rules.
+-- `first_stage` meets its contract, by the law of a loop over columns with two rules. ⊕ ⊗ are operations on doubles: they round.
 use mathlib.Core.Path.{refl, ap}
 use mathlib.Core.List.{List, [], _∷_}
 use Prim.Native.Nat.{_-_}
