@@ -5,7 +5,7 @@ ghost use mathlib.Core.Bool.{true, false};
 ghost use Rattle.driver.specs.Calls as calls;
 ghost use Rattle.driver.specs.Promises.{stage-taken};
 ghost use Rattle.lent.specs.Numbers as numbers;
-ghost use Rattle.lent.specs.Lent.{lent, place-of, leaves};
+ghost use Rattle.lent.specs.Lent.{lent, place-of, left-with};
 ghost use Rattle.capi.specs.Promises.{Keeps-lent, Keeps-as-found, Replies, counting};
 use driver::Counters;
 use driver::Next;
@@ -24,7 +24,7 @@ pub extern "C" fn stabilized_start(
     time: f64,
 ) -> Answer
     ensures { λ r. ⌜ Keeps-as-found (lent (now (wholes .entry)) (now (doubles .entry))) (λ h. calls.start h family n (now (state .entry)) time)
-        (now (area .entry)) (leaves r (now (wholes .exit)) (now (doubles .exit))) (now (area .exit)) ⌝ }
+        (now (area .entry)) (left-with r (now (wholes .exit)) (now (doubles .exit))) (now (area .exit)) ⌝ }
 {
     let kept = lent::read(wholes, doubles);
     let next = driver::start(kept, area, family, n as usize, state, time);
@@ -44,7 +44,7 @@ pub extern "C" fn stabilized_attempt(
 ) -> Answer
     ensures { λ r. ⌜ Keeps-lent (lent (now (wholes .entry)) (now (doubles .entry))) adaptive
         (λ h. calls.attempt h (numbers.brought time step «absolute_tolerance» «relative_tolerance» adaptive)) (now (area .entry))
-        (leaves r (now (wholes .exit)) (now (doubles .exit))) (now (area .exit)) ⌝ }
+        (left-with r (now (wholes .exit)) (now (doubles .exit))) (now (area .exit)) ⌝ }
 {
     let kept = lent::read(wholes, doubles);
     let arguments = lent::brought(time, step, absolute_tolerance, relative_tolerance, adaptive);
@@ -53,7 +53,7 @@ pub extern "C" fn stabilized_attempt(
 }
 
 // A reply to a stage's evaluation, in place.
-fn reply_in_stages(
+fn lent_reply_in_stages(
     wholes: &mut [u64; WHOLES],
     doubles: &mut [f64; DOUBLES],
     evaluations: &mut u64,
@@ -63,7 +63,7 @@ fn reply_in_stages(
 ) -> Answer
     requires { ⌜ stage-taken (place-of (now wholes)) (counting (now evaluations) «finished_attempts») (now area) (now derivative) ≡ true ⌝ }
     ensures { λ r. ⌜ Replies (lent (now (wholes .entry)) (now (doubles .entry))) (counting (now (evaluations .entry)) «finished_attempts») (now (area .entry))
-        (now (derivative .entry)) (leaves r (now (wholes .exit)) (now (doubles .exit))) (counting (now (evaluations .exit)) «finished_attempts»)
+        (now (derivative .entry)) (left-with r (now (wholes .exit)) (now (doubles .exit))) (counting (now (evaluations .exit)) «finished_attempts»)
         (now (area .exit)) ⌝ }
 {
     let counters = Counters {
@@ -77,7 +77,7 @@ fn reply_in_stages(
 }
 
 // Every other reply.
-fn reply_elsewhere(
+fn lent_reply_elsewhere(
     wholes: &mut [u64; WHOLES],
     doubles: &mut [f64; DOUBLES],
     evaluations: &mut u64,
@@ -87,7 +87,7 @@ fn reply_elsewhere(
 ) -> Answer
     requires { ⌜ stage-taken (place-of (now wholes)) (counting (now evaluations) (now «finished_attempts»)) (now area) (now derivative) ≡ false ⌝ }
     ensures { λ r. ⌜ Replies (lent (now (wholes .entry)) (now (doubles .entry))) (counting (now (evaluations .entry)) (now («finished_attempts» .entry)))
-        (now (area .entry)) (now (derivative .entry)) (leaves r (now (wholes .exit)) (now (doubles .exit)))
+        (now (area .entry)) (now (derivative .entry)) (left-with r (now (wholes .exit)) (now (doubles .exit)))
         (counting (now (evaluations .exit)) (now («finished_attempts» .exit))) (now (area .exit)) ⌝ }
 {
     let counters = Counters {
@@ -114,7 +114,7 @@ pub extern "C" fn stabilized_reply(
     derivative: &[f64],
 ) -> Answer
     ensures { λ r. ⌜ Replies (lent (now (wholes .entry)) (now (doubles .entry))) (counting (now (evaluations .entry)) (now («finished_attempts» .entry)))
-        (now (area .entry)) (now (derivative .entry)) (leaves r (now (wholes .exit)) (now (doubles .exit)))
+        (now (area .entry)) (now (derivative .entry)) (left-with r (now (wholes .exit)) (now (doubles .exit)))
         (counting (now (evaluations .exit)) (now («finished_attempts» .exit))) (now (area .exit)) ⌝ }
 {
     let counters = Counters {
@@ -123,7 +123,7 @@ pub extern "C" fn stabilized_reply(
     };
     let found = lent::place(wholes);
     if driver::stage_taken(found, counters, area, derivative) {
-        return reply_in_stages(
+        return lent_reply_in_stages(
             wholes,
             doubles,
             evaluations,
@@ -132,7 +132,7 @@ pub extern "C" fn stabilized_reply(
             derivative,
         );
     }
-    reply_elsewhere(
+    lent_reply_elsewhere(
         wholes,
         doubles,
         evaluations,
@@ -149,7 +149,7 @@ pub extern "C" fn stabilized_accept(
     area: &mut [f64],
 ) -> Answer
     ensures { λ r. ⌜ Keeps-as-found (lent (now (wholes .entry)) (now (doubles .entry))) calls.accept (now (area .entry))
-        (leaves r (now (wholes .exit)) (now (doubles .exit))) (now (area .exit)) ⌝ }
+        (left-with r (now (wholes .exit)) (now (doubles .exit))) (now (area .exit)) ⌝ }
 {
     let kept = lent::read(wholes, doubles);
     let next = driver::accept(kept, area);
@@ -165,7 +165,7 @@ pub extern "C" fn stabilized_accept_with_callback(
     time: f64,
 ) -> Answer
     ensures { λ r. ⌜ Keeps-as-found (lent (now (wholes .entry)) (now (doubles .entry))) (λ h. calls.accept-with-callback h (now (state .entry)) time)
-        (now (area .entry)) (leaves r (now (wholes .exit)) (now (doubles .exit))) (now (area .exit)) ⌝ }
+        (now (area .entry)) (left-with r (now (wholes .exit)) (now (doubles .exit))) (now (area .exit)) ⌝ }
 {
     let kept = lent::read(wholes, doubles);
     let next = driver::accept_with_callback(kept, area, state, time);
@@ -179,7 +179,7 @@ pub extern "C" fn stabilized_abandon(
     area: &[f64],
 ) -> Answer
     ensures { λ r. ⌜ Keeps-as-found (lent (now (wholes .entry)) (now (doubles .entry))) calls.abandon (now (area .entry))
-        (leaves r (now (wholes .exit)) (now (doubles .exit))) (now (area .entry)) ⌝ }
+        (left-with r (now (wholes .exit)) (now (doubles .exit))) (now (area .entry)) ⌝ }
 {
     let kept = lent::read(wholes, doubles);
     let next = driver::abandon(kept, area);

@@ -29,7 +29,7 @@ use Rattle.driver.specs.Calls.{Held, Called, Step, step-to, in-phase, at
 use Rattle.driver.specs.Calls.{take-first, take-callback, take-pass, ask-candidate, take-stage, figures-of, replied, finishes, room, has-room, one-more}
 use Rattle.driver.specs.Calls.{counted, going-on, spoiled, settled, setting-of}
 use Rattle.driver.specs.Promises.{Meets, Steps}
-use Rattle.driver.proofs.Ladder.{says}
+use Rattle.driver.proofs.Ladder.{same-answer}
 use Rattle.driver.proofs.Sizes.{both}
 
 -- ---- an answer is its case and what it carries
@@ -148,7 +148,7 @@ pub spoils : (h : Held) {test : Bool} (go : Called) {x : Replied} → test ≡ f
 unfolding spoiled counted
 spoils h go e q = rw e
     (record {
-      answer = says (ap (λ (x : Replied). x .answer) q);
+      answer = same-answer (ap (λ (x : Replied). x .answer) q);
       kept = ap (λ (x : Replied). x .«record») q;
       counters = ap (λ (x : Replied). x .counters) q;
       area = refl;

@@ -16,7 +16,7 @@ use Rattle.driver.specs.declared.Counters.{Counters}
 use Rattle.driver.specs.declared.Next.{Next}
 use Rattle.driver.specs.declared.Replied.{Replied}
 use Rattle.driver.specs.declared.Staged.{Staged}
-use Rattle.driver.specs.declared.Staged.the-variants.{On, Ended, NotFinite}
+use Rattle.driver.specs.declared.Staged.the-variants.{On, OnByTheta, Ended, NotFinite}
 use Rattle.driver.specs.Calls.{Called, sized, whole-area, as-long, pending, in-range, good-stage, awaiting, finishes, room, has-room, setting-of}
 use Rattle.driver.specs.Calls.{reply-tests, reply, replied, take-stage, one-more, counted}
 use Rattle.driver.specs.Promises.{Meets, Steps, Stands-for, holding, in-stages, stage-taken, outcome-of}
@@ -81,6 +81,7 @@ roomy p c e h = ap (λ (p : Phase). has-room p c) e ∙ ap (λ (b : Bool). b && 
 counts-as : (x : Staged) (r : Record) (c : Counters) → one-more c ≡ counted (outcome-of x r .answer) c
 unfolding outcome-of counted
 counts-as (On t g) r c = refl
+counts-as (OnByTheta t j theta) r c = refl
 counts-as (Ended t) r c = refl
 counts-as NotFinite r c = refl
 

@@ -151,15 +151,15 @@ unfolding cause-of
 turned-away-by h ts go {k} e n =
     by-tests (λ (x : Called). x ≡ away h k) h ts go (λ q. absurd (n (e ∙ ap cause-of q))) (λ i q. ap (away h) (sym (e ∙ ap cause-of q)))
 
-pub says : {a b : Answer} → a ≡ b → Same-answer a b
-says {a} e = subst (λ (b : Answer). Same-answer a b) e (record { same-case = refl; same-values = refl })
+pub same-answer : {a b : Answer} → a ≡ b → Same-answer a b
+same-answer {a} e = subst (λ (b : Answer). Same-answer a b) e (record { same-case = refl; same-values = refl })
 
 -- the promise of a call that is lent no counters
 pub refused-keeps : {r : Record} {k : ℕ} {x : Next} (area : List Float) (ts : List Test) (go : Counters → Called) → k ≡ cause-of (first-failing ts)
     → (k ≡ 0 → ⊥) → x ≡ refusal k r → Keeps (λ c. guarded (holding r c area) ts (go c)) x area
 refused-keeps {r} {k} {x} area ts go e n q = λ c.
     subst (λ (y : Called). Meets y (x .answer) (x .«record») c area) (sym (turned-away-by (holding r c area) ts (go c) e n))
-    (record { answer = says (ap (λ (y : Next). y .answer) q); kept = ap (λ (y : Next). y .«record») q; counters = refl; area = refl })
+    (record { answer = same-answer (ap (λ (y : Next). y .answer) q); kept = ap (λ (y : Next). y .«record») q; counters = refl; area = refl })
 
 pub admitted-keeps : {go : Counters → Called} {x : Next} {left : List Float} (h : Counters → Held) (ts : List Test) → first-failing ts ≡ admitted
     → Keeps go x left → Keeps (λ c. guarded (h c) ts (go c)) x left
@@ -171,7 +171,7 @@ pub refused-meets : {k : ℕ} {x : Replied} (h : Held) (ts : List Test) (go : Ca
     → x ≡ turned-away k (h .kept) (h .counters) → Meets (guarded h ts go) (x .answer) (x .«record») (x .counters) (h .area)
 refused-meets {k} {x} h ts go e n q =
     subst (λ (y : Called). Meets y (x .answer) (x .«record») (x .counters) (h .area)) (sym (turned-away-by h ts go e n)) (record {
-      answer = says (ap (λ (y : Replied). y .answer) q);
+      answer = same-answer (ap (λ (y : Replied). y .answer) q);
       kept = ap (λ (y : Replied). y .«record») q;
       counters = ap (λ (y : Replied). y .counters) q;
       area = refl;

@@ -12,10 +12,12 @@ use lib.ListN.{length}
 use lib.Ieee.{Float}
 use Rattle.ieee.specs.Double.{_⊕_, nought}
 use Rattle.family.specs.declared.Setting.{Setting}
-use Rattle.family.specs.Family.{Family}
+use Rattle.family.specs.declared.RowForm.{RowForm}
+use Rattle.family.specs.declared.RowForm.the-variants.{OrthogonalRow}
+use Rattle.family.specs.Family.{Family, facts-of, kind}
 use Rattle.coefficients.specs.declared.Coefficients.{Coefficients}
 use Rattle.coefficients.specs.declared.Recurrence.{Recurrence}
-use Rattle.coefficients.specs.Rows.{recurrence, coefficients, next}
+use Rattle.coefficients.specs.Rows.{recurrence, coefficients, next, next-of, next-polynomials}
 use Rattle.workspace.specs.declared.Arguments.{Arguments}
 use Rattle.workspace.specs.Vectors.{Vectors, unpack, vector-count, all-finite, candidate}
 use Rattle.workspace.specs.Kernel.{with-direction, perturbation-of, turned, radius-of, ended, scaled, first-stage, with-row, exchanged, with-candidate}
@@ -28,9 +30,10 @@ use Rattle.driver.specs.declared.Need.the-variants.{Met}
 use Rattle.driver.specs.Calls.{Step, going-on, with-radius, at-pass, at-stage, ask-pass, ask-stage, by-need, begin-stages, take-first, take-pass}
 use Rattle.driver.specs.Calls.{ask-candidate, take-stage, replied, setting-of}
 use Rattle.driver.proofs.Phase as Phases
-use Rattle.driver.specs.declared.Staged.the-variants.{Ended, NotFinite}
+use Rattle.driver.specs.declared.Staging.{Staging}
+use Rattle.driver.specs.declared.Staged.the-variants.{On, OnByTheta, Ended, NotFinite}
 use Rattle.driver.specs.Promises.{Keeps, Steps, in-stages, outcome-of}
-use Rattle.driver.proofs.Ladder.{says}
+use Rattle.driver.proofs.Ladder.{same-answer}
 
 -- what a call leaves, from its step
 pub keeps : (f : Family) (n : ℕ) {s : Step} {x : Next} (left : List Float) → length left ≡ vector-count f * n → Steps s x (unpack n left)
@@ -41,6 +44,10 @@ keeps f n left h m = λ c. record { answer = m .answer; kept = m .kept; counters
 -- the same step, said otherwise
 pub as-step : {s t : Step} {x : Next} {v : Vectors} → s ≡ t → Steps s x v → Steps t x v
 as-step {x = x} {v} e m = subst (λ (s : Step). Steps s x v) e m
+
+-- of what is handed back, said otherwise
+pub handed-on : {s : Step} {x y : Next} {v : Vectors} → x ≡ y → Steps s y v → Steps s x v
+handed-on {s} {v = v} e m = subst (λ (x : Next). Steps s x v) (sym e) m
 
 -- the code measures the area by the record's own n
 pub measured : (r : Record) {n : ℕ} (area left : List Float) {x : Next} → r .n ≡ n → Steps (ask-pass r (unpack (r .n) area)) x (unpack (r .n) left)
@@ -162,15 +169,33 @@ module _ (r : Record) (v : Vectors) (d : List Float) where
       ∙ sym (ap staged (le-ltb (r .staging .stage) (r .staging .stages) h)))
       t
 
+-- where the rows need no polynomials, of what the stages carry on theta alone moves
+pub by-theta : (t : Float) (g : Staging) (m : Setting) (r : Record) (row : Coefficients) → facts-of (kind m) .row ≡ OrthogonalRow
+    → g .stages ≡ r .staging .stages → g .recurrence ≡ next m (r .staging .stages) (r .staging .recurrence) row
+    → outcome-of (OnByTheta t (g .stage) (g .recurrence .«theta_previous»)) r ≡ outcome-of (On t g) r
+unfolding outcome-of next-of next-polynomials
+by-theta t g m r row orthogonal same e =
+    let s = r .staging .stages in
+    let c = r .staging .recurrence in
+    let moving : Float → Recurrence = λ theta. record { «theta_previous» = theta; «theta_previous_two» = c .«theta_previous»; polynomials = c .polynomials } in
+    let in-form : RowForm → Recurrence = λ form. record {
+      «theta_previous» = row .theta;
+      «theta_previous_two» = c .«theta_previous»;
+      polynomials = next-polynomials form s (c .polynomials);
+    } in
+    let on = ap (λ (y : Recurrence). moving (y .«theta_previous»)) e ∙ sym (ap in-form orthogonal) ∙ sym e in
+    ap (λ (y : Recurrence). outcome-of (On t (record { stages = s; stage = g .stage; recurrence = y })) r) on
+    ∙ ap (λ (k : ℕ). outcome-of (On t (record { stages = k; stage = g .stage; recurrence = g .recurrence })) r) (sym same)
+
 -- after it: the candidate, by its test
 pub candidate-asked : (r : Record) (v : Vectors) {b : Bool} → b ≡ all-finite (v candidate) → b ≡ true
     → Steps (ask-candidate r v) (outcome-of (Ended (r .arguments .time ⊕ r .arguments .step)) r) v
 unfolding ask-candidate outcome-of
-candidate-asked r v e t = rw (sym e ∙ t) (record { answer = says refl; kept = refl; vectors = refl })
+candidate-asked r v e t = rw (sym e ∙ t) (record { answer = same-answer refl; kept = refl; vectors = refl })
 
 pub candidate-refused : (r : Record) (v : Vectors) {b : Bool} → b ≡ all-finite (v candidate) → b ≡ false → Steps (ask-candidate r v) (outcome-of NotFinite r) v
 unfolding ask-candidate outcome-of
-candidate-refused r v e t = rw (sym e ∙ t) (record { answer = says refl; kept = refl; vectors = refl })
+candidate-refused r v e t = rw (sym e ∙ t) (record { answer = same-answer refl; kept = refl; vectors = refl })
 
 -- the phases that a reply outside the stages takes alike: those of these positions among the variants
 pub alike : (p : Phase) → in-stages p ≡ false → OneOf (0 ∷ 1 ∷ 2 ∷ 4 ∷ 6 ∷ []) (tagOf Phases.the-type p) → take-first ≡ replied p

@@ -21,7 +21,7 @@ use Rattle.driver.specs.declared.Answer.the-variants.{Evaluate, Refused}
 use Rattle.driver.specs.declared.Next.{Next}
 use Rattle.driver.specs.declared.Replied.{Replied}
 use Rattle.driver.specs.declared.Staged.{Staged}
-use Rattle.driver.specs.declared.Staged.the-variants.{On, Ended, NotFinite}
+use Rattle.driver.specs.declared.Staged.the-variants.{On, OnByTheta, Ended, NotFinite}
 use Rattle.driver.specs.Answers.{Same-answer}
 use Rattle.driver.specs.Calls.{Held, Called, Step, same-phase, in-phase, at-stage, sized, whole-area, as-long, good-stage, room, one-more, setting-of}
 
@@ -66,6 +66,10 @@ stage-taken r c area d =
 -- what such a reply hands back stands for this answer and record
 unfoldable pub outcome-of : Staged → Record → Next
 outcome-of (On t g) r = record { answer = Evaluate t (number previous-one); «record» = at-stage (g .stages) (g .stage) (g .recurrence) r }
+outcome-of (OnByTheta t j theta) r =
+    let c = r .staging .recurrence in
+    let on : Recurrence = record { «theta_previous» = theta; «theta_previous_two» = c .«theta_previous»; polynomials = c .polynomials } in
+    record { answer = Evaluate t (number previous-one); «record» = at-stage (r .staging .stages) j on r }
 outcome-of (Ended t) r = record { answer = Evaluate t (number candidate); «record» = in-phase P.Candidate r }
 outcome-of NotFinite r = record { answer = Refused 10; «record» = in-phase P.Empty r }
 

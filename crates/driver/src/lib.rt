@@ -91,10 +91,11 @@ pub struct Replied {
     pub counters: Counters,
 }
 
-// What a reply to a stage's evaluation comes to: the next stage's evaluation at this time and position; after stage s the
-// candidate's at this time, or a candidate that is not finite.
+// What a reply to a stage's evaluation comes to: the next stage's evaluation at this time and position, or the same where
+// of the position only the stage and theta move; after stage s the candidate's at this time, or a candidate that is not finite.
 pub enum Staged {
     On { time: f64, staging: Staging },
+    OnByTheta { time: f64, stage: u64, theta: f64 },
     Ended { time: f64 },
     NotFinite,
 }
@@ -323,6 +324,21 @@ fn outcome_of(record: Record, staged: Staged) -> Next
         Staged::On { time, staging } => {
             let recurrence = staging.recurrence;
             let on = position::at_stage(record, staging.stages, staging.stage, recurrence);
+            let vector = workspace::PREVIOUS_ONE;
+            Next {
+                answer: Answer::Evaluate { time, vector },
+                record: on,
+            }
+        }
+        Staged::OnByTheta { time, stage, theta } => {
+            let before = record.staging;
+            let polynomials = before.recurrence.polynomials;
+            let recurrence = Recurrence {
+                theta_previous: theta,
+                theta_previous_two: before.recurrence.theta_previous,
+                polynomials,
+            };
+            let on = position::at_stage(record, before.stages, stage, recurrence);
             let vector = workspace::PREVIOUS_ONE;
             Next {
                 answer: Answer::Evaluate { time, vector },

@@ -6,7 +6,11 @@ ghost use lib.Dec.{eqb};
 ghost use lib.ListN.{length};
 ghost use Rattle.workspace.specs.Vectors.{Vectors, unpack, eigenvector, vector-norm};
 ghost use Rattle.workspace.specs.Kernel.{ended};
+ghost use Rattle.coefficients.specs.declared.Coefficients.{Coefficients};
+ghost use Rattle.coefficients.specs.Rows.{next};
 ghost use Rattle.driver.specs.declared.Need as need;
+ghost use Rattle.driver.specs.declared.Record.{Record};
+ghost use Rattle.driver.specs.declared.Staged.the-variants.{On};
 ghost use Rattle.driver.specs.Calls as calls;
 ghost use Rattle.driver.specs.Promises.{Steps, in-stages, outcome-of};
 use crate::Answer;
@@ -18,6 +22,7 @@ use crate::Record;
 use crate::Staged;
 use crate::Staging;
 use crate::position;
+use family::RowForm;
 use family::Setting;
 
 // The derivative of the kept state.
@@ -155,6 +160,23 @@ pub fn take_pass(record: Record, area: &mut [f64], derivative: &[f64]) -> Next
     ask_pass(on, area, norm)
 }
 
+// The next stage's evaluation. RKL and RKG carry polynomials that they never read, and these are not handed back.
+fn onward(setting: Setting, time: f64, staging: Staging) -> Staged
+    ensures { λ x. ⌜ ((r : Record) (row : Coefficients) → staging .stages ≡ r .staging .stages
+        → staging .recurrence ≡ next setting (r .staging .stages) (r .staging .recurrence) row → outcome-of x r ≡ outcome-of (On time staging) r) ⌝ }
+{
+    let own = family::facts_of(setting.family);
+    let form = own.row;
+    match form {
+        RowForm::ChebyshevRow => Staged::On { time, staging },
+        RowForm::OrthogonalRow => Staged::OnByTheta {
+            time,
+            stage: staging.stage,
+            theta: staging.recurrence.theta_previous,
+        },
+    }
+}
+
 // A stage's derivative: on to the next stage, or after stage s to the candidate. The only caller of the rows, so that they
 // are compiled in place.
 pub fn take_stage(record: Record, area: &mut [f64], derivative: &[f64]) -> Staged
@@ -181,7 +203,7 @@ pub fn take_stage(record: Record, area: &mut [f64], derivative: &[f64]) -> Stage
             stage: j + 1,
             recurrence,
         };
-        return Staged::On { time, staging };
+        return onward(setting, time, staging);
     }
     workspace::row(area, n, setting, row, step, derivative);
     workspace::keep_candidate(area, n, setting, step, s, c, row);

@@ -6,12 +6,12 @@ use lib.ListN.{length, getD, set}
 use lib.Ieee.{Float, nan}
 use Rattle.ieee.specs.Double.{nought}
 use Rattle.driver.specs.declared.Staging.{Staging}
-use Rattle.driver.specs.declared.Staged.the-variants.{On, Ended, NotFinite}
+use Rattle.driver.specs.declared.Staged.the-variants.{On, OnByTheta, Ended, NotFinite}
 use Rattle.driver.specs.Answers.{case-number, case-values}
 use Rattle.driver.specs.Calls.{in-phase, at-stage}
 use Rattle.driver.specs.Promises.{outcome-of}
 use Rattle.lent.specs.declared.Answer.{Answer}
-use Rattle.lent.specs.Lent.{wholes-long, doubles-long, lent, leaves, staged-outcome}
+use Rattle.lent.specs.Lent.{wholes-long, doubles-long, lent, left-with, staged-outcome}
 use Rattle.lent.specs.Numbers.{brought, meaning, written, first-or, coded, in-numbers, stands, handed-back}
 
 -- ---- a list by its elements
@@ -27,12 +27,20 @@ spelled {A} d (x ∷ xs) = ap (λ (r : List A). x ∷ r) (spelled d xs)
 in-cells : {A : Type 0} (d : A) (xs : List A) (n : ℕ) → length xs ≡ n → cells (λ i. getD xs i d) n ≡ xs
 in-cells d xs n e = sym (spelled d xs ∙ ap (cells (λ i. getD xs i d)) e)
 
+-- what holds of every two lists of the record's lengths, spelled by their elements
+spelled-out : (P : List ℕ → List Float → Type 0) (w : List ℕ) (x : List Float) → length w ≡ wholes-long → length x ≡ doubles-long
+    → ((f : ℕ → ℕ) (h : ℕ → Float) → P (cells f wholes-long) (cells h doubles-long)) → P w x
+spelled-out P w x e f p =
+    subst (λ (u : List ℕ). P u x) (in-cells 0 w wholes-long e)
+    (subst (λ (y : List Float). P (cells (λ i. getD w i 0) wholes-long) y) (in-cells nan x doubles-long f) (p (λ i. getD w i 0) (λ i. getD x i nan)))
+
+-- evaluate this vector at this time
+abbrev asked : ℕ → Float → Answer
+asked vector t = record { code = 1; number = vector; value = t }
+
 -- ---- the position of the next stage, and its evaluation at this time
 
 module _ (t : Float) (g : Staging) where
-  abbrev asked : Answer
-  asked = record { code = 1; number = 4; value = t }
-
   abbrev wholes-on : List ℕ → List ℕ
   wholes-on w = set (set (set w 2 4) 5 (g .stages)) 6 (g .stage)
 
@@ -46,39 +54,56 @@ module _ (t : Float) (g : Staging) where
       set (set after-three 16 (p .«b_previous_two»)) 17 (c .«theta_previous_two»)
 
   abbrev Placed : List ℕ → List Float → Type 0
-  Placed w x = leaves asked (wholes-on w) (doubles-on x) ≡ staged-outcome (lent w x) (On t g)
+  Placed w x = left-with (asked 4 t) (wholes-on w) (doubles-on x) ≡ staged-outcome (lent w x) (On t g)
 
   placed-in-cells : (f : ℕ → ℕ) (h : ℕ → Float) → Placed (cells f wholes-long) (cells h doubles-long)
   unfolding outcome-of handed-back stands coded first-or case-number case-values written at-stage meaning brought
   placed-in-cells f h = refl
 
   pub placed : (w : List ℕ) (x : List Float) → length w ≡ wholes-long → length x ≡ doubles-long
-      → leaves asked (wholes-on w) (doubles-on x) ≡ staged-outcome (lent w x) (On t g)
-  placed w x e f =
-      subst (λ (u : List ℕ). Placed u x) (in-cells 0 w wholes-long e)
-      (subst (λ (y : List Float). Placed (cells (λ i. getD w i 0) wholes-long) y) (in-cells nan x doubles-long f)
-      (placed-in-cells (λ i. getD w i 0) (λ i. getD x i nan)))
+      → left-with (asked 4 t) (wholes-on w) (doubles-on x) ≡ staged-outcome (lent w x) (On t g)
+  placed w x e f = spelled-out Placed w x e f placed-in-cells
+
+-- ---- the same where only the stage and theta move
+
+module _ (t : Float) (j : ℕ) (theta : Float) where
+  abbrev wholes-moved : List ℕ → List ℕ
+  wholes-moved w = set (set w 2 4) 6 j
+
+  abbrev doubles-moved : List Float → List Float
+  doubles-moved x = set (set x 17 (getD x 15 nan)) 15 theta
+
+  abbrev Moved : List ℕ → List Float → Type 0
+  Moved w x = left-with (asked 4 t) (wholes-moved w) (doubles-moved x) ≡ staged-outcome (lent w x) (OnByTheta t j theta)
+
+  moved-in-cells : (f : ℕ → ℕ) (h : ℕ → Float) → Moved (cells f wholes-long) (cells h doubles-long)
+  unfolding outcome-of handed-back stands coded first-or case-number case-values written at-stage meaning brought
+  moved-in-cells f h = refl
+
+  pub moved : (w : List ℕ) (x : List Float) → length w ≡ wholes-long → length x ≡ doubles-long
+      → left-with (asked 4 t) (wholes-moved w) (doubles-moved x) ≡ staged-outcome (lent w x) (OnByTheta t j theta)
+  moved w x e f = spelled-out Moved w x e f moved-in-cells
 
 -- ---- only the phase
 
 pub ended : (t : Float) (w : List ℕ) (x : List Float) → length w ≡ wholes-long
-    → leaves (record { code = 1; number = 10; value = t }) (set w 2 5) x ≡ staged-outcome (lent w x) (Ended t)
+    → left-with (asked 10 t) (set w 2 5) x ≡ staged-outcome (lent w x) (Ended t)
 unfolding outcome-of handed-back stands coded first-or case-number case-values written in-phase meaning brought
 ended t w x e = subst Ends (in-cells 0 w wholes-long e) (ends-in-cells (λ i. getD w i 0))
   where
     Ends : List ℕ → Type 0
-    Ends u = leaves (record { code = 1; number = 10; value = t }) (set u 2 5) x ≡ staged-outcome (lent u x) (Ended t)
+    Ends u = left-with (asked 10 t) (set u 2 5) x ≡ staged-outcome (lent u x) (Ended t)
 
     ends-in-cells : (f : ℕ → ℕ) → Ends (cells f wholes-long)
     ends-in-cells f = refl
 
 pub emptied : (w : List ℕ) (x : List Float) → length w ≡ wholes-long
-    → leaves (record { code = 4; number = 10; value = nought }) (set w 2 0) x ≡ staged-outcome (lent w x) NotFinite
+    → left-with (record { code = 4; number = 10; value = nought }) (set w 2 0) x ≡ staged-outcome (lent w x) NotFinite
 unfolding outcome-of handed-back stands coded first-or case-number case-values written in-phase meaning brought
 emptied w x e = subst Empties (in-cells 0 w wholes-long e) (empties-in-cells (λ i. getD w i 0))
   where
     Empties : List ℕ → Type 0
-    Empties u = leaves (record { code = 4; number = 10; value = nought }) (set u 2 0) x ≡ staged-outcome (lent u x) NotFinite
+    Empties u = left-with (record { code = 4; number = 10; value = nought }) (set u 2 0) x ≡ staged-outcome (lent u x) NotFinite
 
     empties-in-cells : (f : ℕ → ℕ) → Empties (cells f wholes-long)
     empties-in-cells f = refl

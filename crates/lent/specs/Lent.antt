@@ -75,8 +75,8 @@ place-of w =
     }
 
 -- what a call answers, and what it leaves of the record
-abbrev pub leaves : Answer → List ℕ → List Float → Answered
-leaves a w x = record { answer = a; «record» = lent w x }
+abbrev pub left-with : Answer → List ℕ → List Float → Answered
+left-with a w x = record { answer = a; «record» = lent w x }
 
 -- what a reply to a stage's evaluation hands back, from the record before it
 abbrev pub staged-outcome : Record → Staged → Answered

@@ -1,9 +1,9 @@
 // The record and the answer as they are lent to C: whole numbers and doubles, read and written in place.
 ghost use mathlib.Core.Path.{_≡_};
 ghost use lib.ListN.{length};
-ghost use Rattle.driver.specs.declared.Staged.the-variants.{On, Ended, NotFinite};
+ghost use Rattle.driver.specs.declared.Staged.the-variants.{On, OnByTheta, Ended, NotFinite};
 ghost use Rattle.lent.specs.Numbers as numbers;
-ghost use Rattle.lent.specs.Lent.{wholes-long, doubles-long, arguments-in, iteration-in, polynomials-in, staging-in, lent, place-of, leaves};
+ghost use Rattle.lent.specs.Lent.{wholes-long, doubles-long, arguments-in, iteration-in, polynomials-in, staging-in, lent, place-of, left-with};
 ghost use Rattle.lent.specs.Lent.{staged-outcome};
 use coefficients::Polynomials;
 use coefficients::Recurrence;
@@ -251,7 +251,7 @@ pub fn leave_with(
     adaptive: u64,
     next: Next,
 ) -> Answer
-    ensures { λ r. ⌜ leaves r (now (wholes .exit)) (now (doubles .exit)) ≡ numbers.handed-back (lent (now (wholes .entry)) (now (doubles .entry))) adaptive
+    ensures { λ r. ⌜ left-with r (now (wholes .exit)) (now (doubles .exit)) ≡ numbers.handed-back (lent (now (wholes .entry)) (now (doubles .entry))) adaptive
         (numbers.in-numbers (next .answer)) (next .«record») ⌝ }
 {
     let answer = next.answer;
@@ -266,7 +266,7 @@ pub fn leave_with(
 
 // The same, with the number for `adaptive` that was found.
 pub fn leave(wholes: &mut [u64; WHOLES], doubles: &mut [f64; DOUBLES], next: Next) -> Answer
-    ensures { λ r. ⌜ leaves r (now (wholes .exit)) (now (doubles .exit)) ≡ numbers.handed-back (lent (now (wholes .entry)) (now (doubles .entry)))
+    ensures { λ r. ⌜ left-with r (now (wholes .exit)) (now (doubles .exit)) ≡ numbers.handed-back (lent (now (wholes .entry)) (now (doubles .entry)))
         (lent (now (wholes .entry)) (now (doubles .entry)) .arguments .adaptive) (numbers.in-numbers (next .answer)) (next .«record») ⌝ }
 {
     let adaptive = wholes[3];
@@ -277,7 +277,7 @@ pub fn leave(wholes: &mut [u64; WHOLES], doubles: &mut [f64; DOUBLES], next: Nex
 fn ask_stage(wholes: &mut [u64], doubles: &mut [f64], time: f64, staging: Staging) -> Answer
     requires { ⌜ length (now wholes) ≡ wholes-long ⌝ }
     requires { ⌜ length (now doubles) ≡ doubles-long ⌝ }
-    ensures { λ r. ⌜ leaves r (now (wholes .exit)) (now (doubles .exit)) ≡ staged-outcome (lent (now (wholes .entry)) (now (doubles .entry)))
+    ensures { λ r. ⌜ left-with r (now (wholes .exit)) (now (doubles .exit)) ≡ staged-outcome (lent (now (wholes .entry)) (now (doubles .entry)))
         (On time staging) ⌝ }
 {
     let c = staging.recurrence;
@@ -298,7 +298,31 @@ fn ask_stage(wholes: &mut [u64], doubles: &mut [f64], time: f64, staging: Stagin
     doubles[17] = c.theta_previous_two;
     Answer {
         code: 1,
-        number: 4,
+        number: workspace::PREVIOUS_ONE as u64,
+        value: time,
+    }
+}
+
+// The same where of the position only the stage and theta move.
+fn ask_stage_by_theta(
+    wholes: &mut [u64],
+    doubles: &mut [f64],
+    time: f64,
+    stage: u64,
+    theta: f64,
+) -> Answer
+    requires { ⌜ length (now wholes) ≡ wholes-long ⌝ }
+    requires { ⌜ length (now doubles) ≡ doubles-long ⌝ }
+    ensures { λ r. ⌜ left-with r (now (wholes .exit)) (now (doubles .exit)) ≡ staged-outcome (lent (now (wholes .entry)) (now (doubles .entry)))
+        (OnByTheta time stage theta) ⌝ }
+{
+    wholes[2] = 4;
+    wholes[6] = stage;
+    doubles[17] = doubles[15];
+    doubles[15] = theta;
+    Answer {
+        code: 1,
+        number: workspace::PREVIOUS_ONE as u64,
         value: time,
     }
 }
@@ -306,12 +330,12 @@ fn ask_stage(wholes: &mut [u64], doubles: &mut [f64], time: f64, staging: Stagin
 // The candidate's evaluation at this time. Only the phase is written.
 fn ask_candidate(wholes: &mut [u64], doubles: &[f64; DOUBLES], time: f64) -> Answer
     requires { ⌜ length (now wholes) ≡ wholes-long ⌝ }
-    ensures { λ r. ⌜ leaves r (now (wholes .exit)) (now (doubles .entry)) ≡ staged-outcome (lent (now (wholes .entry)) (now (doubles .entry))) (Ended time) ⌝ }
+    ensures { λ r. ⌜ left-with r (now (wholes .exit)) (now (doubles .entry)) ≡ staged-outcome (lent (now (wholes .entry)) (now (doubles .entry))) (Ended time) ⌝ }
 {
     wholes[2] = 5;
     Answer {
         code: 1,
-        number: 10,
+        number: workspace::CANDIDATE as u64,
         value: time,
     }
 }
@@ -319,7 +343,7 @@ fn ask_candidate(wholes: &mut [u64], doubles: &[f64; DOUBLES], time: f64) -> Ans
 // A candidate that is not finite: the phase is emptied.
 fn refuse_candidate(wholes: &mut [u64], doubles: &[f64; DOUBLES]) -> Answer
     requires { ⌜ length (now wholes) ≡ wholes-long ⌝ }
-    ensures { λ r. ⌜ leaves r (now (wholes .exit)) (now (doubles .entry)) ≡ staged-outcome (lent (now (wholes .entry)) (now (doubles .entry))) NotFinite ⌝ }
+    ensures { λ r. ⌜ left-with r (now (wholes .exit)) (now (doubles .entry)) ≡ staged-outcome (lent (now (wholes .entry)) (now (doubles .entry))) NotFinite ⌝ }
 {
     wholes[2] = 0;
     Answer {
@@ -335,10 +359,13 @@ pub fn leave_staged(
     doubles: &mut [f64; DOUBLES],
     staged: Staged,
 ) -> Answer
-    ensures { λ r. ⌜ leaves r (now (wholes .exit)) (now (doubles .exit)) ≡ staged-outcome (lent (now (wholes .entry)) (now (doubles .entry))) staged ⌝ }
+    ensures { λ r. ⌜ left-with r (now (wholes .exit)) (now (doubles .exit)) ≡ staged-outcome (lent (now (wholes .entry)) (now (doubles .entry))) staged ⌝ }
 {
     match staged {
         Staged::On { time, staging } => ask_stage(wholes, doubles, time, staging),
+        Staged::OnByTheta { time, stage, theta } => {
+            ask_stage_by_theta(wholes, doubles, time, stage, theta)
+        }
         Staged::Ended { time } => ask_candidate(wholes, doubles, time),
         Staged::NotFinite => refuse_candidate(wholes, doubles),
     }

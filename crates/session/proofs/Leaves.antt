@@ -39,7 +39,7 @@ use Rattle.session.proofs.Numbers.{is-in, not-both, not-nine}
 use Rattle.session.proofs.Needs.{Needed, need-holds}
 use Rattle.session.proofs.Lengths.{its-family, long-area, replied-long}
 use Rattle.session.proofs.Guards.{low, low-fails}
-use Rattle.session.proofs.Refused.{same-number, says-refused}
+use Rattle.session.proofs.Refused.{same-number, refused-answer}
 
 -- not refused at all
 unrefused : (y : Answer) (i : ℕ) → verdict-of y ≡ admitted → y ≡ Refused i → ⊥
@@ -206,4 +206,4 @@ made-leaves h (Accept-with-callback y t) = callback-leaves h y t
 made-leaves h Abandon = abandon-leaves h
 
 pub leaves : (h : Held) (c : Call) (i : ℕ) → Same-answer (made h c .answer) (Refused i) → Left h i (made h c .held)
-leaves h c i s = made-leaves h c i (says-refused (made h c .answer) i s)
+leaves h c i s = made-leaves h c i (refused-answer (made h c .answer) i s)

@@ -134,17 +134,17 @@ decided h (Accept-with-callback y t) = callback-decided h y t
 decided h Abandon = abandon-decided h
 
 -- an answer that says refused with k is that
-pub says-refused : (y : Answer) (k : ℕ) → Same-answer y (Refused k) → y ≡ Refused k
+pub refused-answer : (y : Answer) (k : ℕ) → Same-answer y (Refused k) → y ≡ Refused k
 unfolding case-number case-values
-says-refused (Evaluate t b) k s = absurd (omega (arith, s .same-case))
-says-refused (Finished figures) k s = absurd (omega (arith, s .same-case))
-says-refused Ready k s = absurd (omega (arith, s .same-case))
-says-refused (Refused i) k s = ap (λ (v : Values). Refused (first (v .numbers))) (s .same-values)
+refused-answer (Evaluate t b) k s = absurd (omega (arith, s .same-case))
+refused-answer (Finished figures) k s = absurd (omega (arith, s .same-case))
+refused-answer Ready k s = absurd (omega (arith, s .same-case))
+refused-answer (Refused i) k s = ap (λ (v : Values). Refused (first (v .numbers))) (s .same-values)
   where
     first : List ℕ → ℕ
     first [] = 0
     first (i ∷ is) = i
-says-refused Empty k s = absurd (omega (arith, s .same-case))
+refused-answer Empty k s = absurd (omega (arith, s .same-case))
 
 pub same-number : (i j : ℕ) → Refused i ≡ Refused j → i ≡ j
 unfolding cause-of
@@ -154,7 +154,7 @@ same-number i j e = ap (λ (y : Answer). cause-of (verdict-of y)) e
 pub refused : (h : Held) (c : Call) (k : ℕ) → Same-answer (made h c .answer) (Refused k) ↔ first-failing (tests-of h c) ≡ refused-with k
 unfolding cause-of
 refused h c k = (
-  λ s. sym (decided h c .verdict-is) ∙ ap verdict-of (says-refused (made h c .answer) k s),
+  λ s. sym (decided h c .verdict-is) ∙ ap verdict-of (refused-answer (made h c .answer) k s),
   λ e. go (made h c .answer) (decided h c .verdict-is ∙ e),
 )
   where

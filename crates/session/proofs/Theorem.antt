@@ -12,7 +12,7 @@ use Rattle.driver.specs.declared.Answer.{Answer}
 use Rattle.driver.specs.declared.Answer.the-variants.{Evaluate, Finished, Ready, Refused, Empty}
 use Rattle.driver.specs.Answers.{case-number}
 use Rattle.driver.specs.Calls.{Held, Called, attempt, reply}
-use Rattle.driver.proofs.Ladder.{says}
+use Rattle.driver.proofs.Ladder.{same-answer}
 use Rattle.session.specs.Attempt.{Asking, done, stopped, ask, Finished-attempt, Evaluated, evaluated, End, reached, end}
 use Rattle.session.specs.Claim.{called-for, Allowed, Fits, Finishes, Ends, after, last-found, in-one-piece, replies-to, Runs, Took}
 use Rattle.session.proofs.Served.{stages-from}
@@ -72,7 +72,7 @@ module _ (h : Held) (a : Arguments) (d : ℕ → List Float) (o : Finished-attem
           le,
           fits .attempts-fit,
         ) (attempt-follows h a p) j (omega arith);
-        answer-is = says (finished .answer-is);
+        answer-is = same-answer (finished .answer-is);
         evaluations-are = finished .evaluations-are;
         attempts-are = finished .attempts-are;
       }

@@ -11,8 +11,8 @@ place-requires c κs = search needs
 stage-taken-requires : tie.Need-stage-taken-requires
 stage-taken-requires c κs = search needs
 
-reply-in-stages-requires : tie.Need-reply-in-stages-requires
-reply-in-stages-requires c κs =
+lent-reply-in-stages-requires : tie.Need-lent-reply-in-stages-requires
+lent-reply-in-stages-requires c κs =
     let t = c .before .before .before .before in
     let a = t .before .before .before .before .before .before .before .before .before .args in
     as-tested (a .wholes .now) (counting (a .evaluations .now) (a .finished-attempts .now)) (a .area .now) (a .derivative .now)
@@ -22,10 +22,10 @@ same-length : tie.Need-same-length
 same-length c = search needs
 
 returns : tie.Need-returns
-returns c = c .before .before .reply-in-stages .ensures
+returns c = c .before .before .lent-reply-in-stages .ensures
 
-reply-elsewhere-requires : tie.Need-reply-elsewhere-requires
-reply-elsewhere-requires c κs =
+lent-reply-elsewhere-requires : tie.Need-lent-reply-elsewhere-requires
+lent-reply-elsewhere-requires c κs =
     let t = c .before .before .before .before .before in
     let a = t .before .before .before .before .before .before .before .before .before .args in
     as-tested (a .wholes .now) (counting (a .evaluations .now) (a .finished-attempts .now)) (a .area .now) (a .derivative .now)
@@ -35,7 +35,7 @@ same-length-2 : tie.Need-same-length-2
 same-length-2 c = search needs
 
 returns-2 : tie.Need-returns-2
-returns-2 c = c .before .before .reply-elsewhere .ensures
+returns-2 c = c .before .before .lent-reply-elsewhere .ensures
 
 pub stabilized-reply-spec : {M : Type 1} → statement M
 stabilized-reply-spec =
@@ -43,9 +43,9 @@ stabilized-reply-spec =
     (tie.spec
     place-requires
     stage-taken-requires
-    reply-in-stages-requires
+    lent-reply-in-stages-requires
     same-length
     returns
-    reply-elsewhere-requires
+    lent-reply-elsewhere-requires
     same-length-2
     returns-2)

@@ -2,7 +2,7 @@
 use mathlib.Core.Path.{refl, sym, _∙_}
 use borrow.Author.Needs.{needs}
 use Rattle.driver.specs.Calls.{abandon-tests, abandon}
-use Rattle.driver.proofs.Ladder.{none-fails, refused-keeps, admitted-keeps, says}
+use Rattle.driver.proofs.Ladder.{none-fails, refused-keeps, admitted-keeps, same-answer}
 use Rattle.driver.proofs.abandon.Statement.{statement}
 use Rattle.driver.proofs.abandon.Tie as tie
 
@@ -23,7 +23,7 @@ returns-2 : tie.Need-returns-2
 unfolding abandon abandon-tests
 returns-2 c =
     admitted-keeps _ _ (none-fails _ refl (sym (c .before .before .of-abandon .ensures) ∙ c .before .if1 .left))
-    (λ _. record { answer = says refl; kept = c .in-phase .ensures; counters = refl; area = refl })
+    (λ _. record { answer = same-answer refl; kept = c .in-phase .ensures; counters = refl; area = refl })
 
 pub abandon-spec : {M : Type 1} → statement M
 abandon-spec =

@@ -8,7 +8,7 @@ use Rattle.workspace.proofs.Areas.{whole}
 use Rattle.driver.specs.Calls.{accept-tests, accept, accepted}
 use Rattle.driver.proofs.Steps.{keeps}
 use Rattle.driver.proofs.Clear.{clear}
-use Rattle.driver.proofs.Ladder.{refused-keeps, admitted-keeps, says}
+use Rattle.driver.proofs.Ladder.{refused-keeps, admitted-keeps, same-answer}
 use Rattle.driver.proofs.accept.Statement.{statement}
 use Rattle.driver.proofs.accept.Tie as tie
 
@@ -63,7 +63,7 @@ returns-2 c =
     let second = c .before .before .before .copy-vector2 .ensures .vectors in
     admitted-keeps _ _ (l .none)
     (keeps (family-of (r .family)) (r .n) _ (same-length-2 c ∙ l .long) (record {
-      answer = says refl;
+      answer = same-answer refl;
       kept = c .in-phase .ensures;
       vectors = second ∙ ap (λ (v : Vectors). v with state ≔ v candidate) first;
     }))

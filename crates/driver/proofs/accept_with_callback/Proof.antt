@@ -6,7 +6,7 @@ use Rattle.workspace.proofs.Areas.{whole}
 use Rattle.driver.specs.Calls.{callback-tests, accept-with-callback, called-back}
 use Rattle.driver.proofs.Steps.{keeps}
 use Rattle.driver.proofs.Clear.{brings}
-use Rattle.driver.proofs.Ladder.{refused-keeps, admitted-keeps, says}
+use Rattle.driver.proofs.Ladder.{refused-keeps, admitted-keeps, same-answer}
 use Rattle.driver.proofs.accept_with_callback.Statement.{statement}
 use Rattle.driver.proofs.accept_with_callback.Tie as tie
 
@@ -47,7 +47,7 @@ returns-2 c =
     let l = brings (r .family) (r .n) (a .area .now) (a .state .now) _ refl (t .before .of-callback .ensures) (t .if1 .left) in
     admitted-keeps _ _ (l .none)
     (keeps (family-of (r .family)) (r .n) _ (same-length-2 c ∙ l .long) (record {
-      answer = says refl;
+      answer = same-answer refl;
       kept = c .first-at .ensures;
       vectors = c .before .before .before .put-vector .ensures .vectors;
     }))

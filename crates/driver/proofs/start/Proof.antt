@@ -11,7 +11,7 @@ use Rattle.workspace.proofs.Areas.{whole}
 use Rattle.driver.specs.Calls.{start-tests, start, going-on}
 use Rattle.driver.proofs.Steps.{keeps}
 use Rattle.driver.proofs.Clear.{brings}
-use Rattle.driver.proofs.Ladder.{refused-keeps, admitted-keeps, says}
+use Rattle.driver.proofs.Ladder.{refused-keeps, admitted-keeps, same-answer}
 use Rattle.driver.proofs.start.Statement.{statement}
 use Rattle.driver.proofs.start.Tie as tie
 
@@ -60,7 +60,7 @@ returns-2 c =
     let filled = c .before .before .before .fill-vector .ensures .vectors in
     admitted-keeps _ _ (l .none)
     (keeps (family-of (a .family)) (a .n) _ (same-length-2 c ∙ l .long) (record {
-      answer = says refl;
+      answer = same-answer refl;
       kept = c .first-at .ensures;
       vectors = filled ∙ ap (λ (v : Vectors). v with eigenvector ≔ replicate (a .n) nought) put;
     }))

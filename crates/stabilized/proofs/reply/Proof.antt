@@ -1,7 +1,10 @@
 -- `reply` meets its contract, by a walk of its code in the program logic: the borrow of the counters is opened and they are copied, the driver's reply is
 -- called with the area lent on, the counters that it returned are stored behind the reference, the borrow is closed, and answer and record are handed back.
--- From the driver's contract alone. outer           the code that is walked core-clauses, outer-clauses     the two contracts Core            the driver's
--- triple outer-meets     from the driver's triple, that the code meets its contract
+-- From the driver's contract alone.
+--     outer           the code that is walked
+--     core-clauses, outer-clauses     the two contracts
+--     Core            the driver's triple
+--     outer-meets     from the driver's triple, that the code meets its contract
 use mathlib.Core.Path.{_≡_, refl, ap}
 use Prim.Native.Nat.{ℕ}
 use mathlib.Core.List.{[], _∷_, List}

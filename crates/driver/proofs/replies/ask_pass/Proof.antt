@@ -5,7 +5,7 @@ use borrow.Author.Needs.{needs}
 use Rattle.workspace.specs.Vectors.{unpack}
 use Rattle.workspace.specs.Kernel.{perturbed-by, perturbed}
 use Rattle.driver.specs.Calls.{ask-pass}
-use Rattle.driver.proofs.Ladder.{says}
+use Rattle.driver.proofs.Ladder.{same-answer}
 use Rattle.driver.proofs.replies.ask_pass.Statement.{statement}
 use Rattle.driver.proofs.replies.ask_pass.Tie as tie
 
@@ -21,7 +21,7 @@ returns c =
     let a = c .before .before .before .before .before .args in
     let r = a .«record» in
     record {
-      answer = says refl;
+      answer = same-answer refl;
       kept = refl;
       vectors = c .before .before .perturb .ensures .vectors
           ∙ ap (λ (m : Float). perturbed-by (r .n) (r .iteration .perturbation) m (unpack (r .n) (a .area .now)))

@@ -6,7 +6,7 @@ use Rattle.workspace.specs.Vectors.{unpack}
 use Rattle.driver.specs.declared.Need.{Need}
 use Rattle.driver.specs.Calls.{stage-need, by-need, begin-stages}
 use Rattle.driver.proofs.Steps.{as-step}
-use Rattle.driver.proofs.Ladder.{says}
+use Rattle.driver.proofs.Ladder.{same-answer}
 use Rattle.driver.proofs.replies.begin_stages.Statement.{statement}
 use Rattle.driver.proofs.replies.begin_stages.Tie as tie
 
@@ -48,7 +48,7 @@ returns-2 c =
     ∙ ap (λ (m : Setting). stage-need m (a .scaled-radius)) (c .before .before .before .before .before .setting-of .ensures) in
     as-step (ap (λ (y : Need). by-need y (a .«record») (unpack (a .«record» .n) (a .area .now)) (a .scaled-radius))
     (sym (c .before .before .need2 .given .1) ∙ need))
-    (record { answer = says refl; kept = c .in-phase .ensures; vectors = refl })
+    (record { answer = same-answer refl; kept = c .in-phase .ensures; vectors = refl })
 
 pub begin-stages-spec : {M : Type 1} → statement M
 begin-stages-spec =

@@ -6,7 +6,7 @@ use lib.ListN.{replicate}
 use Rattle.ieee.specs.Double.{nought}
 use Rattle.workspace.specs.Vectors.{Vectors, _with_≔_, eigenvector}
 use Rattle.driver.specs.Calls.{take-callback}
-use Rattle.driver.proofs.Ladder.{says}
+use Rattle.driver.proofs.Ladder.{same-answer}
 use Rattle.driver.proofs.replies.take_callback.Statement.{statement}
 use Rattle.driver.proofs.replies.take_callback.Tie as tie
 
@@ -27,7 +27,7 @@ unfolding take-callback ofBits
 returns c =
     let n = c .before .before .before .before .before .before .before .before .before .before .before .args .«record» .n in
     record {
-      answer = says refl;
+      answer = same-answer refl;
       kept = c .in-phase .ensures;
       vectors = c .before .before .before .fill-vector .ensures .vectors
           ∙ ap (λ (v : Vectors). v with eigenvector ≔ replicate n nought)

@@ -8,7 +8,7 @@ use Rattle.workspace.specs.Kernel.{with-last, error-norm}
 use Rattle.driver.specs.declared.Record.{Record}
 use Rattle.driver.specs.declared.Answer.the-variants.{Finished}
 use Rattle.driver.specs.Calls.{setting-of, figures-of, take-candidate}
-use Rattle.driver.proofs.Ladder.{says}
+use Rattle.driver.proofs.Ladder.{same-answer}
 use Rattle.driver.proofs.replies.take_candidate.Statement.{statement}
 use Rattle.driver.proofs.replies.take_candidate.Tie as tie
 
@@ -45,7 +45,7 @@ returns c =
     let last = c .before .before .before .before .before .last .ensures .vectors
     ∙ ap (λ (m : Setting). with-last m (r .n) (r .arguments) v (a .derivative .now)) e in
     record {
-      answer = says (ap (λ (norm : Float). Finished (figures-of norm)) (finished r e (c .before .error-norm .ensures) last));
+      answer = same-answer (ap (λ (norm : Float). Finished (figures-of norm)) (finished r e (c .before .error-norm .ensures) last));
       kept = c .in-phase .ensures;
       vectors = last;
     }

@@ -2,7 +2,7 @@
 use mathlib.Core.Path.{refl}
 use borrow.Author.Needs.{needs}
 use Rattle.driver.specs.Calls.{take-first}
-use Rattle.driver.proofs.Ladder.{says}
+use Rattle.driver.proofs.Ladder.{same-answer}
 use Rattle.driver.proofs.replies.take_first.Statement.{statement}
 use Rattle.driver.proofs.replies.take_first.Tie as tie
 
@@ -17,7 +17,7 @@ same-length c = search needs
 
 returns : tie.Need-returns
 unfolding take-first
-returns c = record { answer = says refl; kept = c .in-phase .ensures; vectors = c .before .before .before .put-vector .ensures .vectors }
+returns c = record { answer = same-answer refl; kept = c .in-phase .ensures; vectors = c .before .before .before .put-vector .ensures .vectors }
 
 pub take-first-spec : {M : Type 1} → statement M
 take-first-spec = tie.close (tie.spec put-vector-requires in-phase-requires same-length returns)

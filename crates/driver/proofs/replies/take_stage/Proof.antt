@@ -4,8 +4,8 @@ use borrow.Author.Needs.{needs}
 use Rattle.workspace.specs.Vectors.{unpack}
 use Rattle.driver.specs.Calls.{at-stage, ask-stage}
 use Rattle.driver.specs.Promises.{outcome-of}
-use Rattle.driver.proofs.Ladder.{says}
-use Rattle.driver.proofs.Steps.{stages-on, stages-end, candidate-asked, candidate-refused}
+use Rattle.driver.proofs.Ladder.{same-answer}
+use Rattle.driver.proofs.Steps.{handed-on, stages-on, stages-end, candidate-asked, candidate-refused}
 use Rattle.driver.proofs.replies.take_stage.Statement.{statement}
 use Rattle.driver.proofs.replies.take_stage.Tie as tie
 
@@ -21,20 +21,24 @@ row-and-exchange-requires c κs = search needs
 add-t21 : tie.Need-add-t21
 add-t21 c = search needs
 
+onward-requires : tie.Need-onward-requires
+onward-requires c κs = search needs
+
 same-length : tie.Need-same-length
 same-length c = search needs
 
 returns : tie.Need-returns
 unfolding outcome-of ask-stage at-stage
 returns c =
-    let a = c .before .before .before .before .before .before .before .before .before .before .before .before .before .before .args in
+    let a = c .before .before .before .before .before .before .before .before .before .before .before .before .before .before .before .args in
     let r = a .«record» in
-    let both = c .before .before .before .before .before .before .before .before .before .row-and-recurrence .ensures in
-    let exchanged = c .before .before .before .before .before .row-and-exchange .ensures .vectors in
-    stages-on r (unpack (r .n) (a .area .now)) (a .derivative .now)
-    (c .before .before .before .before .before .before .before .before .before .before .before .setting-of .ensures) (both .0)
-    (c .before .before .before .before .before .before .before .if1 .taken) exchanged (both .1) refl
-    (record { answer = says refl; kept = refl; vectors = refl })
+    let both = c .before .before .before .before .before .before .before .before .before .before .row-and-recurrence .ensures in
+    let exchanged = c .before .before .before .before .before .before .row-and-exchange .ensures .vectors in
+    let kind = c .before .before .before .before .before .before .before .before .before .before .before .before .setting-of .ensures in
+    handed-on (c .onward .ensures r _ refl (both .1))
+    (stages-on r (unpack (r .n) (a .area .now)) (a .derivative .now) kind (both .0)
+    (c .before .before .before .before .before .before .before .before .if1 .taken) exchanged (both .1) refl
+    (record { answer = same-answer refl; kept = refl; vectors = refl }))
 
 row-requires : tie.Need-row-requires
 row-requires c κs = search needs
@@ -88,6 +92,7 @@ take-stage-spec =
     row-and-recurrence-requires
     row-and-exchange-requires
     add-t21
+    onward-requires
     same-length
     returns
     row-requires

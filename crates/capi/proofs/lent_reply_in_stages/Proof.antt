@@ -1,4 +1,4 @@
--- `reply_in_stages` meets its contract, as driver's does.
+-- `lent_reply_in_stages` meets its contract, as driver's does.
 use native.Mathlib.Omega.{arith}
 use Rattle.driver.specs.Calls.{Held, reply}
 use Rattle.driver.proofs.Going.{has-one}
@@ -6,8 +6,8 @@ use Rattle.lent.specs.Lent.{place-of}
 use Rattle.capi.specs.Promises.{counting}
 use Rattle.capi.proofs.Promised.{meets-in-stages, at-place}
 use borrow.Author.Needs.{needs}
-use Rattle.capi.proofs.reply_in_stages.Statement.{statement}
-use Rattle.capi.proofs.reply_in_stages.Tie as tie
+use Rattle.capi.proofs.lent_reply_in_stages.Statement.{statement}
+use Rattle.capi.proofs.lent_reply_in_stages.Tie as tie
 
 read-requires : tie.Need-read-requires
 read-requires c κs = search needs
@@ -38,8 +38,8 @@ returns c =
     meets-in-stages (λ (h : Held). reply h (a .derivative .now))
     (t .before .before .read .ensures) (t .reply-in-stages .ensures) (c .leave-staged .ensures)
 
-pub reply-in-stages-spec : {M : Type 1} → statement M
-reply-in-stages-spec =
+pub lent-reply-in-stages-spec : {M : Type 1} → statement M
+lent-reply-in-stages-spec =
     tie.close
     (tie.spec
     read-requires

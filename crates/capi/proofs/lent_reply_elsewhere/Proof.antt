@@ -1,10 +1,10 @@
--- `reply_elsewhere` meets its contract, as driver's does.
+-- `lent_reply_elsewhere` meets its contract, as driver's does.
 use Rattle.driver.specs.Calls.{Held, reply}
 use Rattle.capi.specs.Promises.{counting}
 use Rattle.capi.proofs.Promised.{meets-lent, at-place}
 use borrow.Author.Needs.{needs}
-use Rattle.capi.proofs.reply_elsewhere.Statement.{statement}
-use Rattle.capi.proofs.reply_elsewhere.Tie as tie
+use Rattle.capi.proofs.lent_reply_elsewhere.Statement.{statement}
+use Rattle.capi.proofs.lent_reply_elsewhere.Tie as tie
 
 read-requires : tie.Need-read-requires
 read-requires c κs = search needs
@@ -28,6 +28,6 @@ returns c =
     let a = t .before .before .before .before .before .before .before .before .before .args in
     meets-lent _ (λ (h : Held). reply h (a .derivative .now)) (t .before .before .read .ensures) (t .reply-elsewhere .ensures) (c .leave .ensures)
 
-pub reply-elsewhere-spec : {M : Type 1} → statement M
-reply-elsewhere-spec =
+pub lent-reply-elsewhere-spec : {M : Type 1} → statement M
+lent-reply-elsewhere-spec =
     tie.close (tie.spec read-requires reply-elsewhere-requires leave-requires same-length returns)
