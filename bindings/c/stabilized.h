@@ -116,6 +116,7 @@ typedef struct {
   double theta_previous;
   double b_previous_two;
   double theta_previous_two;
+  double omega_zero;
 } stabilized_doubles;
 
 typedef struct {

@@ -101,6 +101,7 @@ fn record(random: &mut Random, family: u64, n: u64) -> Record {
     for carried in [
         &mut x.theta_previous,
         &mut x.theta_previous_two,
+        &mut x.omega_zero,
         &mut x.omega_one,
         &mut x.b_previous,
         &mut x.b_previous_two,

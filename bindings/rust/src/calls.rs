@@ -52,6 +52,7 @@ pub struct Doubles {
     pub theta_previous: f64,
     pub b_previous_two: f64,
     pub theta_previous_two: f64,
+    pub omega_zero: f64,
 }
 
 /// All that the engine keeps beside the area. The default one is in the empty phase.

@@ -39,6 +39,7 @@ first-mu-tilde RKG2 s = omega-one-of RKG2 s
 -- w1 is omega_one
 unfoldable pub first-polynomials : Float → ℕ → Polynomials
 first-polynomials w1 s = record {
+  «omega_zero» = omega-zero s;
   «omega_one» = w1;
   «b_previous» = b-first s;
   «b_previous_two» = b-first s;
@@ -98,22 +99,22 @@ gegenbauer-two w j c = let x = double j in let b = gegenbauer-two-b j in
     with-theta c mu (neg (x ⊕ one) ⊘ x ⊗ b ⊘ gegenbauer-two-b (j - 2)) mu~ (neg mu~ ⊗ (one ⊖ double (j * (j + 1) / 2) ⊗ gegenbauer-two-b (j - 1)))
 
 -- RKC: the polynomial of this stage, its derivatives, and b
-unfoldable pub value-of : Float → Polynomials → Float
-value-of w p = two ⊗ w ⊗ p .«value_previous» ⊖ p .«value_previous_two»
+unfoldable pub value-of : Polynomials → Float
+value-of p = two ⊗ p .«omega_zero» ⊗ p .«value_previous» ⊖ p .«value_previous_two»
 
-unfoldable pub first-of : Float → Polynomials → Float
-first-of w p = two ⊗ w ⊗ p .«first_previous» ⊖ p .«first_previous_two» ⊕ two ⊗ p .«value_previous»
+unfoldable pub first-of : Polynomials → Float
+first-of p = two ⊗ p .«omega_zero» ⊗ p .«first_previous» ⊖ p .«first_previous_two» ⊕ two ⊗ p .«value_previous»
 
-unfoldable pub second-of : Float → Polynomials → Float
-second-of w p = two ⊗ w ⊗ p .«second_previous» ⊖ p .«second_previous_two» ⊕ four ⊗ p .«first_previous»
+unfoldable pub second-of : Polynomials → Float
+second-of p = two ⊗ p .«omega_zero» ⊗ p .«second_previous» ⊖ p .«second_previous_two» ⊕ four ⊗ p .«first_previous»
 
-unfoldable pub b-of : Float → Polynomials → Float
-b-of w p = second-of w p ⊘ square (first-of w p)
+unfoldable pub b-of : Polynomials → Float
+b-of p = second-of p ⊘ square (first-of p)
 
-unfoldable pub chebyshev : ℕ → Recurrence → Coefficients
-chebyshev s c = let w = omega-zero s in
-    let p = c .polynomials in
-    let b = b-of w p in
+unfoldable pub chebyshev : Recurrence → Coefficients
+chebyshev c = let p = c .polynomials in
+    let w = p .«omega_zero» in
+    let b = b-of p in
     let nu~ = one ⊖ p .«value_previous» ⊗ p .«b_previous» in
     let mu = two ⊗ w ⊗ b ⊘ p .«b_previous» in
     let nu = neg b ⊘ p .«b_previous_two» in
@@ -121,9 +122,9 @@ chebyshev s c = let w = omega-zero s in
     let theta = mu ⊗ c .«theta_previous» ⊕ nu ⊗ c .«theta_previous_two» ⊕ mu~ ⊗ (one ⊖ nu~) in
     record { mu = mu; nu = nu; «mu_tilde» = mu~; «gamma_tilde» = nu~; theta = theta }
 
--- RKC takes omega_one as it was read when the stages began; the other families work it out from s in every row
+-- RKC takes omega_zero and omega_one as they were when the stages began; the other families work omega_one out from s in every row
 unfoldable pub coefficients-of : Family → ℕ → ℕ → Recurrence → Coefficients
-coefficients-of RKC s j c = chebyshev s c
+coefficients-of RKC s j c = chebyshev c
 coefficients-of RKL1 s j c = legendre-one (omega-one-of RKL1 s) j c
 coefficients-of RKL2 s j c = legendre-two (omega-one-of RKL2 s) j c
 coefficients-of RKG1 s j c = gegenbauer-one (omega-one-of RKG1 s) j c
@@ -131,34 +132,35 @@ coefficients-of RKG2 s j c = gegenbauer-two (omega-one-of RKG2 s) j c
 
 -- ---- on to the next stage
 
-unfoldable pub polynomials-on : Float → Polynomials → Polynomials
-polynomials-on w p = record {
+unfoldable pub polynomials-on : Polynomials → Polynomials
+polynomials-on p = record {
+  «omega_zero» = p .«omega_zero»;
   «omega_one» = p .«omega_one»;
-  «b_previous» = b-of w p;
+  «b_previous» = b-of p;
   «b_previous_two» = p .«b_previous»;
-  «value_previous» = value-of w p;
+  «value_previous» = value-of p;
   «value_previous_two» = p .«value_previous»;
-  «first_previous» = first-of w p;
+  «first_previous» = first-of p;
   «first_previous_two» = p .«first_previous»;
-  «second_previous» = second-of w p;
+  «second_previous» = second-of p;
   «second_previous_two» = p .«second_previous»;
 }
 
-unfoldable pub next-polynomials : RowForm → ℕ → Polynomials → Polynomials
-next-polynomials ChebyshevRow s p = polynomials-on (omega-zero s) p
-next-polynomials OrthogonalRow s p = p
+unfoldable pub next-polynomials : RowForm → Polynomials → Polynomials
+next-polynomials ChebyshevRow p = polynomials-on p
+next-polynomials OrthogonalRow p = p
 
-unfoldable pub next-of : Family → ℕ → Recurrence → Coefficients → Recurrence
-next-of f s c row = record {
+unfoldable pub next-of : Family → Recurrence → Coefficients → Recurrence
+next-of f c row = record {
   «theta_previous» = row .theta;
   «theta_previous_two» = c .«theta_previous»;
-  polynomials = next-polynomials (facts-of f .row) s (c .polynomials);
+  polynomials = next-polynomials (facts-of f .row) (c .polynomials);
 }
 
 -- what an attempt of s stages carries into stage i + 2
 unfoldable pub carried-of : Family → ℕ → ℕ → Recurrence
 carried-of f s zero = recurrence-of f s
-carried-of f s (suc i) = let c = carried-of f s i in next-of f s c (coefficients-of f s (i + 2) c)
+carried-of f s (suc i) = let c = carried-of f s i in next-of f c (coefficients-of f s (i + 2) c)
 
 -- ---- what an attempt runs under decides the family, and so the rows
 
@@ -168,8 +170,8 @@ recurrence m s = recurrence-of (kind m) s
 abbrev pub coefficients : Setting → ℕ → ℕ → Recurrence → Coefficients
 coefficients m s j c = coefficients-of (kind m) s j c
 
-abbrev pub next : Setting → ℕ → Recurrence → Coefficients → Recurrence
-next m s c row = next-of (kind m) s c row
+abbrev pub next : Setting → Recurrence → Coefficients → Recurrence
+next m c row = next-of (kind m) c row
 
 abbrev pub carried : Setting → ℕ → ℕ → Recurrence
 carried m s i = carried-of (kind m) s i

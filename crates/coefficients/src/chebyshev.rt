@@ -1,6 +1,5 @@
 // `run_rkc` of chebyshev.rs: omega_zero, omega_one, and the recurrence of the Chebyshev polynomials.
 ghost use mathlib.Core.Path.{_≡_};
-ghost use Prim.Native.Nat.{ℕ};
 ghost use Rattle.family.specs.Family.{RKC};
 ghost use Rattle.coefficients.specs.Rows as rows;
 ghost use Rattle.coefficients.specs.Table.{omega};
@@ -246,6 +245,7 @@ pub fn first_polynomials(omega: f64, s: u64) -> Polynomials
     let w = omega_zero(s);
     let b = first_b(s);
     Polynomials {
+        omega_zero: w,
         omega_one: omega,
         b_previous: b,
         b_previous_two: b,
@@ -258,14 +258,16 @@ pub fn first_polynomials(omega: f64, s: u64) -> Polynomials
     }
 }
 
-// The polynomials of this stage, from those of the two before; `w` is omega_zero.
-pub fn next_polynomials(w: f64, p: Polynomials) -> Polynomials
-    ensures { λ r. ⌜ r ≡ rows.polynomials-on w p ⌝ }
+// The polynomials of this stage, from those of the two before.
+pub fn next_polynomials(p: Polynomials) -> Polynomials
+    ensures { λ r. ⌜ r ≡ rows.polynomials-on p ⌝ }
 {
+    let w = p.omega_zero;
     let value = 2.0 * w * p.value_previous - p.value_previous_two;
     let first = 2.0 * w * p.first_previous - p.first_previous_two + 2.0 * p.value_previous;
     let second = 2.0 * w * p.second_previous - p.second_previous_two + 4.0 * p.first_previous;
     Polynomials {
+        omega_zero: w,
         omega_one: p.omega_one,
         b_previous: second / (first * first),
         b_previous_two: p.b_previous,
@@ -278,11 +280,13 @@ pub fn next_polynomials(w: f64, p: Polynomials) -> Polynomials
     }
 }
 
-// The row, from omega_zero, b of its stage and what is carried.
-fn row_from(w: f64, b: f64, c: Recurrence) -> Coefficients
-    ensures { λ r. ⌜ ((s : ℕ) → w ≡ rows.omega-zero s → b ≡ rows.b-of w (c .polynomials) → r ≡ rows.chebyshev s c) ⌝ }
+// The row, from b of its stage and what is carried.
+fn row_from(b: f64, c: Recurrence) -> Coefficients
+    requires { ⌜ b ≡ rows.b-of (c .polynomials) ⌝ }
+    ensures { λ r. ⌜ r ≡ rows.chebyshev c ⌝ }
 {
     let p = c.polynomials;
+    let w = p.omega_zero;
     let nu_tilde = 1.0 - p.value_previous * p.b_previous;
     let mu = 2.0 * w * b / p.b_previous;
     let nu = -b / p.b_previous_two;
@@ -296,25 +300,23 @@ fn row_from(w: f64, b: f64, c: Recurrence) -> Coefficients
     }
 }
 
-// The row, from the count s and what is carried.
-pub fn row(s: u64, c: Recurrence) -> Coefficients
-    ensures { λ r. ⌜ r ≡ rows.chebyshev s c ⌝ }
+// The row, from what is carried.
+pub fn row(c: Recurrence) -> Coefficients
+    ensures { λ r. ⌜ r ≡ rows.chebyshev c ⌝ }
 {
-    let w = omega_zero(s);
     let p = c.polynomials;
-    let after = next_polynomials(w, p);
-    row_from(w, after.b_previous, c)
+    let after = next_polynomials(p);
+    row_from(after.b_previous, c)
 }
 
 // The row and what is carried on from it, with the polynomials worked out once.
-pub fn advance(s: u64, c: Recurrence) -> Advance
-    ensures { λ r. ⌜ r .row ≡ rows.chebyshev s c ⌝ }
-    ensures { λ r. ⌜ r .after ≡ rows.next-of RKC s c (r .row) ⌝ }
+pub fn advance(c: Recurrence) -> Advance
+    ensures { λ r. ⌜ r .row ≡ rows.chebyshev c ⌝ }
+    ensures { λ r. ⌜ r .after ≡ rows.next-of RKC c (r .row) ⌝ }
 {
-    let w = omega_zero(s);
     let p = c.polynomials;
-    let polynomials = next_polynomials(w, p);
-    let row = row_from(w, polynomials.b_previous, c);
+    let polynomials = next_polynomials(p);
+    let row = row_from(polynomials.b_previous, c);
     let after = Recurrence {
         theta_previous: row.theta,
         theta_previous_two: c.theta_previous,

@@ -18,10 +18,11 @@ pub struct Coefficients {
     pub theta: f64,
 }
 
-// What RKC carries from stage to stage: omega_one as the attempt read it, b, and the Chebyshev polynomial at omega_zero
-// with its first and second derivative, each of the two stages before. The other families leave it as it is and never
-// read it.
+// What RKC carries from stage to stage: omega_zero and omega_one, worked out once an attempt, b, and the Chebyshev polynomial
+// at omega_zero with its first and second derivative, each of the two stages before. The other families leave it as it is
+// and never read it.
 pub struct Polynomials {
+    pub omega_zero: f64,
     pub omega_one: f64,
     pub b_previous: f64,
     pub b_previous_two: f64,
@@ -100,7 +101,7 @@ pub fn row_coefficients(setting: Setting, s: u64, j: u64, c: Recurrence) -> Coef
 {
     let family = setting.family;
     match family {
-        1 => chebyshev::row(s, c),
+        1 => chebyshev::row(c),
         2 => orthogonal::legendre_one(orthogonal::legendre_one_omega(s), j, c),
         3 => orthogonal::legendre_two(orthogonal::legendre_two_omega(s), j, c),
         4 => orthogonal::gegenbauer_one(orthogonal::gegenbauer_one_omega(s), j, c),
@@ -108,23 +109,23 @@ pub fn row_coefficients(setting: Setting, s: u64, j: u64, c: Recurrence) -> Coef
     }
 }
 
-fn next_polynomials(form: RowForm, s: u64, p: Polynomials) -> Polynomials
-    ensures { λ r. ⌜ r ≡ rows.next-polynomials form s p ⌝ }
+fn next_polynomials(form: RowForm, p: Polynomials) -> Polynomials
+    ensures { λ r. ⌜ r ≡ rows.next-polynomials form p ⌝ }
 {
     match form {
-        RowForm::ChebyshevRow => chebyshev::next_polynomials(chebyshev::omega_zero(s), p),
+        RowForm::ChebyshevRow => chebyshev::next_polynomials(p),
         RowForm::OrthogonalRow => p,
     }
 }
 
 // What is carried on from a stage with this row.
-pub fn next_recurrence(setting: Setting, s: u64, c: Recurrence, row: Coefficients) -> Recurrence
-    ensures { λ r. ⌜ r ≡ rows.next setting s c row ⌝ }
+pub fn next_recurrence(setting: Setting, c: Recurrence, row: Coefficients) -> Recurrence
+    ensures { λ r. ⌜ r ≡ rows.next setting c row ⌝ }
 {
     let own = family::facts_of(setting.family);
     let form = own.row;
     let before = c.polynomials;
-    let polynomials = next_polynomials(form, s, before);
+    let polynomials = next_polynomials(form, before);
     Recurrence {
         theta_previous: row.theta,
         theta_previous_two: c.theta_previous,
@@ -136,12 +137,12 @@ pub fn next_recurrence(setting: Setting, s: u64, c: Recurrence, row: Coefficient
 pub fn row_and_recurrence(setting: Setting, s: u64, j: u64, c: Recurrence) -> Advance
     requires { ⌜ (2 ≤ j) × (j + 1 < 2 ^ 32) ⌝ }
     ensures { λ r. ⌜ r .row ≡ rows.coefficients setting s j c ⌝ }
-    ensures { λ r. ⌜ r .after ≡ rows.next setting s c (r .row) ⌝ }
+    ensures { λ r. ⌜ r .after ≡ rows.next setting c (r .row) ⌝ }
 {
     if setting.family == 1 {
-        return chebyshev::advance(s, c);
+        return chebyshev::advance(c);
     }
     let row = row_coefficients(setting, s, j, c);
-    let after = next_recurrence(setting, s, c, row);
+    let after = next_recurrence(setting, c, row);
     Advance { row, after }
 }

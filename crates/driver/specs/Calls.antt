@@ -162,7 +162,7 @@ take-stage r v d = let m = setting-of r in
     let row = coefficients m s j c in
     let w = with-row m (r .n) (r .arguments .step) row v d in
     cond (ltb j s)
-    (ask-stage (at-stage s (j + 1) (next m s c row) r) (exchanged w))
+    (ask-stage (at-stage s (j + 1) (next m c row) r) (exchanged w))
     (ask-candidate r (with-candidate m (r .n) (r .arguments .step) s c row w))
 
 -- what a finished attempt tells

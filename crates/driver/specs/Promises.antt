@@ -81,6 +81,7 @@ pub record Stands-for (promised : Called) (r : Record) (c : Counters) (x : Stage
 abbrev pub no-recurrence : Recurrence
 no-recurrence =
     let p : Polynomials = record {
+      «omega_zero» = nought;
       «omega_one» = nought;
       «b_previous» = nought;
       «b_previous_two» = nought;

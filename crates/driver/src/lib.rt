@@ -142,6 +142,7 @@ fn no_recurrence() -> Recurrence
         theta_previous: 0.0,
         theta_previous_two: 0.0,
         polynomials: Polynomials {
+            omega_zero: 0.0,
             omega_one: 0.0,
             b_previous: 0.0,
             b_previous_two: 0.0,

@@ -163,7 +163,7 @@ pub fn take_pass(record: Record, area: &mut [f64], derivative: &[f64]) -> Next
 // The next stage's evaluation. RKL and RKG carry polynomials that they never read, and these are not handed back.
 fn onward(setting: Setting, time: f64, staging: Staging) -> Staged
     ensures { λ x. ⌜ ((r : Record) (row : Coefficients) → staging .stages ≡ r .staging .stages
-        → staging .recurrence ≡ next setting (r .staging .stages) (r .staging .recurrence) row → outcome-of x r ≡ outcome-of (On time staging) r) ⌝ }
+        → staging .recurrence ≡ next setting (r .staging .recurrence) row → outcome-of x r ≡ outcome-of (On time staging) r) ⌝ }
 {
     let own = family::facts_of(setting.family);
     let form = own.row;

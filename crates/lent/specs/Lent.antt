@@ -19,7 +19,7 @@ abbrev pub wholes-long : ℕ
 wholes-long = 7
 
 abbrev pub doubles-long : ℕ
-doubles-long = 18
+doubles-long = 19
 
 abbrev pub arguments-in : List ℕ → List Float → Arguments
 arguments-in w x = record {
@@ -35,6 +35,7 @@ iteration-in w x = record { pass = getD w 4 0; perturbation = getD x 7 nan; «pr
 
 abbrev pub polynomials-in : List Float → Polynomials
 polynomials-in x = record {
+  «omega_zero» = getD x 18 nan;
   «omega_one» = getD x 14 nan;
   «b_previous» = getD x 13 nan;
   «b_previous_two» = getD x 16 nan;

@@ -18,7 +18,7 @@ use workspace::Arguments;
 // How many whole numbers and how many doubles the record is lent as.
 pub const WHOLES: usize = 7;
 
-pub const DOUBLES: usize = 18;
+pub const DOUBLES: usize = 19;
 
 // Evaluate (code 1) vector `number` at time `value`; finished (2) with the error norm `value`; ready (3);
 // refused (4) with `number`; empty (5). What an answer does not carry is 0.
@@ -134,6 +134,7 @@ fn read_polynomials(doubles: &[f64; DOUBLES]) -> Polynomials
     ensures { λ r. ⌜ r ≡ polynomials-in (now (doubles .entry)) ⌝ }
 {
     Polynomials {
+        omega_zero: doubles[18],
         omega_one: doubles[14],
         b_previous: doubles[13],
         b_previous_two: doubles[16],
@@ -241,6 +242,7 @@ fn write(wholes: &mut [u64; WHOLES], doubles: &mut [f64; DOUBLES], adaptive: u64
         c.theta_previous,
         p.b_previous_two,
         c.theta_previous_two,
+        p.omega_zero,
     ];
 }
 
@@ -296,6 +298,7 @@ fn ask_stage(wholes: &mut [u64], doubles: &mut [f64], time: f64, staging: Stagin
     doubles[15] = c.theta_previous;
     doubles[16] = p.b_previous_two;
     doubles[17] = c.theta_previous_two;
+    doubles[18] = p.omega_zero;
     Answer {
         code: 1,
         number: workspace::PREVIOUS_ONE as u64,

@@ -52,7 +52,7 @@ fn digest(family: u64, s: u64) -> u64
     while j <= s {
         let row = coefficients::row_coefficients(Setting { family }, s, j, c);
         h = row_in(h, row);
-        c = coefficients::next_recurrence(Setting { family }, s, c, row);
+        c = coefficients::next_recurrence(Setting { family }, c, row);
         j += 1;
     }
     h
@@ -115,7 +115,7 @@ fn print_rows(family: u64, s: u64)
     while j <= s {
         let row = coefficients::row_coefficients(Setting { family }, s, j, c);
         print_row(family, s, j, row);
-        c = coefficients::next_recurrence(Setting { family }, s, c, row);
+        c = coefficients::next_recurrence(Setting { family }, c, row);
         j += 1;
     }
 }

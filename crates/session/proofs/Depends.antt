@@ -106,7 +106,7 @@ module _ (history : Bool) (under : Setting) (n : ℕ) (a : Arguments) where
       (λ v w q. candidate-agrees history n under (a .step) s c (coefficients under s j c) v w q)
   rows-alike s (suc k) j c v w p =
       bind-alike (Agree (nine history)) (Agree (ten history)) _ _ (stage-row under n a s j c v) (stage-row under n a s j c w) (row-alike s j c v w p)
-      (λ v w q. rows-alike s k (j + 1) (next under s c (coefficients under s j c)) (exchanged v) (exchanged w)
+      (λ v w q. rows-alike s k (j + 1) (next under c (coefficients under s j c)) (exchanged v) (exchanged w)
       (nine-seven history (exchanged v) (exchanged w) (exchanged-agrees history n v w q)))
 
   recurrence-alike : (s : ℕ) (v w : Vectors) → Agree (five history) v w

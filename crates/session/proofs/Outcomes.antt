@@ -53,7 +53,7 @@ abbrev pub first-after : Record → Vectors → Recurrence
 first-after r w = recurrence (setting-of r) (count-after r w)
 
 abbrev pub carried-on : ℕ → ℕ → ℕ → Recurrence → Recurrence
-carried-on f s j c = next (setting f) s c (coefficients (setting f) s j c)
+carried-on f s j c = next (setting f) c (coefficients (setting f) s j c)
 
 -- what a finished attempt that left the vectors w tells
 abbrev pub figures-after : Record → Vectors → Figures
@@ -150,7 +150,7 @@ module _ (h : Held) where
         last = with-candidate m (r .n) (r .arguments .step) s (r .staging .recurrence) row w
 
         on : Record
-        on = at-stage s (j + 1) (next m s (r .staging .recurrence) row) r
+        on = at-stage s (j + 1) (next m (r .staging .recurrence) row) r
 
         go : (t : Bool) → ltb j s ≡ t → Comes (settled c (cond t (ask-stage on (exchanged w)) (ask-candidate r last)))
         go true e = goes-on _ _ _ p (ltb-true j s e)

@@ -101,7 +101,7 @@ replied-verdict P.Stage r v d =
     let c = r .staging .recurrence in
     let row = coefficients m s j c in
     let w = with-row m (r .n) (r .arguments .step) row v d in
-    stage-verdict (ltb j s) (at-stage s (j + 1) (next m s c row) r) r (exchanged w) (with-candidate m (r .n) (r .arguments .step) s c row w)
+    stage-verdict (ltb j s) (at-stage s (j + 1) (next m c row) r) r (exchanged w) (with-candidate m (r .n) (r .arguments .step) s c row w)
 replied-verdict P.Candidate r v d = refl
 replied-verdict P.Finished r v d = refl
 replied-verdict P.Callback r v d = refl

@@ -143,7 +143,7 @@ module _ (h : Held) (a : Arguments) (hk : known (h .kept .family) ≡ true) (hs 
 
     -- what a stage's derivative is taken to, in the attempt in one piece: before stage s, and at it
     abbrev on-from : ℕ → ℕ → Recurrence → Vectors → Asking Vectors
-    on-from m j rc w = stage-loop F (h .kept .n) a s m (j + 1) (next F s rc (coefficients F s j rc)) (exchanged w)
+    on-from m j rc w = stage-loop F (h .kept .n) a s m (j + 1) (next F rc (coefficients F s j rc)) (exchanged w)
 
     abbrev at-last : ℕ → Recurrence → Vectors → Asking Vectors
     at-last j rc w = done (with-candidate F (h .kept .n) (a .step) s rc (coefficients F s j rc) w)
@@ -170,6 +170,6 @@ module _ (h : Held) (a : Arguments) (hk : known (h .kept .family) ≡ true) (hs 
         hv hc (both hs′ (both (le-leb 2 j 2≤j) (le-leb j s (omega arith)))) refl
         refl (λ c. absurd (differ c))
         (λ d hd fin. rw (lt-ltb j s (omega arith))
-        (stages-follow m (j + 1) (next F s rc (coefficients F s j rc)) (exchanged (taken j rc v d)) (one-more h c) (suc e)
+        (stages-follow m (j + 1) (next F rc (coefficients F s j rc)) (exchanged (taken j rc v d)) (one-more h c) (suc e)
         (pending-at h a hk hs P.Stage I (staging-at s j rc) v c) (omega arith) (omega arith) (omega arith)
         (intact-exchanged h (taken j rc v d) (whole j rc v d hv hd)) (counted-on h hc)))

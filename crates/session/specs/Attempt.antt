@@ -99,7 +99,7 @@ module _ (under : Setting) (n : ℕ) (a : Arguments) where
     done (with-candidate under n (a .step) s c (coefficients under s j c) v)
   stage-loop s (suc m) j c v = do
     v ← stage-row s j c v
-    stage-loop s m (j + 1) (next under s c (coefficients under s j c)) (exchanged v)
+    stage-loop s m (j + 1) (next under c (coefficients under s j c)) (exchanged v)
 
   unfoldable pub run-recurrence : ℕ → Vectors → Asking Vectors
   run-recurrence s v = let c = recurrence under s in

@@ -7,9 +7,6 @@ use Rattle.coefficients.proofs.next_polynomials.Tie as tie
 enum-told : tie.Need-enum-told
 enum-told c = search needs
 
-omega-zero-requires : tie.Need-omega-zero-requires
-omega-zero-requires c κs = search needs
-
 next-polynomials-requires : tie.Need-next-polynomials-requires
 next-polynomials-requires c κs = search needs
 
@@ -18,7 +15,7 @@ enum-told-2 c = search needs
 
 returns : tie.Need-returns
 unfolding next-polynomials
-returns c = rw (c .next-polynomials .ensures, c .before .omega-zero .ensures, c .before .before .enum-told .given .1)
+returns c = rw (c .next-polynomials .ensures, c .before .enum-told .given .1)
 
 returns-2 : tie.Need-returns-2
 unfolding next-polynomials
@@ -29,7 +26,6 @@ next-polynomials-spec =
     tie.close
     (tie.spec
     enum-told
-    omega-zero-requires
     next-polynomials-requires
     enum-told-2
     returns

@@ -17,7 +17,7 @@ returns c =
     let first = sym (c .before .if1 .taken) in
     let x = c .advance in (
       x .ensures .0 ∙ ap (λ (k : ℕ). coefficients-of (family-of k) (a .s) (a .j) (a .c)) first,
-      x .ensures .1 ∙ ap (λ (k : ℕ). next-of (family-of k) (a .s) (a .c) (x .result .row)) first,
+      x .ensures .1 ∙ ap (λ (k : ℕ). next-of (family-of k) (a .c) (x .result .row)) first,
     )
 
 row-coefficients-requires : tie.Need-row-coefficients-requires

@@ -48,6 +48,9 @@ slice-write-doubles-10 c = simp length-set (omega arith)
 slice-write-doubles-11 : tie.Need-slice-write-doubles-11
 slice-write-doubles-11 c = simp length-set (omega arith)
 
+slice-write-doubles-12 : tie.Need-slice-write-doubles-12
+slice-write-doubles-12 c = simp length-set (omega arith)
+
 same-length : tie.Need-same-length
 same-length c = search needs
 
@@ -76,6 +79,7 @@ ask-stage-spec =
     slice-write-doubles-9
     slice-write-doubles-10
     slice-write-doubles-11
+    slice-write-doubles-12
     same-length
     same-length-2
     returns)

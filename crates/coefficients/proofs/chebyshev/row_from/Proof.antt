@@ -1,5 +1,4 @@
 -- `row_from` meets its contract, operation by operation.
-use mathlib.Core.Path.{sym}
 use lib.Ieee.{ofBits}
 use Rattle.coefficients.specs.Rows.{chebyshev}
 use Rattle.coefficients.proofs.chebyshev.row_from.Statement.{statement}
@@ -7,7 +6,7 @@ use Rattle.coefficients.proofs.chebyshev.row_from.Tie as tie
 
 returns : tie.Need-returns
 unfolding chebyshev ofBits
-returns c = λ s e f. rw (sym e, sym f)
+returns c = rw (c .before .before .before .before .before .before .before .pre)
 
 pub row-from-spec : {M : Type 1} → statement M
 row-from-spec = tie.close (tie.spec returns)
