@@ -4,7 +4,19 @@ use std::hint::black_box;
 use std::time::Instant;
 
 extern "C" {
-    fn timed_row(area: *mut f64, count: usize, n: usize, family: u64, mu: f64, nu: f64, mu_tilde: f64, gamma_tilde: f64, step: f64, derivative: *const f64, m: usize);
+    fn timed_row(
+        area: *mut f64,
+        count: usize,
+        n: usize,
+        family: u64,
+        mu: f64,
+        nu: f64,
+        mu_tilde: f64,
+        gamma_tilde: f64,
+        step: f64,
+        derivative: *const f64,
+        m: usize,
+    );
     fn timed_finite(v: *const f64, n: usize) -> bool;
     fn timed_root(x: f64) -> f64;
     fn timed_norm(v: *const f64, n: usize) -> f64;

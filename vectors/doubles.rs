@@ -2,8 +2,9 @@
 //!
 //!     rustc -O vectors/doubles.rs -o target/vectors-doubles && target/vectors-doubles crates/doubles/data
 //!
-//! A file is a list of words of eight bytes, the lowest first. `roots.bin` has two words a record: the bits of x and of its root. `whole.bin` has six: x, y, floor x,
-//! ceil x, max(x, y), x as u64. A NaN that is an answer is written 7FF8000000000000. The random numbers are a fixed sequence, so the files come out the same each time.
+//! A file is a list of words of eight bytes, the lowest first. `roots.bin` has two words a record: the bits of x and of its
+//! root. `whole.bin` has six: x, y, floor x, ceil x, max(x, y), x as u64. A NaN that is an answer is written
+//! 7FF8000000000000. The random numbers are a fixed sequence, so the files come out the same each time.
 
 use std::fs;
 

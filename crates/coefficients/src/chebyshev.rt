@@ -267,7 +267,7 @@ pub fn next_polynomials(p: Polynomials) -> Polynomials
     let first = 2.0 * w * p.first_previous - p.first_previous_two + 2.0 * p.value_previous;
     let second = 2.0 * w * p.second_previous - p.second_previous_two + 4.0 * p.first_previous;
     Polynomials {
-        omega_zero: w,
+        omega_zero: p.omega_zero,
         omega_one: p.omega_one,
         b_previous: second / (first * first),
         b_previous_two: p.b_previous,

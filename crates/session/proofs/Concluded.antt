@@ -17,9 +17,10 @@ use Rattle.family.proofs.Range.{permitted-range}
 use Rattle.family.proofs.Counts.{stage-count-permitted, serves}
 use Rattle.family.proofs.Special.{infinite-count}
 use Rattle.coefficients.specs.declared.Recurrence.{Recurrence}
+use Rattle.coefficients.specs.declared.Polynomials.{Polynomials}
 use Rattle.coefficients.specs.Rows.{recurrence, carried, carried-of, recurrence-of}
 use Rattle.coefficients.specs.Chebyshev as Chebyshev
-use Rattle.coefficients.proofs.CloseTable.{entry-taken, close-taken}
+use Rattle.coefficients.proofs.CloseTable.{zero-taken, entry-taken, close-taken}
 use Rattle.coefficients.proofs.CloseRows.{close-row, close-first}
 use Rattle.coefficients.proofs.Stable.{stable}
 use Rattle.driver.specs.declared.Phase.{Phase}
@@ -134,12 +135,15 @@ carries h f n y t cs q e =
     let permits : T (permitted F s) =
     subst (λ (k : ℕ). T (permitted F k)) (sym (p .suits .stages-are)) (stage-count-permitted F (scaled-radius-of x)) in
     let range = permitted-range F s permits in
+    let own : F ≡ RKC → x .kept .staging .recurrence .polynomials ≡ carried-of RKC s i .polynomials = λ is.
+    ap (λ (c : Recurrence). c .polynomials) (p .recurrence-is) ∙ ap (λ (f : Family). carried-of f s i .polynomials) is in
     let entry : F ≡ RKC → x .kept .staging .recurrence .polynomials .«omega_one» ≡ carried-of RKC s i .polynomials .«omega_one» = λ is.
-    ap (λ (c : Recurrence). c .polynomials .«omega_one») (p .recurrence-is) ∙ ap (λ (f : Family). carried-of f s i .polynomials .«omega_one») is in record {
+    ap (λ (p : Polynomials). p .«omega_one») (own is) in record {
       stages-permitted = permits;
       from-two = p .from-two;
       to-last = p .to-last;
       recurrence-is = p .recurrence-is;
+      zero-kept = λ is. ap (λ (p : Polynomials). p .«omega_zero») (own is) ∙ zero-taken s i;
       entry-read = λ is. entry is ∙ entry-taken s i;
       entry-close = λ is. subst (λ (w : Float). Close 36 w (Chebyshev.omega-one s)) (sym (entry is)) (close-taken s i (range .0) (range .1));
     }

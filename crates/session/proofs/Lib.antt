@@ -19,16 +19,18 @@ pub mod Sequences
 pub mod Skipped
 -- So what is proved of an attempt and its replies holds with such calls among them: `among`.
 pub mod Among
--- A call is turned away with a number exactly when that is the number of its first failing test: `refused`; with no number outside its list: `listed`.
+-- A call is turned away with a number exactly when that is the number of its first failing test: `refused`; with no number outside its list: `listed`; and
+-- with a number of the table: `one-of-the-table`. Where the counters are full, with 8: `no-room`, `full`.
 pub mod Refused
 -- What a call that is turned away leaves: `leaves`.
 pub mod Leaves
 -- In any calls from a start that is taken, a finished answer is that of a taken attempt and its s + k replies: `concluded`; what a stage's record carries:
 -- `carries`.
 pub mod Concluded
--- Families 2 to 5: demand 3 of the s that a finished attempt ran, for its own r where that is finite: `served`.
+-- Families 2 to 5: demand 3 of the s that a finished attempt ran, for its own r where that is finite: `served`; where it is infinite: `served-infinite`.
 pub mod Served
--- Families 2 to 5: demand 3 of the rows of the stages that are run, and of a finished attempt's multiplier: `stage-close`, `rows-close`, `finished-stable`.
+-- Families 2 to 5: demand 3 of the rows of the stages that are run, and of a finished attempt's multiplier: `stage-close`, `first-close`, `rows-close`,
+-- `finished-stable`.
 pub mod Close
 -- Document 01's case, by computation: `case-of-calls`.
 pub mod Case

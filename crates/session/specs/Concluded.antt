@@ -17,7 +17,7 @@ use Rattle.family.specs.Family.{RKC, Orthogonal, made-of, family-of, setting, p
 use Rattle.family.specs.Reach.{Serves}
 use Rattle.coefficients.specs.declared.Recurrence.{Recurrence}
 use Rattle.coefficients.specs.Paper as Paper
-use Rattle.coefficients.specs.Rows.{recurrence-of, coefficients-of, carried}
+use Rattle.coefficients.specs.Rows.{omega-zero, recurrence-of, coefficients-of, carried}
 use Rattle.coefficients.specs.Table as Table
 use Rattle.coefficients.specs.Chebyshev as Chebyshev
 use Rattle.coefficients.specs.Closeness.{Close-row}
@@ -125,12 +125,13 @@ pub record Concluded (h : Held) (calls : List Call) (x : Called) : Type 0 where
 
 -- ---- a stage that awaits its derivative, in a sequence
 
--- What the record carries into the stage is what the recurrence comes to there, from family and s alone; in RKC `omega_one` is the table's entry for s, within
--- 2 ^ -36 of the paper's fraction.
+-- What the record carries into the stage is what the recurrence comes to there, from family and s alone; in RKC `omega_zero` is that of s, and `omega_one` the
+-- table's entry for s, within 2 ^ -36 of the paper's fraction.
 pub record Carries (x : Held) : Type 0 where
   pub stages-permitted : T (permitted (family-of (x .kept .family)) (stages-of x))
   pub from-two : 2 ≤ x .kept .staging .stage
   pub to-last : x .kept .staging .stage ≤ stages-of x
   pub recurrence-is : x .kept .staging .recurrence ≡ carried (setting-of (x .kept)) (stages-of x) (x .kept .staging .stage - 2)
+  pub zero-kept : family-of (x .kept .family) ≡ RKC → x .kept .staging .recurrence .polynomials .«omega_zero» ≡ omega-zero (stages-of x)
   pub entry-read : family-of (x .kept .family) ≡ RKC → x .kept .staging .recurrence .polynomials .«omega_one» ≡ Table.omega (stages-of x)
   pub entry-close : family-of (x .kept .family) ≡ RKC → Close 36 (x .kept .staging .recurrence .polynomials .«omega_one») (Chebyshev.omega-one (stages-of x))
