@@ -18,7 +18,7 @@ pub struct Coefficients {
     pub theta: f64,
 }
 
-// What RKC carries from stage to stage: omega_zero and omega_one, worked out once an attempt, b, and the Chebyshev polynomial
+// What RKC carries from stage to stage: omega_zero and omega_one as the stages began with them, b, and the Chebyshev polynomial
 // at omega_zero with its first and second derivative, each of the two stages before. The other families leave it as it is
 // and never read it.
 pub struct Polynomials {

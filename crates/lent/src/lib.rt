@@ -333,7 +333,8 @@ fn ask_stage_by_theta(
 // The candidate's evaluation at this time. Only the phase is written.
 fn ask_candidate(wholes: &mut [u64], doubles: &[f64; DOUBLES], time: f64) -> Answer
     requires { ⌜ length (now wholes) ≡ wholes-long ⌝ }
-    ensures { λ r. ⌜ left-with r (now (wholes .exit)) (now (doubles .entry)) ≡ staged-outcome (lent (now (wholes .entry)) (now (doubles .entry))) (Ended time) ⌝ }
+    ensures { λ r. ⌜ left-with r (now (wholes .exit)) (now (doubles .entry))
+        ≡ staged-outcome (lent (now (wholes .entry)) (now (doubles .entry))) (Ended time) ⌝ }
 {
     wholes[2] = 5;
     Answer {
