@@ -60,6 +60,10 @@ NAN_AT_120 = day(1, 16, (25.0, 20.0, 3.0, 0.004, 4.5e-5, 60.0), with_odd([0.0] *
 BAD_READINGS = day(5, 7, (21.0, 24.5, 2.5, 0.003, 0.5, 50.0), with_odd(
     [watt / 8192.0 for watt in readings(3, 3200.0, 345, 1230)],
     {0: math.nan, 1: math.inf, 500: -math.inf, 501: math.nan, 502: math.inf, 1300: 1.7e308, 1301: math.nan, 1438: math.nan, 1439: math.inf}))
+# A long sink that conducts well: its cells exchange heat so fast that a minute needs some 340 stages.
+RKMC2 = day(6, 32, (22.0, 26.0, 60.0, 0.004, 6e-5, 50.0), with_odd(
+    readings(4, 3300.0, 340, 1245),
+    {12: -7.5, 250: 5e-324, 640: math.nan, 641: -math.inf, 1000: math.inf}))
 
 
 def texts():
@@ -74,7 +78,7 @@ def texts():
     return {
         "empty": "",
         "family_0": headed(0, "0"),
-        "family_6": headed(0, "6"),
+        "family_7": headed(0, "7"),
         "family_with_zero": headed(0, "03"),
         "n_0": headed(1, "0"),
         "n_513": headed(1, "513"),
@@ -101,6 +105,6 @@ def write(path, text):
 
 if __name__ == "__main__":
     write("crates/day/stdin", RKL2)
-    days = {"rkl2": RKL2, "rkc": RKC, "nan_at_120": NAN_AT_120, "bad_readings": BAD_READINGS}
+    days = {"rkl2": RKL2, "rkc": RKC, "nan_at_120": NAN_AT_120, "bad_readings": BAD_READINGS, "rkmc2": RKMC2}
     for name, text in {**days, **texts()}.items():
         write("crates/days/data/" + name, text)

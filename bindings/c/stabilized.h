@@ -1,4 +1,4 @@
-/* Stabilized Runge-Kutta steps (RKC, RKL1, RKL2, RKG1, RKG2) by a proved engine, libcapi.a.
+/* Stabilized Runge-Kutta steps (RKC, RKL1, RKL2, RKG1, RKG2, RKMC2) by a proved engine, libcapi.a.
  *
  * Every call is lent the record, in two parts that it reads and writes in place, and answers. While the answer is
  * STABILIZED_EVALUATE, work out the derivative of vector `number` of the area at time `value` and bring it with
@@ -40,7 +40,15 @@ enum {
   STABILIZED_VECTORS = 11
 };
 
-enum { STABILIZED_RKC = 1, STABILIZED_RKL1 = 2, STABILIZED_RKL2 = 3, STABILIZED_RKG1 = 4, STABILIZED_RKG2 = 5 };
+/* The families. */
+enum {
+  STABILIZED_RKC = 1,
+  STABILIZED_RKL1 = 2,
+  STABILIZED_RKL2 = 3,
+  STABILIZED_RKG1 = 4,
+  STABILIZED_RKG2 = 5,
+  STABILIZED_RKMC2 = 6
+};
 
 /* The phases of a record. */
 enum {
@@ -85,8 +93,8 @@ enum {
 
 /* The record: what the engine keeps beside the area, its whole numbers and its doubles. All zeros is one to begin with. A
  * call that is turned away with 1 to 8 leaves it as it was. The doubles are the attempt's arguments, the power iteration's
- * (perturbation, previous_radius, scaled_radius) and what the stages carry on, theta and, for RKC alone, the others; they
- * stand in the order in which the engine reads them fastest. */
+ * (perturbation, previous_radius, scaled_radius) and what the stages carry on, theta and, for RKC and RKMC2 alone, the
+ * others; they stand in the order in which the engine reads them fastest. */
 typedef struct {
   uint64_t family;
   uint64_t n;

@@ -25,9 +25,13 @@ fn main() {
         let text = fs::read_to_string(&file).unwrap();
         let text = match name {
             "orthogonal" => {
-                with_recorded_locals(&text, "fn run_orthogonal_polynomial", "gamma_tilde")
+                let heading = "fn run_orthogonal_polynomial";
+                with_recorded_locals(&text, heading, "None", "gamma_tilde")
             }
-            "chebyshev" => with_recorded_locals(&text, "fn run_rkc", "nu_tilde"),
+            "chebyshev" => {
+                let rkc = with_recorded_locals(&text, "fn run_rkc", "Some(omega_zero)", "nu_tilde");
+                with_recorded_locals(&rkc, "fn run_rkmc2", "Some(omega_zero)", "b_previous")
+            }
             _ => text,
         };
         fs::write(recorded.join(name).with_extension("rs"), text).unwrap();
@@ -47,15 +51,16 @@ fn module_lines(folder: &Path) -> String {
 }
 
 /// The text with two lines added in the function that begins with `heading`: one before its loop over the stages, which
-/// records omega_one and the first stage's coefficient, and one after each stage's theta, which records its row.
-fn with_recorded_locals(text: &str, heading: &str, fourth: &str) -> String {
+/// records omega_zero, omega_one and the first stage's coefficient, and one after each stage's theta, which records its
+/// row. The locals of a stage are then those that its row was worked out with.
+fn with_recorded_locals(text: &str, heading: &str, omega_zero: &str, fourth: &str) -> String {
     let begin = text.find(heading).expect(heading);
     let (before, function) = text.split_at(begin);
     let loop_line = "        for stage in 2..=stages {\n";
     let first = format!(
-        "        crate::recorded::record_first(stages, omega_one, theta_previous);\n{loop_line}"
+        "        crate::recorded::record_first(stages, {omega_zero}, omega_one, theta_previous);\n{loop_line}"
     );
-    let theta = function.find("            let theta = ").expect("theta");
+    let theta = function.find("            let theta =").expect("theta");
     let end = theta + function[theta..].find(";\n").expect("the end of theta") + 2;
     let row = format!(
         "            crate::recorded::record_row(stage, [mu, nu, mu_tilde, {fourth}, theta]);\n"

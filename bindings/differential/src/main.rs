@@ -1,16 +1,19 @@
-//! differential quick | long [seed]: runs the scenarios and the random calls and prints what was reached.
+//! differential quick | long [seed]: compares the tables, runs the scenarios and the random calls, and prints what was
+//! reached.
 //! differential scenario SEED, differential call SEED: one of them again.
-use differential::build;
+use differential::build::{self, Departure};
 use differential::random::mixed;
 use differential::random_calls::{self, Answers};
-use differential::scenarios::{self, Coverage, DIMENSIONS};
+use differential::scenarios::{self, Coverage, DIMENSIONS, ENDINGS};
+use oracle::thresholds::{self, UNITS};
+use std::ops::RangeInclusive;
 use std::process::ExitCode;
 
 /// How much is run.
 struct Size {
     /// Dimensions in which every count of stages is run.
     dimensions: &'static [usize],
-    /// Every count of passes with each count of stages, or one of them.
+    /// Each count of stages in every dimension with every count of passes, or one of them; see `runs` and `passes`.
     every_pass: bool,
     attempts: u64,
     calls: u64,
@@ -28,6 +31,25 @@ const LONG: Size = Size {
     attempts: 200_000,
     calls: 5_000_000,
 };
+
+/// The largest count of the families but RKMC2. Above it attempts are long, and fewer are made.
+const SHORT: usize = 200;
+
+impl Size {
+    /// Whether a count is run in the dimension at this place: a long one in one of two, if not every pass is run.
+    fn runs(&self, stages: usize, at: usize) -> bool {
+        self.every_pass || stages <= SHORT || stages % self.dimensions.len() == at
+    }
+
+    /// The counts of passes that a count of stages is run with.
+    fn passes(&self, stages: usize, n: usize) -> RangeInclusive<usize> {
+        if self.every_pass && n < 512 && stages <= SHORT {
+            return 2..=12;
+        }
+        let one = 2 + stages % 11;
+        one..=one
+    }
+}
 
 fn main() -> ExitCode {
     let words: Vec<String> = std::env::args().skip(1).collect();
@@ -53,45 +75,79 @@ fn main() -> ExitCode {
 }
 
 fn all(size: &Size, seed: u64) -> Result<(), String> {
-    for line in build::lines() {
+    let departures = tables()?;
+    run_scenarios(size, seed, &departures)?;
+    run_calls(size, seed)?;
+    println!("0 differences");
+    Ok(())
+}
+
+/// The build, its tables against the engine's, and RKMC2's counts near its thresholds. On the named build a table that
+/// departs is a fault; elsewhere, and where the C library takes no fused variants, what departs is left out.
+fn tables() -> Result<Vec<Departure>, String> {
+    let lines = build::lines();
+    for line in &lines {
         println!("{line}");
     }
     let departures = build::departures();
-    let named = build::lines()
-        .iter()
-        .zip(build::NAMED)
-        .all(|(line, name)| line.contains(name));
-    println!(
-        "omega_one: {} of 199 entries as in the table",
-        199 - departures.len()
-    );
+    let mut pairs = lines.iter().zip(build::NAMED);
+    let named = pairs.all(|(line, name)| line.contains(name));
+    let listed: Vec<String> = departures.iter().map(Departure::to_string).collect();
+    let listed = listed.join(", ");
+    if departures == build::UNFUSED {
+        println!(
+            "The C library takes no fused variants of exp and pow here, for which the processor must have FMA and AVX2. \
+             Therefore in the Rust {listed}."
+        );
+    } else if named && !departures.is_empty() {
+        return Err(format!("this is the named build, and in the Rust {listed}"));
+    }
     if !named || !departures.is_empty() {
         println!(
             "This is not the named build ({}): no differential run.",
             build::NAMED.join(", ")
         );
     }
+    near_thresholds(&departures)?;
+    Ok(departures)
+}
+
+/// RKMC2's counts by the stored thresholds beside the Rust's. None is known to differ.
+fn near_thresholds(departures: &[Departure]) -> Result<(), String> {
+    let (compared, disagreements) = thresholds::compared(&build::stored_thresholds());
+    println!(
+        "RKMC2's counts: {compared} doubles within {UNITS} units of a threshold, {} disagree",
+        disagreements.len()
+    );
+    match disagreements.first() {
+        Some(found) if departures.is_empty() => Err(format!("{found:?}")),
+        _ => Ok(()),
+    }
+}
+
+/// Every permitted count, and random sessions of the families whose tables are those of the named build: a session may come
+/// to any count.
+fn run_scenarios(size: &Size, seed: u64, departures: &[Departure]) -> Result<(), String> {
     let mut coverage = Coverage::default();
-    every_count(size, seed, &departures, &mut coverage)?;
-    // Elsewhere than on the named build RKC is left out where the table departs; a random session may come to any count.
-    let families = if departures.is_empty() {
-        &oracle::FAMILIES[..]
-    } else {
-        &oracle::FAMILIES[1..]
-    };
+    every_count(size, seed, departures, &mut coverage)?;
+    let departs = |family: &u64| departures.iter().any(|found| found.family == *family);
+    let families: Vec<u64> = oracle::FAMILIES
+        .into_iter()
+        .filter(|family| !departs(family))
+        .collect();
     let mut index = 0;
     while coverage.attempts < size.attempts {
         let seed = mixed(seed ^ mixed(index));
         let largest = if index % 16 == 0 { 512 } else { 64 };
-        scenarios::session(seed, largest, families, &mut coverage)
+        scenarios::session(seed, largest, &families, &mut coverage)
             .map_err(|difference| format!("scenario {seed}: {difference}"))?;
         index += 1;
     }
     report(&coverage);
-    let missing = coverage.missing(families);
-    if !missing.is_empty() {
-        return Err(format!("not reached: {}", missing.join(", ")));
-    }
+    reached(coverage.missing(&families))
+}
+
+fn run_calls(size: &Size, seed: u64) -> Result<(), String> {
     let mut answers = Answers::default();
     for index in 0..size.calls {
         let seed = mixed(seed ^ mixed(index ^ (1 << 63)));
@@ -99,35 +155,34 @@ fn all(size: &Size, seed: u64) -> Result<(), String> {
             .map_err(|difference| format!("call {seed}: {difference}"))?;
     }
     report_calls(&answers);
-    let missing = answers.missing();
-    if !missing.is_empty() {
-        return Err(format!("not reached: {}", missing.join(", ")));
+    reached(answers.missing())
+}
+
+fn reached(missing: Vec<String>) -> Result<(), String> {
+    if missing.is_empty() {
+        return Ok(());
     }
-    println!("0 differences");
-    Ok(())
+    Err(format!("not reached: {}", missing.join(", ")))
 }
 
 /// Every permitted count of stages of every family.
 fn every_count(
     size: &Size,
     seed: u64,
-    departures: &[usize],
+    departures: &[Departure],
     coverage: &mut Coverage,
 ) -> Result<(), String> {
-    for &n in size.dimensions {
+    for (at, &n) in size.dimensions.iter().enumerate() {
         for family in oracle::FAMILIES {
+            let departs = |stages: usize| {
+                let mut found = departures.iter();
+                found.any(|found| (found.family, found.count) == (family, stages))
+            };
             for stages in oracle::permitted(family) {
-                if family == 1 && departures.contains(&stages) {
+                if departs(stages) || !size.runs(stages, at) {
                     continue;
                 }
-                let every = size.every_pass && n < 512;
-                let passes = if every {
-                    2..=12
-                } else {
-                    let k = 2 + stages % 11;
-                    k..=k
-                };
-                for passes in passes {
+                for passes in size.passes(stages, n) {
                     scenarios::counted_attempt(family, stages, passes, n, mixed(seed), coverage)
                         .map_err(|difference| {
                             format!(
@@ -137,7 +192,7 @@ fn every_count(
                         })?;
                 }
             }
-            let least = oracle::permitted(family).next().expect("a least count");
+            let (least, _) = oracle::ends(family);
             scenarios::counted_attempt(family, least, 1, n, mixed(seed), coverage)?;
         }
     }
@@ -153,9 +208,14 @@ fn report(coverage: &Coverage) {
         let stages = coverage.stages.keys().filter(|key| key.0 == family).count();
         let passes = coverage.passes.keys().filter(|key| key.0 == family).count();
         let permitted = oracle::permitted(family).count();
+        let endings = coverage.endings.keys();
+        let endings = endings
+            .filter(|(of, ending)| *of == family && ENDINGS.contains(ending))
+            .count();
         println!(
-            "{}: {stages} of {permitted} stage counts, {passes} of 12 pass counts",
-            oracle::name(family)
+            "{}: {stages} of {permitted} stage counts, {passes} of 12 pass counts, {endings} of {} endings",
+            oracle::name(family),
+            ENDINGS.len()
         );
     }
     for (n, count) in &coverage.dimensions {

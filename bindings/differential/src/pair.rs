@@ -1,8 +1,10 @@
 //! The engine and the Rust side by side: each call goes to both, and time, point, answer, counts, norm and all eleven
 //! vectors are compared, bit for bit with NaN matching NaN.
 //!
-//! The Rust evaluates inside a call. To see its vectors at each evaluation, it is run again from a copy up to there, where
-//! the right-hand side stops it before a derivative is written.
+//! The Rust evaluates inside a call. To see its vectors at an evaluation, it is run again from a copy up to there, where
+//! the right-hand side stops it before a derivative is written. That is done at each evaluation of an attempt with up to 200
+//! stages; of a longer one at some (`looked_at`), and at the others time and point are compared, and by [`check`] how a
+//! reply exchanges the vectors.
 use crate::model::Replies;
 use crate::random::{Random, all_same, same};
 use crate::refusals::{Arguments, Call, Given, Held, Outcome, Start, check, number, stands};
@@ -243,18 +245,19 @@ impl Pair {
         let mut derivative = vec![0.0; self.n()];
         let mut at = self.oracle.clone();
         for (place, (time, point)) in whole.evaluated.iter().enumerate() {
-            at = stopped_at(place, &self.oracle, replies, &run);
             let number = asked(self.record.wholes.phase);
             expect(&outcome.answer, code::EVALUATE, number as u64, *time)?;
             if !all_same(self.vector(number), point) {
                 return Err(format!("another point at evaluation {place}"));
             }
-            self.compare(&at, self.strict, &format!("evaluation {place}"))?;
+            let stop = stop.filter(|(there, _)| *there == place);
+            if stop.is_some() || looked_at(place, whole.evaluated.len()) {
+                at = stopped_at(place, &self.oracle, replies, &run);
+                self.compare(&at, self.strict, &format!("evaluation {place}"))?;
+            }
             passes += u64::from(self.record.wholes.phase == phase::PASS);
             self.something_turned_away()?;
-            if let Some((there, stop)) = stop
-                && there == place
-            {
+            if let Some((_, stop)) = stop {
                 self.oracle = at;
                 return self.stopped(stop);
             }
@@ -404,7 +407,7 @@ impl Pair {
             time: 0.0,
         };
         let calls = [
-            Call::Start(Start { family: 6, ..start }),
+            Call::Start(Start { family: 7, ..start }),
             Call::Start(Start { n: 513, ..start }),
             Call::Start(Start {
                 state: &one_too_long,
@@ -473,6 +476,12 @@ impl Whole {
             evaluated,
         }
     }
+}
+
+/// Whether the Rust is run again up to an evaluation, to see all its vectors there: at each of 200 stages and twelve passes,
+/// of more at the first ones, the last ones and some between, since all would take the square of their number.
+fn looked_at(place: usize, evaluations: usize) -> bool {
+    evaluations <= 212 || place < 20 || place + 4 >= evaluations || place.is_multiple_of(16)
 }
 
 /// The Rust's kernel inside a call, at an evaluation whose derivative is not yet written.

@@ -2,8 +2,8 @@
 use crate::pair::make;
 use crate::random::Random;
 use crate::refusals::{Arguments, Call, Given, Held, Start, check, numbers};
-use stabilized::calls::{Counters, Record, VECTORS, code};
-use std::collections::BTreeMap;
+use stabilized::calls::{Counters, Record, VECTORS, code, phase};
+use std::collections::{BTreeMap, BTreeSet};
 
 const NAMES: [&str; 6] = [
     "start",
@@ -21,16 +21,55 @@ pub struct Answers {
     pub given: BTreeMap<(&'static str, u64), u64>,
     /// The numbers that each call can answer.
     pub lists: BTreeMap<&'static str, &'static [u64]>,
+    /// Families that were turned away with 1.
+    families: BTreeSet<u64>,
+    /// Family and stage count of records that were turned away with 4 although the phase allowed a reply.
+    stages: BTreeSet<(u64, u64)>,
+}
+
+/// One less than the least permitted count of stages, and one more than the largest.
+fn outside(family: u64) -> [u64; 2] {
+    let (least, largest) = oracle::ends(family);
+    [least as u64 - 1, largest as u64 + 1]
 }
 
 impl Answers {
-    /// The numbers of the lists that no call gave.
+    /// The numbers of the lists that no call gave, and the families and counts next to the permitted ones that none had.
     pub fn missing(&self) -> Vec<String> {
         let all = self.lists.iter();
-        all.flat_map(|(name, numbers)| numbers.iter().map(move |number| (*name, *number)))
+        let numbers = all
+            .flat_map(|(name, numbers)| numbers.iter().map(move |number| (*name, *number)))
             .filter(|answer| !self.given.contains_key(answer))
-            .map(|(name, number)| format!("{name}, turned away with {number}"))
-            .collect()
+            .map(|(name, number)| format!("{name}, turned away with {number}"));
+        let families = [0, oracle::FAMILIES.len() as u64 + 1]
+            .into_iter()
+            .filter(|family| !self.families.contains(family))
+            .map(|family| format!("family {family}, turned away with 1"));
+        let counts = oracle::FAMILIES
+            .into_iter()
+            .flat_map(|family| outside(family).map(|stages| (family, stages)))
+            .filter(|record| !self.stages.contains(record))
+            .map(|(family, stages)| {
+                format!("family {family} with {stages} stages, turned away with 4")
+            });
+        numbers.chain(families).chain(counts).collect()
+    }
+
+    /// Counts a call by its answer.
+    fn count(&mut self, name: &'static str, call: &Call, record: &Record, answer: u64) {
+        self.calls += 1;
+        *self.given.entry((name, answer)).or_default() += 1;
+        self.lists.insert(name, numbers(call));
+        let kept = record.wholes;
+        match (call, answer) {
+            (Call::Start(start), 1) => {
+                self.families.insert(start.family);
+            }
+            (Call::Reply { .. }, 4) if kept.phase == phase::CANDIDATE => {
+                self.stages.insert((kept.family, kept.stages));
+            }
+            _ => {}
+        }
     }
 }
 
@@ -75,13 +114,23 @@ fn length(random: &mut Random, usual: usize) -> usize {
     }
 }
 
+/// A count of stages: one that is permitted or a little above, or one next to the permitted ones.
+fn stages(random: &mut Random, family: u64) -> u64 {
+    let next = outside(family);
+    if random.chance(10) {
+        random.pick(&next)
+    } else {
+        random.draw() % (next[1] + 9)
+    }
+}
+
 fn record(random: &mut Random, family: u64, n: u64) -> Record {
-    let stages = random.draw() % 210;
+    let stages = stages(random, family);
     let stage = random.draw() % (stages + 3);
     let stage = if random.chance(30) { stages } else { stage };
     let mut record = Record::default();
     let (w, x) = (&mut record.wholes, &mut record.doubles);
-    w.family = number(random, family, 8);
+    w.family = number(random, family, 9);
     w.n = number(random, n, 16);
     let usual = random.draw() % 8;
     w.phase = number(random, usual, 12);
@@ -96,8 +145,8 @@ fn record(random: &mut Random, family: u64, n: u64) -> Record {
     x.perturbation = double(random);
     x.previous_radius = double(random);
     x.scaled_radius = double(random);
-    w.stages = number(random, stages, 400);
-    w.stage = number(random, stage, 400);
+    w.stages = number(random, stages, 2000);
+    w.stage = number(random, stage, 2000);
     for carried in [
         &mut x.theta_previous,
         &mut x.theta_previous_two,
@@ -134,7 +183,7 @@ pub fn call(seed: u64, answers: &mut Answers) -> Result<(), String> {
         1..8 => 0,
         _ => random.below(9),
     };
-    let family = random.draw() % 5 + 1;
+    let family = random.pick(&oracle::FAMILIES);
     let record = record(random, family, n as u64);
     let counters = Counters {
         evaluations: counter(random),
@@ -147,7 +196,7 @@ pub fn call(seed: u64, answers: &mut Answers) -> Result<(), String> {
     let kind = random.pick(&[0, 1, 2, 2, 2, 3, 4, 5]);
     let call = match kind {
         0 => Call::Start(Start {
-            family: number(random, family, 8),
+            family: number(random, family, 9),
             n: number(random, n as u64, 16),
             state: &brought,
             time: double(random),
@@ -171,14 +220,12 @@ pub fn call(seed: u64, answers: &mut Answers) -> Result<(), String> {
     };
     let (mut area, mut left) = (before.clone(), counters);
     let outcome = make(record, &mut left, &mut area, &call);
-    answers.calls += 1;
     let answer = if outcome.answer.code == code::REFUSED {
         outcome.answer.number
     } else {
         0
     };
-    *answers.given.entry((NAMES[kind], answer)).or_default() += 1;
-    answers.lists.insert(NAMES[kind], numbers(&call));
+    answers.count(NAMES[kind], &call, &record, answer);
     let held = Held {
         record,
         counters,

@@ -1,4 +1,5 @@
-//! Document 01, "When a call is turned away", stated anew from the document alone, with what each call leaves.
+//! Document 01, "When a call is turned away", stated anew from the document alone, with what each call leaves; families 1
+//! to 6 by document 02, CR 1.
 //!
 //! [`number`] gives the number of the first test from 1 to 9 that a call fails. [`check`] compares what an engine answered
 //! and left with what the document settles, number 10 included: whether a candidate is finite is seen in the area.
@@ -72,6 +73,7 @@ fn permitted(family: u64, stages: u64) -> bool {
         1 | 4 => (2..=200).contains(&stages),
         2 | 3 => (3..=199).contains(&stages) && stages % 2 == 1,
         5 => (3..=200).contains(&stages),
+        6 => (3..=1000).contains(&stages),
         _ => false,
     }
 }
@@ -106,7 +108,7 @@ fn shape(held: &Held, call: &Call) -> Option<u64> {
         Call::AcceptWithCallback { state, .. } => (kept.family, kept.n, Some(state)),
         _ => (kept.family, kept.n, None),
     };
-    if !(1..=5).contains(&family) {
+    if !(1..=6).contains(&family) {
         return Some(1);
     }
     if n == 0 || n > 512 {
@@ -445,7 +447,8 @@ fn settle_pass(s: &mut Settled, record: Record, given: &Given) {
         .or((expected.wholes.phase == phase::PASS).then_some(expected));
 }
 
-/// On to the next stage with the exchange, or to the candidate, which is turned away with 10 where it is not finite.
+/// On to the next stage with the exchange, or to the candidate, which is turned away with 10 where it is not finite. It is
+/// the last stage, but in RKMC2 made from it and others.
 fn settle_stage(s: &mut Settled, record: Record, given: &Given, n: usize) {
     let (time, step) = (record.doubles.time, record.doubles.step);
     if record.wholes.stage < record.wholes.stages {
@@ -462,11 +465,15 @@ fn settle_stage(s: &mut Settled, record: Record, given: &Given, n: usize) {
         s.open = &[vector::PREVIOUS_ONE];
         return;
     }
-    let row = given.area[vector::NEXT_STAGE * n..(vector::NEXT_STAGE + 1) * n].to_vec();
-    let good = finite(&row);
-    s.put(vector::NEXT_STAGE, &row);
-    s.put(vector::CANDIDATE, &row);
-    if good {
+    let made = |vector: usize| &given.area[vector * n..(vector + 1) * n];
+    let candidate = made(if record.wholes.family == 6 {
+        vector::CANDIDATE
+    } else {
+        vector::NEXT_STAGE
+    });
+    s.put(vector::NEXT_STAGE, made(vector::NEXT_STAGE));
+    s.put(vector::CANDIDATE, candidate);
+    if finite(candidate) {
         s.answer = Some(evaluate(vector::CANDIDATE, time + step));
         s.record = Some(with_phase(record, phase::CANDIDATE));
     } else {

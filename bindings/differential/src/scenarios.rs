@@ -37,6 +37,15 @@ const WANTED: [&str; 23] = [
     "tiny steps",
 ];
 
+/// How attempts of every family end in every run.
+pub const ENDINGS: [&str; 5] = [
+    "finished attempts",
+    "ended with 9",
+    "ended with 10",
+    "abandoned",
+    "left for a start in the middle",
+];
+
 /// What the scenarios reached.
 #[derive(Default)]
 pub struct Coverage {
@@ -48,6 +57,8 @@ pub struct Coverage {
     pub stages: BTreeMap<(u64, u64), u64>,
     /// Finished attempts by family and passes.
     pub passes: BTreeMap<(u64, u64), u64>,
+    /// Attempts by family and ending.
+    pub endings: BTreeMap<(u64, &'static str), u64>,
     /// By dimension.
     pub dimensions: BTreeMap<usize, u64>,
     /// Everything else that is counted, by name.
@@ -70,6 +81,11 @@ impl Coverage {
             for passes in 1..=12 {
                 if !self.passes.contains_key(&(family, passes)) {
                     missing.push(format!("{name} with {passes} passes"));
+                }
+            }
+            for ending in ENDINGS {
+                if !self.endings.contains_key(&(family, ending)) {
+                    missing.push(format!("{name}, {ending}"));
                 }
             }
         }
@@ -100,33 +116,47 @@ impl Coverage {
         if !arguments.adaptive {
             self.count("attempts without adaptive");
         }
-        match *ending {
-            Ending::Finished {
-                stages,
-                passes,
-                scaled_radius,
-                norm,
-            } => {
-                self.count("finished attempts");
-                *self.stages.entry((family, stages)).or_default() += 1;
-                *self.passes.entry((family, passes)).or_default() += 1;
-                match scaled_radius {
-                    r if r.is_nan() => self.count("radius NaN"),
-                    0.0 => self.count("radius zero"),
-                    f64::INFINITY => self.count("radius infinite"),
-                    _ => {}
-                }
-                if !norm.is_finite() {
-                    self.count("norm not finite");
-                }
-            }
-            Ending::BadDerivative => self.count("ended with 9"),
-            Ending::BadCandidate => self.count("ended with 10"),
-            Ending::Abandoned => self.count("abandoned"),
-            Ending::Pending => self.count("left for a start in the middle"),
-            Ending::LeftOut => self.count("left out: the overflow in RKC"),
-            Ending::Ready => {}
+        if let Some(name) = named(ending) {
+            self.count(name);
+            *self.endings.entry((family, name)).or_default() += 1;
         }
+        if let Ending::Finished {
+            stages,
+            passes,
+            scaled_radius,
+            norm,
+        } = *ending
+        {
+            *self.stages.entry((family, stages)).or_default() += 1;
+            *self.passes.entry((family, passes)).or_default() += 1;
+            self.values(scaled_radius, norm);
+        }
+    }
+
+    /// The radius and norm of a finished attempt, where they are special.
+    fn values(&mut self, scaled_radius: f64, norm: f64) {
+        match scaled_radius {
+            r if r.is_nan() => self.count("radius NaN"),
+            0.0 => self.count("radius zero"),
+            f64::INFINITY => self.count("radius infinite"),
+            _ => {}
+        }
+        if !norm.is_finite() {
+            self.count("norm not finite");
+        }
+    }
+}
+
+/// What an ending of an attempt is counted as.
+fn named(ending: &Ending) -> Option<&'static str> {
+    match ending {
+        Ending::Finished { .. } => Some("finished attempts"),
+        Ending::BadDerivative => Some("ended with 9"),
+        Ending::BadCandidate => Some("ended with 10"),
+        Ending::Abandoned => Some("abandoned"),
+        Ending::Pending => Some("left for a start in the middle"),
+        Ending::LeftOut => Some("left out: the overflow in RKC"),
+        Ending::Ready => None,
     }
 }
 

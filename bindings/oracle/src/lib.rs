@@ -2,8 +2,10 @@
 //! checkout, compiled unchanged, behind stand-ins for what they lean on.
 //!
 //! [`Oracle`] runs `initialize`, `attempt_step` and `accept_step` and shows all eleven vectors. [`rows`] reads the
-//! coefficients of a stage, which are locals of the Rust, from a copy with added lines.
+//! coefficients of a stage, which are locals of the Rust, from a copy with added lines. [`thresholds`] holds RKMC2's stage
+//! rule as the engine has it.
 mod shim;
+pub mod thresholds;
 mod unchanged;
 
 mod recorded;
@@ -13,20 +15,29 @@ pub use shim::SolveError;
 pub(crate) use shim::{OdeFunction, OdeProblem, SolveOptions, SolverStats, integrator};
 pub use unchanged::{Arguments, Oracle, RightHandSide, stages};
 
+/// The number of RKMC2.
+pub const RKMC2: u64 = 6;
+
 /// The families, by their numbers.
-pub const FAMILIES: [u64; 5] = [1, 2, 3, 4, 5];
+pub const FAMILIES: [u64; 6] = [1, 2, 3, 4, 5, RKMC2];
 
 /// A family's name, by its number.
 pub fn name(family: u64) -> &'static str {
-    ["RKC", "RKL1", "RKL2", "RKG1", "RKG2"][family as usize - 1]
+    ["RKC", "RKL1", "RKL2", "RKG1", "RKG2", "RKMC2"][family as usize - 1]
 }
 
-/// The stage counts that document 01 permits to a family.
+/// The least and the largest stage count that documents 01 and 02 permit to a family.
+pub fn ends(family: u64) -> (usize, usize) {
+    match family {
+        1 | 4 => (2, 200),
+        2 | 3 => (3, 199),
+        5 => (3, 200),
+        _ => (3, 1000),
+    }
+}
+
+/// Every stage count that is permitted to a family: RKL has the odd ones alone.
 pub fn permitted(family: u64) -> impl Iterator<Item = usize> {
-    let (least, most, by) = match family {
-        1 | 4 => (2, 200, 1),
-        2 | 3 => (3, 199, 2),
-        _ => (3, 200, 1),
-    };
-    (least..=most).step_by(by)
+    let (least, largest) = ends(family);
+    (least..=largest).step_by(if [2, 3].contains(&family) { 2 } else { 1 })
 }

@@ -8,6 +8,7 @@ use workspace::StabilizedKernel;
 
 include!(concat!(env!("OUT_DIR"), "/recorded.rs"));
 
+crate::shim::carried_families!();
 crate::shim::other_families!(run_rock2, run_rock4, run_serk2, run_eserk);
 
 /// The coefficients of one stage; `theta` is the value after it.
@@ -17,7 +18,7 @@ pub struct Row {
     pub mu: f64,
     pub nu: f64,
     pub mu_tilde: f64,
-    /// In RKC, nu_tilde.
+    /// In RKC nu_tilde, in RKMC2 b_previous.
     pub gamma_tilde: f64,
     pub theta: f64,
 }
@@ -26,6 +27,8 @@ pub struct Row {
 #[derive(Clone, Debug, Default, PartialEq)]
 pub struct Rows {
     pub stages: usize,
+    /// Of RKC and RKMC2 alone.
+    pub omega_zero: Option<f64>,
     pub omega_one: f64,
     pub first_mu_tilde: f64,
     pub rows: Vec<Row>,
@@ -35,9 +38,15 @@ thread_local! {
     static RECORDED: RefCell<Rows> = RefCell::default();
 }
 
-pub(crate) fn record_first(stages: usize, omega_one: f64, first_mu_tilde: f64) {
+pub(crate) fn record_first(
+    stages: usize,
+    omega_zero: Option<f64>,
+    omega_one: f64,
+    first_mu_tilde: f64,
+) {
     RECORDED.set(Rows {
         stages,
+        omega_zero,
         omega_one,
         first_mu_tilde,
         rows: Vec::new(),
@@ -74,19 +83,11 @@ impl OdeFunction<()> for Zero {
 
 /// The coefficients that the Rust uses for a family and a stage count.
 pub fn rows(family: u64, stages: usize) -> Rows {
-    let family = match family {
-        1 => StabilizedFamily::Rkc,
-        2 => StabilizedFamily::Rkl1,
-        3 => StabilizedFamily::Rkl2,
-        4 => StabilizedFamily::Rkg1,
-        5 => StabilizedFamily::Rkg2,
-        _ => panic!("no family {family}"),
-    };
     let problem = OdeProblem {
         rhs: Zero,
         parameters: (),
     };
-    StabilizedKernel::new(family, 1)
+    StabilizedKernel::new(family_of(family), 1)
         .run_recurrence(
             &problem,
             &[1.0],

@@ -118,6 +118,24 @@ pub mod integrator {
     }
 }
 
+/// The families that are carried, by their numbers: each copy of the five files has a type of its own for them.
+macro_rules! carried_families {
+    () => {
+        fn family_of(number: u64) -> StabilizedFamily {
+            match number {
+                1 => StabilizedFamily::Rkc,
+                2 => StabilizedFamily::Rkl1,
+                3 => StabilizedFamily::Rkl2,
+                4 => StabilizedFamily::Rkg1,
+                5 => StabilizedFamily::Rkg2,
+                6 => StabilizedFamily::Rkmc2,
+                _ => panic!("no family {number}"),
+            }
+        }
+    };
+}
+pub(crate) use carried_families;
+
 /// The families that are not carried: driver.rs names their methods, which are never reached.
 macro_rules! other_families {
     ($($method:ident),*) => {

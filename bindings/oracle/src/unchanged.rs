@@ -8,6 +8,7 @@ use workspace::StabilizedKernel;
 
 include!(concat!(env!("OUT_DIR"), "/unchanged.rs"));
 
+crate::shim::carried_families!();
 crate::shim::other_families!(run_rock2, run_rock4, run_serk2, run_eserk);
 
 /// What an attempt is given beside the state.
@@ -43,17 +44,6 @@ fn problem<F: RightHandSide + ?Sized>(rhs: &F) -> OdeProblem<Closure<'_, F>, ()>
     OdeProblem {
         rhs: Closure(rhs),
         parameters: (),
-    }
-}
-
-fn family_of(number: u64) -> StabilizedFamily {
-    match number {
-        1 => StabilizedFamily::Rkc,
-        2 => StabilizedFamily::Rkl1,
-        3 => StabilizedFamily::Rkl2,
-        4 => StabilizedFamily::Rkg1,
-        5 => StabilizedFamily::Rkg2,
-        _ => panic!("no family {number}"),
     }
 }
 

@@ -30,7 +30,7 @@ pub struct Wholes {
 }
 
 /// What it keeps in doubles: the attempt's arguments, the power iteration's position, and what the stages carry on, `theta`
-/// and for RKC alone the others. They stand in the order in which the engine reads them fastest.
+/// and for RKC and RKMC2 alone the others. They stand in the order in which the engine reads them fastest.
 #[repr(C)]
 #[derive(Clone, Copy, Debug, Default, PartialEq)]
 pub struct Doubles {

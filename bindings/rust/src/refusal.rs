@@ -24,7 +24,7 @@ macro_rules! causes {
 }
 
 causes! {
-    Family = 1, "the family is not one of 1 to 5";
+    Family = 1, "the family is not carried: not one of 1 to 6";
     Dimension = 2, "the dimension is not one of 1 to 512";
     Length = 3, "the area is not 11 vectors long, or a vector has another dimension";
     Phase = 4,

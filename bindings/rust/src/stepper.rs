@@ -14,6 +14,8 @@ pub enum Family {
     Rkg1 = 4,
     /// Runge-Kutta-Gegenbauer, second order.
     Rkg2 = 5,
+    /// RKMC2, another Runge-Kutta-Chebyshev method of second order, with up to 1000 stages.
+    Rkmc2 = 6,
 }
 
 /// What an attempt is given.

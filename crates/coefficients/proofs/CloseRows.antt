@@ -15,7 +15,7 @@ use lib.Ieee.Positive.{num, den}
 use lib.Ieee.Scale.{finite}
 use Rattle.fractions.specs.Frac.{Frac, _⊗_, _⊕_, opp}
 use Rattle.family.specs.Family.{Orthogonal, Legendre1, Legendre2, Gegenbauer1, Gegenbauer2, made-of, permitted}
-use Rattle.family.proofs.Range.{permitted-range}
+use Rattle.family.proofs.Range.{orthogonal-range}
 use Rattle.coefficients.specs.Paper as Paper
 use Rattle.coefficients.specs.Paper.{omega-one, mu, nu, mu-tilde, gamma-tilde, a}
 use Rattle.fractions.proofs.FracLaws.{ℤ-ring}
@@ -134,7 +134,7 @@ module _ (f : Orthogonal) (s j : ℕ) (l : 2 ≤ s) (h : s ≤ 200) (l' : 2 ≤ 
 
 pub fit-row : (f : Orthogonal) (s j : ℕ) → T (permitted (made-of f) s) → 2 ≤ j → j ≤ s → (c : Recurrence) → Fit-row f s j (coefficients-of (made-of f) s j c)
 unfolding coefficients-of legendre-one legendre-two gegenbauer-one gegenbauer-two with-theta made-of mu-of nu-of a-of mu-with nu-with a-with b-of
-fit-row f s j t l' g c = let r = permitted-range (made-of f) s t in go f (r .0) (r .1) (le-trans g (r .1))
+fit-row f s j t l' g c = let r = orthogonal-range f s t in go f (r .0) (r .1) (le-trans g (r .1))
   where
     go : (f : Orthogonal) → 2 ≤ s → s ≤ 200 → j ≤ 200 → Fit-row f s j (coefficients-of (made-of f) s j c)
     go Legendre1 l h h' = row-is Legendre1 s j l h l' h' _ refl refl refl (no-gamma Legendre1 s j refl _ (a-fit Legendre1 j l' h'))
@@ -172,7 +172,7 @@ same-row Gegenbauer2 s j c c' = record { same-mu = refl; same-nu = refl; same-mu
 
 -- the coefficient of stage 1, which the calls take from the recurrence
 pub close-first : (f : Orthogonal) (s : ℕ) → T (permitted (made-of f) s) → Close 48 (recurrence-of (made-of f) s .«theta_previous») (Paper.first-mu-tilde f s)
-close-first f s t = let r = permitted-range (made-of f) s t in
+close-first f s t = let r = orthogonal-range f s t in
     fit-close 100 8 false (stage-one-of f s) (Paper.first-mu-tilde f s) (lit≤ tt) (first-fit f s (r .0) (r .1))
 
 -- where the fraction is 0 the double is

@@ -27,7 +27,8 @@ use Rattle.ieee.specs.Close.{sign, Close}
 use Rattle.coefficients.specs.Table as Table
 use Rattle.family.specs.Family.{RKC, facts-of}
 use Rattle.coefficients.specs.Rows as Rows
-use Rattle.coefficients.specs.Rows.{carried-of, recurrence-of, first-polynomials, omega-one-of, next-of, next-polynomials, polynomials-on}
+use Rattle.coefficients.specs.Rows.{carried-of, recurrence-of, first-polynomials, first-polynomials-in, omega-one-of, next-of}
+use Rattle.coefficients.specs.Rows.{next-polynomials, polynomials-on}
 use Rattle.ieee.proofs.Fit.{close-of}
 use Rattle.ieee.proofs.Every.{every, among}
 
@@ -266,12 +267,12 @@ close-omega s l h =
 
 -- ---- the rows: each takes omega_zero, and the entry that was read, as they were when the stages began
 pub zero-taken : (s i : ℕ) → carried-of RKC s i .polynomials .«omega_zero» ≡ Rows.omega-zero s
-unfolding carried-of recurrence-of first-polynomials next-of next-polynomials polynomials-on facts-of
+unfolding carried-of recurrence-of first-polynomials first-polynomials-in next-of next-polynomials polynomials-on facts-of
 zero-taken s zero = refl
 zero-taken s (suc i) = zero-taken s i
 
 pub entry-taken : (s i : ℕ) → carried-of RKC s i .polynomials .«omega_one» ≡ Table.omega s
-unfolding carried-of recurrence-of first-polynomials omega-one-of next-of next-polynomials polynomials-on facts-of
+unfolding carried-of recurrence-of first-polynomials first-polynomials-in omega-one-of next-of next-polynomials polynomials-on facts-of
 entry-taken s zero = refl
 entry-taken s (suc i) = entry-taken s i
 

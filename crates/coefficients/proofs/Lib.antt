@@ -5,6 +5,7 @@ mod RowTable
 pub mod CloseRows
 pub mod Zeros
 pub mod CloseTable
+pub mod Carried
 mod Normalized
 mod PaperValues
 mod Multiplier

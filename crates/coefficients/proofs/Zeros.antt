@@ -10,7 +10,7 @@ use lib.Ieee.{Float}
 use lib.Ieee.Positive.{num}
 use Rattle.fractions.specs.Frac.{Frac}
 use Rattle.family.specs.Family.{Orthogonal, made-of, permitted}
-use Rattle.family.proofs.Range.{permitted-range}
+use Rattle.family.proofs.Range.{orthogonal-range}
 use Rattle.ieee.proofs.Fit.{Fit, fit-close, num-pos}
 use Rattle.coefficients.specs.Paper as Paper
 use Rattle.coefficients.specs.Paper.{mu, nu, mu-tilde, gamma-tilde}
@@ -45,5 +45,5 @@ zeros f s j t l g c =
 pub first-zero : (f : Orthogonal) (s : ℕ) → T (permitted (made-of f) s)
     → Zero-as false (recurrence-of (made-of f) s .«theta_previous») (Paper.first-mu-tilde f s)
 unfolding Zero-or-fit
-first-zero f s t = let r = permitted-range (made-of f) s t in
+first-zero f s t = let r = orthogonal-range f s t in
     zero-as false 100 8 false (stage-one-of f s) (Paper.first-mu-tilde f s) (lit≤ tt) (first-fit f s (r .0) (r .1))

@@ -1,4 +1,4 @@
-// The coefficients of a stage's row: orthogonal.rs, and `run_rkc` of chebyshev.rs.
+// The coefficients of a stage's row: orthogonal.rs, and `run_rkc` and `run_rkmc2` of chebyshev.rs.
 ghost use mathlib.Core.Path.{_≡_};
 ghost use Prim.Native.Nat.{_+_, _≤_, _<_, _^_};
 ghost use Rattle.family.specs.Family.{family-of};
@@ -8,8 +8,10 @@ use family::Setting;
 
 mod chebyshev;
 mod orthogonal;
+pub mod rkmc2;
 
-// A row's coefficients, and `theta` after its stage. In RKC `gamma_tilde` holds the Rust's `nu_tilde`.
+// A row's coefficients, and `theta` after its stage. In RKC `gamma_tilde` holds the Rust's `nu_tilde`, in
+// RKMC2 its `b_previous`.
 pub struct Coefficients {
     pub mu: f64,
     pub nu: f64,
@@ -19,8 +21,8 @@ pub struct Coefficients {
 }
 
 // What RKC carries from stage to stage: omega_zero and omega_one as the stages began with them, b, and the Chebyshev polynomial
-// at omega_zero with its first and second derivative, each of the two stages before. The other families leave it as it is
-// and never read it.
+// at omega_zero with its first and second derivative, each of the two stages before. RKMC2 carries the same without the
+// derivatives. The other families leave it as it is and never read it.
 pub struct Polynomials {
     pub omega_zero: f64,
     pub omega_one: f64,
@@ -47,6 +49,15 @@ pub struct Advance {
     pub after: Recurrence,
 }
 
+// RKMC2's candidate: the weights of the state, of the last stage, of the stage two before it, and of step times the first
+// derivative.
+pub struct Weights {
+    pub initial: f64,
+    pub last: f64,
+    pub older: f64,
+    pub slope: f64,
+}
+
 pub fn omega_one(family: u64, s: u64) -> f64
     ensures { λ r. ⌜ r ≡ rows.omega-one-of (family-of family) s ⌝ }
 {
@@ -55,6 +66,7 @@ pub fn omega_one(family: u64, s: u64) -> f64
         2 => orthogonal::legendre_one_omega(s),
         3 => orthogonal::legendre_two_omega(s),
         4 => orthogonal::gegenbauer_one_omega(s),
+        6 => rkmc2_omega_one::omega_one(s),
         _ => orthogonal::gegenbauer_two_omega(s),
     }
 }
@@ -69,6 +81,7 @@ fn first_from(family: u64, s: u64, w: f64) -> f64
         2 => w,
         3 => w / 3.0,
         4 => w,
+        6 => rkmc2::first_b(s) * w,
         _ => w,
     }
 }
@@ -80,13 +93,25 @@ pub fn first_mu_tilde(family: u64, s: u64) -> f64
     first_from(family, s, w)
 }
 
+fn first_polynomials(form: RowForm, w: f64, s: u64) -> Polynomials
+    ensures { λ r. ⌜ r ≡ rows.first-polynomials-in form w s ⌝ }
+{
+    match form {
+        RowForm::ChebyshevRow => chebyshev::first_polynomials(w, s),
+        RowForm::OrthogonalRow => chebyshev::first_polynomials(w, s),
+        RowForm::InitialFirstRow => rkmc2::first_polynomials(w, s),
+    }
+}
+
 // What is carried into stage 2.
 pub fn first_recurrence(setting: Setting, s: u64) -> Recurrence
     ensures { λ r. ⌜ r ≡ rows.recurrence setting s ⌝ }
 {
     let w = omega_one(setting.family, s);
     let theta = first_from(setting.family, s, w);
-    let polynomials = chebyshev::first_polynomials(w, s);
+    let own = family::facts_of(setting.family);
+    let form = own.row;
+    let polynomials = first_polynomials(form, w, s);
     Recurrence {
         theta_previous: theta,
         theta_previous_two: 0.0,
@@ -105,6 +130,7 @@ pub fn row_coefficients(setting: Setting, s: u64, j: u64, c: Recurrence) -> Coef
         2 => orthogonal::legendre_one(orthogonal::legendre_one_omega(s), j, c),
         3 => orthogonal::legendre_two(orthogonal::legendre_two_omega(s), j, c),
         4 => orthogonal::gegenbauer_one(orthogonal::gegenbauer_one_omega(s), j, c),
+        6 => rkmc2::row(c),
         _ => orthogonal::gegenbauer_two(orthogonal::gegenbauer_two_omega(s), j, c),
     }
 }
@@ -115,6 +141,7 @@ fn next_polynomials(form: RowForm, p: Polynomials) -> Polynomials
     match form {
         RowForm::ChebyshevRow => chebyshev::next_polynomials(p),
         RowForm::OrthogonalRow => p,
+        RowForm::InitialFirstRow => rkmc2::next_polynomials(p),
     }
 }
 
@@ -133,7 +160,7 @@ pub fn next_recurrence(setting: Setting, c: Recurrence, row: Coefficients) -> Re
     }
 }
 
-// Both of stage j at once. RKC stands apart, since its row and what it carries on share the polynomials.
+// Both of stage j at once. RKC and RKMC2 stand apart, since their row and what they carry on share the polynomials.
 pub fn row_and_recurrence(setting: Setting, s: u64, j: u64, c: Recurrence) -> Advance
     requires { ⌜ (2 ≤ j) × (j + 1 < 2 ^ 32) ⌝ }
     ensures { λ r. ⌜ r .row ≡ rows.coefficients setting s j c ⌝ }
@@ -141,6 +168,9 @@ pub fn row_and_recurrence(setting: Setting, s: u64, j: u64, c: Recurrence) -> Ad
 {
     if setting.family == 1 {
         return chebyshev::advance(c);
+    }
+    if setting.family == 6 {
+        return rkmc2::advance(c);
     }
     let row = row_coefficients(setting, s, j, c);
     let after = next_recurrence(setting, c, row);

@@ -31,7 +31,8 @@ fn with_radius(tallies: Tallies, radius: f64, first: u64, second: u64) -> Tallie
     let b = with_count(a, 2, radius, first / 0x1_0000 % 0x1_0000);
     let c = with_count(b, 3, radius, first / 0x1_0000_0000 % 0x1_0000);
     let d = with_count(c, 4, radius, first / 0x1_0000_0000_0000);
-    with_count(d, 5, radius, second % 0x1_0000)
+    let e = with_count(d, 5, radius, second % 0x1_0000);
+    with_count(e, 6, radius, second / 0x1_0000 % 0x1_0000)
 }
 
 // All whole records of s.

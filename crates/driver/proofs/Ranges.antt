@@ -1,4 +1,4 @@
--- The position's range, from the tests of it; the stages that a need is met with are at most 200.
+-- The position's range, from the tests of it; the stages that a need is met with are at most 1000.
 use mathlib.Core.Path.{_≡_, sym, ap, subst}
 use mathlib.Core.Bool.{true, _&&_}
 use Prim.Native.Nat.{ℕ, _≤_}
@@ -6,8 +6,8 @@ use borrow.Author.Tests.{leb-true}
 use lib.Dec.{T, leb}
 use lib.Ieee.{Float}
 use Rattle.family.specs.declared.Setting.{Setting}
-use Rattle.family.specs.Family.{kind, stage-count}
-use Rattle.family.proofs.Range.{most-stages, permitted-range}
+use Rattle.family.specs.Family.{kind, stage-count, most-stages}
+use Rattle.family.proofs.Range.{permitted-range}
 use Rattle.family.proofs.Counts.{stage-count-permitted}
 use Rattle.driver.specs.declared.Phase.the-variants as P
 use Rattle.driver.specs.declared.Record.{Record}

@@ -174,6 +174,7 @@ fn onward(setting: Setting, time: f64, staging: Staging) -> Staged
             stage: staging.stage,
             theta: staging.recurrence.theta_previous,
         },
+        RowForm::InitialFirstRow => Staged::On { time, staging },
     }
 }
 

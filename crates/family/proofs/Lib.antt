@@ -4,6 +4,7 @@ pub mod Rule
 pub mod Limits
 pub mod Saturated
 pub mod Thresholds
+pub mod ByThreshold
 pub mod Counts
 pub mod Special
 pub mod Marked

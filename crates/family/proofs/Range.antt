@@ -1,13 +1,13 @@
--- What is permitted, as facts: from the smallest count to the largest, and odd where it must be. Every permitted count is from 2 to 200 (`permitted-range`).
--- Assumes nothing.
+-- What is permitted, as facts: from the smallest count to the largest, and odd where it must be. Every permitted count is from 2 to 1000 (`permitted-range`), of
+-- RKL and RKG from 2 to 200 (`orthogonal-range`). Assumes nothing.
 use mathlib.Core.Path.{_≡_}
 use Prim.Native.Nat.{ℕ, _%_, _≤_}
 use native.Mathlib.Nat.{le-refl, le-trans}
 use mathlib.Core.Bool.{Bool, true, false, not, _&&_, _||_}
-use lib.Dec.{T, leb, eqb, leb→le, le→leb, eqb→eq}
+use lib.Dec.{T, leb, eqb, leb→le, le→leb, eqb→eq, lit≤}
 use lib.Ieee.Fits.{and-l, and-r, and-i, eq→eqb}
 use Rattle.family.specs.declared.Facts.{Facts}
-use Rattle.family.specs.Family.{Family, RKC, RKL1, RKL2, RKG1, RKG2, smallest-count, largest-count, odd-only, permitted, facts-of}
+use Rattle.family.specs.Family.{Family, Orthogonal, Legendre1, Legendre2, Gegenbauer1, Gegenbauer2, made-of, RKC, RKL1, RKL2, RKG1, RKG2, RKMC2, smallest-count, largest-count, odd-only, permitted, facts-of, most-stages}
 
 pub record Permitted (f : Family) (s : ℕ) : Type 0 where
   pub from : smallest-count f ≤ s
@@ -31,6 +31,17 @@ permitted-says f s t =
       odd = odd-so (odd-only f) s (and-r (a && b) c t);
     }
 
+permitted-between : (f : Family) (s : ℕ) → T (permitted f s) → (smallest-count f ≤ s) × (s ≤ largest-count f)
+permitted-between f s t = let p = permitted-says f s t in (p .from, p .to)
+
+pub rkc-between : (s : ℕ) → T (permitted RKC s) → (2 ≤ s) × (s ≤ 200)
+unfolding smallest-count largest-count facts-of
+rkc-between s t = permitted-between RKC s t
+
+pub rkmc2-between : (s : ℕ) → T (permitted RKMC2 s) → (3 ≤ s) × (s ≤ 1000)
+unfolding smallest-count largest-count facts-of
+rkmc2-between s t = permitted-between RKMC2 s t
+
 pub permitted-if : (f : Family) (s : ℕ) → Permitted f s → T (permitted f s)
 unfolding permitted
 permitted-if f s p =
@@ -43,10 +54,7 @@ permitted-if f s p =
     go true h = eq→eqb (h tt)
     go false h = tt
 
--- ---- each family's facts are sound: its largest count is permitted, and its counts are from 2 to 200
-
-abbrev pub most-stages : ℕ
-most-stages = 200
+-- ---- each family's facts are sound: its largest count is permitted, and its counts are from 2 to 1000
 
 unfoldable sound : Facts → Bool
 sound x = (leb 2 (x .smallest) && leb (x .smallest) (x .largest)) && (leb (x .largest) most-stages && (not (x .«odd_only») || eqb (x .largest % 2) 1))
@@ -58,6 +66,7 @@ facts-sound RKL1 = tt
 facts-sound RKL2 = tt
 facts-sound RKG1 = tt
 facts-sound RKG2 = tt
+facts-sound RKMC2 = tt
 
 record Sound (f : Family) : Type 0 where
   from-two : 2 ≤ smallest-count f
@@ -96,3 +105,13 @@ largest-to f = sound-says f .to-most
 
 pub permitted-range : (f : Family) (s : ℕ) → T (permitted f s) → (2 ≤ s) × (s ≤ most-stages)
 permitted-range f s t = let p = permitted-says f s t in let x = sound-says f in (le-trans (x .from-two) (p .from), le-trans (p .to) (x .to-most))
+
+orthogonal-to : (f : Orthogonal) → largest-count (made-of f) ≤ 200
+unfolding made-of largest-count facts-of
+orthogonal-to Legendre1 = lit≤ tt
+orthogonal-to Legendre2 = lit≤ tt
+orthogonal-to Gegenbauer1 = lit≤ tt
+orthogonal-to Gegenbauer2 = lit≤ tt
+
+pub orthogonal-range : (f : Orthogonal) (s : ℕ) → T (permitted (made-of f) s) → (2 ≤ s) × (s ≤ 200)
+orthogonal-range f s t = (permitted-range (made-of f) s t .0, le-trans (permitted-says (made-of f) s t .to) (orthogonal-to f))

@@ -1,4 +1,5 @@
--- The counts of an infinite r, of what counts as 0, and of RKC: in 2 to 200, and 200 where the root reaches 2 ^ 64. Assumes nothing.
+-- The counts of an infinite r, of what counts as 0, of RKC: in 2 to 200, and 200 where the root reaches 2 ^ 64; and of RKMC2: in 3 to 1000, 3 for a NaN and
+-- 1000 for an infinite r. Assumes nothing.
 -- ⊕ ⊗ are operations on doubles: they round.
 use mathlib.Core.Path.{_≡_, refl, ap}
 use Prim.Native.Nat.{ℕ, _+_, _-_, _*_, _^_, _≤_, _<_}
@@ -7,30 +8,33 @@ use native.Mathlib.Omega.{arith}
 use mathlib.Core.Bool.{Bool, true, false, _&&_, cond}
 use lib.IntN.{pos}
 use lib.Dec.{T, eqb, eqb→eq, lit≤, lit<}
-use lib.Ieee.{Float, nan, inf, fin, binary64, up, down, lt, le, toUnsigned, add, sub, mul, div, round}
+use lib.Ieee.{Float, nan, inf, fin, binary64, up, down, lt, le, toUnsigned, add, sub, mul, div, round, ofBits}
 use lib.Ieee.Fits.{and-r, down-pos}
 use lib.Ieee.Order.{round-mono}
 use Rattle.ieee.specs.Double.{_⊕_, _⊗_, nearest, nought, one}
 use Rattle.ieee.specs.Sqrt.{sqrt}
 use Rattle.ieee.specs.Whole.{floor, ceil, cut}
 use Rattle.ieee.specs.Whole as Whole
+use Rattle.table.specs.Smallest.{smallest}
+use Rattle.rkmc2_threshold.specs.Table.{threshold}
 use Rattle.ieee.proofs.Monotone.{cross, round-nonneg}
 use Rattle.ieee.proofs.Casts.{cast-mono}
-use Rattle.family.specs.Family.{Family, RKC, RKL1, RKL2, RKG1, RKG2, smallest-count, largest-count, odd-only, before-limits, odd-step, limited}
-use Rattle.family.specs.Family.{stage-count, facts-of, by-rule}
-use Rattle.family.proofs.Range.{permitted-range}
+use Rattle.family.specs.Family.{Family, RKC, RKL1, RKL2, RKG1, RKG2, RKMC2, smallest-count, largest-count, odd-only, before-limits}
+use Rattle.family.specs.Family.{odd-step, limited, stage-count, facts-of, by-rule}
+use Rattle.family.proofs.Range.{rkc-between, rkmc2-between}
 use Rattle.family.proofs.Limits.{limited-largest}
 use Rattle.family.proofs.Counts.{stage-count-permitted}
 
 -- ---- an infinite r gives the largest
 pub infinite-count : (f : Family) → stage-count f (inf false) ≡ largest-count f
 unfolding stage-count before-limits limited odd-step odd-only smallest-count largest-count Whole.max lt nearest add sub mul div sqrt floor ceil toUnsigned
-    by-rule facts-of
+    by-rule facts-of smallest threshold ofBits le
 infinite-count RKC = refl
 infinite-count RKL1 = refl
 infinite-count RKL2 = refl
 infinite-count RKG1 = refl
 infinite-count RKG2 = refl
+infinite-count RKMC2 = refl
 
 -- ---- a NaN and what is below 0 count as 0
 pub nan-count : (f : Family) → stage-count f nan ≡ stage-count f nought
@@ -45,7 +49,7 @@ negative-count f (fin s m e) h = ap (λ (b : Bool). limited f (before-limits f (
 
 -- ---- RKC
 pub rkc-range : (r : Float) → (2 ≤ stage-count RKC r) × (stage-count RKC r ≤ 200)
-rkc-range r = permitted-range RKC (stage-count RKC r) (stage-count-permitted RKC r)
+rkc-range r = rkc-between (stage-count RKC r) (stage-count-permitted RKC r)
 
 -- where the root reaches 2 ^ 64 the cast is 2 ^ 64 - 1, and the number before limits is far above the largest count
 from-too-many : (y : Float) → T (le (nearest (2 ^ 64) 1) y) → 200 ≤ toUnsigned 64 (floor y) + 1
@@ -71,3 +75,15 @@ from-too-many (fin false m e) h =
 pub rkc-from-too-many : (r : Float) → T (le (nearest (2 ^ 64) 1) (sqrt (nearest 154 100 ⊗ Whole.max r nought ⊕ one))) → stage-count RKC r ≡ 200
 unfolding stage-count before-limits largest-count by-rule facts-of
 rkc-from-too-many r h = limited-largest RKC _ (from-too-many (sqrt (nearest 154 100 ⊗ Whole.max r nought ⊕ one)) h)
+
+-- ---- RKMC2
+pub rkmc2-range : (r : Float) → (3 ≤ stage-count RKMC2 r) × (stage-count RKMC2 r ≤ 1000)
+rkmc2-range r = rkmc2-between (stage-count RKMC2 r) (stage-count-permitted RKMC2 r)
+
+pub rkmc2-nan : stage-count RKMC2 nan ≡ 3
+unfolding stage-count before-limits limited odd-step odd-only smallest-count largest-count Whole.max lt by-rule facts-of smallest threshold ofBits le
+rkmc2-nan = refl
+
+pub rkmc2-infinite : stage-count RKMC2 (inf false) ≡ 1000
+unfolding largest-count facts-of
+rkmc2-infinite = infinite-count RKMC2

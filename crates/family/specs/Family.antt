@@ -1,32 +1,35 @@
--- The families, and how many stages each runs: family.rs. Document 01, "family.rs: stage counts". ⊕ ⊖ ⊗ ⊘ are operations on doubles: they round.
+-- The families, and how many stages each runs: family.rs. Document 01, "family.rs: stage counts", and document 02, CR 1. ⊕ ⊖ ⊗ ⊘ are operations on doubles: they round.
 use Prim.Native.Nat.{ℕ, _+_, _%_, min, max}
 use mathlib.Core.Bool.{Bool, true, false, cond, not, _&&_, _||_}
 use lib.Dec.{leb, eqb}
 use lib.Ieee.{Float, toUnsigned}
-use Rattle.ieee.specs.Double.{_⊕_, _⊖_, _⊗_, _⊘_, nearest, nought, one, two, three, four, eight, nine, sixteen, twenty-four, twenty-five}
+use Rattle.ieee.specs.Double.{_⊕_, _⊖_, _⊗_, _⊘_, nearest, nought, one, two, three, four, eight, nine, ten, sixteen, twenty-four, twenty-five}
 use Rattle.ieee.specs.Sqrt.{sqrt}
 use Rattle.ieee.specs.Whole.{floor, ceil}
 use Rattle.ieee.specs.Whole as Whole
+use Rattle.table.specs.Smallest.{smallest}
+use Rattle.rkmc2_threshold.specs.Table.{threshold}
 use Rattle.family.specs.declared.Setting.{Setting}
 use Rattle.family.specs.declared.Facts.{Facts}
 use Rattle.family.specs.declared.StageRule.{StageRule}
-use Rattle.family.specs.declared.StageRule.the-variants.{RoundedDown, RoundedUp}
-use Rattle.family.specs.declared.RowForm.the-variants.{ChebyshevRow, OrthogonalRow}
-use Rattle.family.specs.declared.ErrorForm.the-variants.{FirstDerivative, BothDerivatives}
-use Rattle.family.specs.declared.CandidateForm.the-variants.{LastStage}
+use Rattle.family.specs.declared.StageRule.the-variants.{RoundedDown, RoundedUp, ByThreshold}
+use Rattle.family.specs.declared.RowForm.the-variants.{ChebyshevRow, OrthogonalRow, InitialFirstRow}
+use Rattle.family.specs.declared.ErrorForm.the-variants.{FirstDerivative, BothDerivatives, LastDerivative}
+use Rattle.family.specs.declared.CandidateForm.the-variants.{LastStage, Combined}
 
 pub data Family : Type 0 where
-  RKC RKL1 RKL2 RKG1 RKG2 : Family
+  RKC RKL1 RKL2 RKG1 RKG2 RKMC2 : Family
 
--- numbered 1 to 5 in that order
+-- numbered 1 to 6 in that order
 abbrev pub family-count : ℕ
-family-count = 5
+family-count = 6
 
 unfoldable pub known : ℕ → Bool
 known number = leb 1 number && leb number family-count
 
 unfoldable pub family-of : ℕ → Family
-family-of number = cond (eqb number 1) RKC (cond (eqb number 2) RKL1 (cond (eqb number 3) RKL2 (cond (eqb number 4) RKG1 RKG2)))
+family-of number =
+    cond (eqb number 1) RKC (cond (eqb number 2) RKL1 (cond (eqb number 3) RKL2 (cond (eqb number 4) RKG1 (cond (eqb number 6) RKMC2 RKG2))))
 
 -- what an attempt runs under: its family, given by number
 abbrev pub setting : ℕ → Setting
@@ -76,6 +79,16 @@ facts-of RKL1 = orthogonal 3 199 true (RoundedUp one four one)
 facts-of RKL2 = orthogonal 3 199 true (RoundedUp nine eight one)
 facts-of RKG1 = orthogonal 2 200 false (RoundedUp nine sixteen three)
 facts-of RKG2 = orthogonal 3 200 false (RoundedUp twenty-five twenty-four three)
+facts-of RKMC2 = record {
+  smallest = 3;
+  largest = 1000;
+  «odd_only» = false;
+  rule = ByThreshold;
+  «keeps_older» = false;
+  row = InitialFirstRow;
+  error = LastDerivative ten;
+  candidate = Combined;
+}
 
 -- ---- permitted counts
 
@@ -85,23 +98,28 @@ smallest-count f = facts-of f .smallest
 unfoldable pub largest-count : Family → ℕ
 largest-count f = facts-of f .largest
 
+-- the largest of any family
+abbrev pub most-stages : ℕ
+most-stages = 1000
+
 unfoldable pub odd-only : Family → Bool
 odd-only f = facts-of f .«odd_only»
 
 unfoldable pub permitted : Family → ℕ → Bool
 permitted f s = leb (smallest-count f) s && leb s (largest-count f) && (not (odd-only f) || eqb (s % 2) 1)
 
--- ---- whether it keeps, beside the accepted state, the state accepted before it: `previous_accepted_state`, which none of these five has
+-- ---- whether it keeps, beside the accepted state, the state accepted before it: `previous_accepted_state`, which none of these has
 
 unfoldable pub keeps-older : Family → Bool
 keeps-older f = facts-of f .«keeps_older»
 
 -- ---- the stage rule
 
--- the whole number before limits, of the scaled radius r
+-- the whole number before limits, of the scaled radius r; by thresholds the smallest count from 3 to 999 whose threshold is at least r, else 1000
 unfoldable pub by-rule : StageRule → Float → ℕ
 by-rule (RoundedDown slope) r = toUnsigned 64 (floor (sqrt (slope ⊗ r ⊕ one))) + 1
 by-rule (RoundedUp offset slope shift) r = toUnsigned 64 (ceil ((sqrt (offset ⊕ slope ⊗ r) ⊖ shift) ⊘ two))
+by-rule ByThreshold r = smallest threshold r 997 3
 
 unfoldable pub before-limits : Family → Float → ℕ
 before-limits f r = by-rule (facts-of f .rule) r

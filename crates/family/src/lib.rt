@@ -1,10 +1,15 @@
-// family.rs: the families, their permitted stage counts and their stage rules. A family is its number, 1 to 5; any other
+// family.rs: the families, their permitted stage counts and their stage rules. A family is its number, 1 to 6; any other
 // number is taken as 5.
 ghost use mathlib.Core.Path.{_≡_};
 ghost use Prim.Native.Nat.{_+_, _-_, _^_, min, max};
+ghost use Rattle.table.specs.Smallest.{smallest};
+ghost use Rattle.rkmc2_threshold.specs.Table.{threshold};
 ghost use Rattle.family.specs.declared.StageRule.the-variants.{RoundedUp};
 ghost use Rattle.family.specs.Family as spec;
 ghost use Rattle.family.specs.Family.{family-of, keeps-older, before-limits, odd-step, stage-count};
+
+// The largest count of any family.
+pub const MOST_STAGES: u64 = 1000;
 
 // What an attempt runs under.
 pub struct Setting {
@@ -17,24 +22,31 @@ pub enum StageRule {
     RoundedDown { slope: f64 },
     // ceil((sqrt(offset + slope * r) - shift) / 2)
     RoundedUp { offset: f64, slope: f64, shift: f64 },
+    // the smallest count from 3 to 999 whose threshold is at least r, else 1000
+    ByThreshold,
 }
 
-// How a row weighs the two derivatives: RKC's in one product, RKL's and RKG's in a product each.
+// The order of a row's terms, and how it weighs the two derivatives: RKC's in one product, RKL's and RKG's in a product
+// each, both with the state's term third; RKMC2's in one product, with the state's term first.
 pub enum RowForm {
     ChebyshevRow,
     OrthogonalRow,
+    InitialFirstRow,
 }
 
 // Which derivatives the error takes beside the state and the candidate: the first alone, and its norm is then divided by
-// s; or the first and the last.
+// s; the first and the last; or the last alone, with the whole divided by `over`.
 pub enum ErrorForm {
     FirstDerivative,
     BothDerivatives,
+    LastDerivative { over: f64 },
 }
 
-// What the candidate is made of.
+// What the candidate is made of: the last stage, or a combination of it with the state, the stage two before it and the
+// first derivative.
 pub enum CandidateForm {
     LastStage,
+    Combined,
 }
 
 // A family's facts: the permitted counts, the stage rule, whether its area keeps an older state, and its forms.
@@ -80,6 +92,21 @@ fn orthogonal(smallest: u64, largest: u64, odd_only: bool, rule: StageRule) -> F
     }
 }
 
+fn rkmc2() -> Facts
+    ensures { λ r. ⌜ r ≡ spec.facts-of spec.RKMC2 ⌝ }
+{
+    Facts {
+        smallest: 3,
+        largest: 1000,
+        odd_only: false,
+        rule: StageRule::ByThreshold,
+        keeps_older: false,
+        row: RowForm::InitialFirstRow,
+        error: ErrorForm::LastDerivative { over: 10.0 },
+        candidate: CandidateForm::Combined,
+    }
+}
+
 fn rounded_up(offset: f64, slope: f64, shift: f64) -> StageRule
     ensures { λ r. ⌜ r ≡ RoundedUp offset slope shift ⌝ }
 {
@@ -98,6 +125,7 @@ pub fn facts_of(family: u64) -> Facts
         2 => orthogonal(3, 199, true, rounded_up(1.0, 4.0, 1.0)),
         3 => orthogonal(3, 199, true, rounded_up(9.0, 8.0, 1.0)),
         4 => orthogonal(2, 200, false, rounded_up(9.0, 16.0, 3.0)),
+        6 => rkmc2(),
         _ => orthogonal(3, 200, false, rounded_up(25.0, 24.0, 3.0)),
     }
 }
@@ -109,7 +137,7 @@ pub fn known(family: u64) -> bool
     if family < 1 {
         return false;
     }
-    family <= 5
+    family <= 6
 }
 
 // Whether the family keeps the state accepted before the present one.
@@ -156,6 +184,24 @@ fn one_more(m: u64) -> u64
     if m < 0xffff_ffff_ffff_ffff { m + 1 } else { m }
 }
 
+// The smallest count from 3 to 999 whose threshold is at least r, by halving; else 1000.
+fn by_threshold(r: f64) -> u64
+    ensures { λ s. ⌜ s ≡ smallest threshold r 997 3 ⌝ }
+{
+    let mut low: u64 = 3;
+    let mut high: u64 = 1000;
+    while low < high {
+        let middle = (low + high) / 2;
+        let t = rkmc2_threshold::threshold(middle);
+        if r <= t {
+            high = middle;
+        } else {
+            low = middle + 1;
+        }
+    }
+    low
+}
+
 // The whole number before limits, or the largest u64 where RKC's passes it.
 fn by_rule(rule: StageRule, r: f64) -> u64
     ensures { λ m. ⌜ m ≡ min (spec.by-rule rule r) (2 ^ 64 - 1) ⌝ }
@@ -172,6 +218,7 @@ fn by_rule(rule: StageRule, r: f64) -> u64
             let root = ieee::sqrt(offset + slope * r);
             ieee::saturating_u64(ieee::ceil((root - shift) / 2.0))
         }
+        StageRule::ByThreshold => by_threshold(r),
     }
 }
 

@@ -52,6 +52,9 @@ eight = fin false 1 (pos 3)
 abbrev pub nine : Float
 nine = fin false 9 (pos 0)
 
+abbrev pub ten : Float
+ten = fin false 5 (pos 1)
+
 abbrev pub thirteen : Float
 thirteen = fin false 13 (pos 0)
 

@@ -9,7 +9,7 @@ use borrow.Author.Tests.{ltb-true}
 use lib.Dec.{ltb, eqb}
 use lib.Ieee.{Float}
 use Rattle.ieee.specs.Double.{_⊕_}
-use Rattle.family.specs.Family.{family-of}
+use Rattle.family.specs.Family.{family-of, most-stages}
 use Rattle.workspace.specs.declared.Arguments.{Arguments}
 use Rattle.workspace.specs.Vectors.{Vectors, number, unpack, all-finite, state, candidate}
 use Rattle.workspace.specs.Kernel.{turned, radius-of, ended, scaled, with-row, exchanged, with-candidate}
@@ -96,11 +96,11 @@ refuses : (k i : ℕ) (r : Record) (v : Vectors) → Goes k (calls.step-to (Refu
 unfolding Goes Follow
 refuses k i r v = tt
 
-staged : (k : ℕ) (r : Record) (n : Need) (radius : Float) (v : Vectors) → n ≡ calls.stage-need (calls.setting-of r) radius → 200 ≤ k
+staged : (k : ℕ) (r : Record) (n : Need) (radius : Float) (v : Vectors) → n ≡ calls.stage-need (calls.setting-of r) radius → most-stages ≤ k
     → Goes k (calls.by-need n r v radius)
 unfolding calls.by-need
 staged k r (Met s) radius v e h =
-    let m : s ≤ 200 = need-most (calls.setting-of r) radius s e in
+    let m : s ≤ most-stages = need-most (calls.setting-of r) radius s e in
     asks-stage k (calls.with-radius radius r) s 2 _ _ (omega arith)
 staged k r (Unmet i) radius v e h = refuses k i (calls.in-phase P.Empty r) v
 
@@ -112,7 +112,7 @@ module _ (k : ℕ) (r : Record) (v : Vectors) (d : List Float) where
       let w = turned (r .n) v d in
       let radius = radius-of (i .perturbation) w in
       let big = scaled (r .arguments .step) radius in
-      let enough : 200 ≤ k = omega arith in
+      let enough : most-stages ≤ k = omega arith in
       let less : most-calls - 2 - (i .pass + 1) + 1 ≤ k = omega arith in
       either k (ended (i .pass) (i .«previous_radius») radius || eqb (i .pass) 12)
       (calls.begin-stages r w big)

@@ -10,7 +10,7 @@ use lib.Ieee.{Float, nan, lt}
 use lib.Ieee.Scale.{finite}
 use Rattle.ieee.specs.Double.{_⊘_, double, nought, one}
 use Rattle.workspace.specs.declared.Arguments.{Arguments}
-use Rattle.family.specs.Family.{family-of}
+use Rattle.family.specs.Family.{family-of, most-stages}
 use Rattle.workspace.specs.Vectors.{Vectors, _with_≔_, number, named, vector-count, pack, state, candidate, unpack}
 use Rattle.driver.specs.declared.Phase.{Phase}
 use Rattle.driver.specs.declared.Answer.{Answer}
@@ -49,9 +49,10 @@ begun m minute h =
 unfoldable pub reading-at : Float → Float → ℕ → Float
 reading-at reading upcoming vector = cond (eqb vector (number candidate)) upcoming reading
 
--- the most calls that follow the first: the state's evaluation, the attempt, and as many replies as an attempt takes, at most 12 passes and 200 stages
+-- the most calls that follow the first: the state's evaluation, the attempt, and as many replies as an attempt takes, at most 12 passes and the
+-- most stages of any family
 abbrev pub most-calls : ℕ
-most-calls = 2 + 12 + 200
+most-calls = 2 + 12 + most-stages
 
 module _ (m : Inverter) (minute : ℕ) (reading upcoming : Float) where
   -- the call that an answer asks for; none after finished, refused and empty

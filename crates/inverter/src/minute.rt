@@ -156,8 +156,9 @@ fn asks_no_call(answer: Answer) -> bool
     }
 }
 
-// How many calls follow the first, at most: the state's evaluation, the attempt, 12 passes, 199 stages and the candidate.
-const MOST_CALLS: u64 = 2 + 12 + 200;
+// How many calls follow the first, at most: the state's evaluation, the attempt, 12 passes, and as many stages as any family
+// runs, the candidate among them.
+const MOST_CALLS: u64 = 2 + 12 + family::MOST_STAGES;
 
 // From the minute's start to its last answer.
 fn pass(

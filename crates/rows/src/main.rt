@@ -77,7 +77,7 @@ fn print_double(x: f64) {
 // A line for each permitted count: family, s, digest.
 fn print_digests(family: u64) {
     let mut s: u64 = 2;
-    while s <= 200 {
+    while s <= family::MOST_STAGES {
         if family::permitted(family, s) {
             print_count(family, s);
             print_word(digest(family, s));
@@ -126,9 +126,11 @@ fn main() {
     print_digests(3);
     print_digests(4);
     print_digests(5);
+    print_digests(6);
     print_rows(1, 9);
     print_rows(2, 9);
     print_rows(3, 9);
     print_rows(4, 9);
     print_rows(5, 9);
+    print_rows(6, 9);
 }

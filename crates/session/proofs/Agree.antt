@@ -10,19 +10,21 @@ use lib.Ieee.{Float, le}
 use Rattle.ieee.specs.Double.{one, min-positive}
 use Rattle.family.specs.declared.Setting.{Setting}
 use Rattle.family.specs.declared.RowForm.{RowForm}
-use Rattle.family.specs.declared.RowForm.the-variants.{ChebyshevRow, OrthogonalRow}
+use Rattle.family.specs.declared.RowForm.the-variants.{ChebyshevRow, OrthogonalRow, InitialFirstRow}
 use Rattle.family.specs.declared.ErrorForm.{ErrorForm}
-use Rattle.family.specs.declared.ErrorForm.the-variants.{FirstDerivative, BothDerivatives}
+use Rattle.family.specs.declared.ErrorForm.the-variants.{FirstDerivative, BothDerivatives, LastDerivative}
 use Rattle.family.specs.declared.CandidateForm.{CandidateForm}
-use Rattle.family.specs.declared.CandidateForm.the-variants.{LastStage}
+use Rattle.family.specs.declared.CandidateForm.the-variants.{LastStage, Combined}
 use Rattle.family.specs.Family.{facts-of, kind}
 use Rattle.coefficients.specs.declared.Recurrence.{Recurrence}
 use Rattle.coefficients.specs.declared.Coefficients.{Coefficients}
+use Rattle.coefficients.specs.Rows.{candidate-weights}
 use Rattle.workspace.specs.declared.Arguments.{Arguments}
 use Rattle.workspace.specs.Vectors.{Vector, Vectors, _with_≔_, number, each, vector-norm, first-derivative, last-derivative, derivative, previous-two}
 use Rattle.workspace.specs.Vectors.{previous-one, next-stage, eigenvector, perturbed-state, perturbed-derivative, state, candidate, older-state}
-use Rattle.workspace.specs.Kernel.{with-direction, perturbed-by, perturbed, turned, first-stage, orthogonal-entry, chebyshev-entry, entry-in, with-row-in}
-use Rattle.workspace.specs.Kernel.{exchanged, with-candidate, with-last, error, error-in, scaled-error, scaled-error-norm, error-norm, candidate-in}
+use Rattle.workspace.specs.Kernel.{with-direction, perturbed-by, perturbed, turned, first-stage, orthogonal-entry, chebyshev-entry, initial-first-entry, entry-in}
+use Rattle.workspace.specs.Kernel.{with-row-in, exchanged, with-candidate, with-last, error, error-in, scaled-error, scaled-error-norm, error-norm, candidate-in}
+use Rattle.workspace.proofs.Candidate.{combined-same}
 use Rattle.session.specs.Attempt.{all-but-last}
 use Rattle.session.specs.Alike.{compared, Same-vectors}
 
@@ -97,9 +99,10 @@ module _ (history : Bool) where
 
     entry-same : (f : RowForm) (h : Float) (c : Coefficients) (d : List Float) (v w : Vectors) → Agree seven v w
         → each n (v with derivative ≔ d) (entry-in f h c) ≡ each n (w with derivative ≔ d) (entry-in f h c)
-    unfolding each entry-in orthogonal-entry chebyshev-entry
+    unfolding each entry-in orthogonal-entry chebyshev-entry initial-first-entry
     entry-same ChebyshevRow h c d v w p = rw (p state refl, p first-derivative refl, p previous-one refl, p previous-two refl)
     entry-same OrthogonalRow h c d v w p = rw (p state refl, p first-derivative refl, p previous-one refl, p previous-two refl)
+    entry-same InitialFirstRow h c d v w p = rw (p state refl, p first-derivative refl, p previous-one refl, p previous-two refl)
 
     pub row-agrees : (f : RowForm) (h : Float) (c : Coefficients) (d : List Float) (v w : Vectors) → Agree seven v w
         → Agree nine (with-row-in f n h c v d) (with-row-in f n h c w d)
@@ -129,6 +132,7 @@ module _ (history : Bool) where
       where
         go : (form : CandidateForm) → candidate-in form m n h s c row v ≡ candidate-in form m n h s c row w
         go LastStage = p next-stage refl
+        go Combined = combined-same n h (candidate-weights s c) v w (p state refl) (p next-stage refl) (p previous-two refl) (p first-derivative refl)
 
     -- all but the last derivative
     pub ten-same : (v w : Vectors) → Agree ten v w → all-but-last v ≡ all-but-last w
@@ -150,6 +154,7 @@ module _ (history : Bool) where
     unfolding each error-in
     error-same BothDerivatives h v w p = rw (p state refl, p first-derivative refl, p candidate refl, p last-derivative refl)
     error-same FirstDerivative h v w p = rw (p state refl, p first-derivative refl, p candidate refl)
+    error-same (LastDerivative over) h v w p = rw (p state refl, p candidate refl, p last-derivative refl)
 
     last-agrees : (m : Setting) (a : Arguments) (d : List Float) (v w : Vectors) → Agree ten v w → Agree eleven (with-last m n a v d) (with-last m n a w d)
     unfolding with-last

@@ -12,8 +12,8 @@ use Rattle.ieee.specs.Sqrt.{root-below, root, halves, root-units, sqrt}
 use Rattle.ieee.specs.Whole.{abs, max, floor, ceil}
 use Rattle.family.specs.Family.{known, family-of, keeps-older, smallest-count, largest-count, odd-only, permitted, before-limits, odd-step, limited}
 use Rattle.family.specs.Family.{stage-count, by-rule, facts-of}
-use Rattle.coefficients.specs.Rows.{omega-zero, omega-one-of, b-first, first-mu-tilde, first-polynomials, recurrence-of, with-theta, legendre-one}
-use Rattle.coefficients.specs.Rows.{coefficients-of, next-polynomials, next-of}
+use Rattle.coefficients.specs.Rows.{omega-zero, omega-one-of, b-first, first-mu-tilde, first-polynomials, first-polynomials-in, recurrence-of, with-theta}
+use Rattle.coefficients.specs.Rows.{legendre-one, coefficients-of, next-polynomials, next-of}
 use Rattle.workspace.specs.declared.Arguments.{Arguments}
 use Rattle.workspace.specs.Vectors.{join, vector-count, each, sum-of-squares, root-of-squares, vector-norm, all-finite}
 use Rattle.workspace.specs.Kernel.{with-direction, perturbation-of, perturbed-by, perturbed, turned, radius-of, ended, scaled, first-stage, orthogonal-entry}
@@ -37,7 +37,7 @@ doubles = tt
 
 unfoldable attempts : Unit {0}
 unfolding smallest-count largest-count odd-only before-limits odd-step limited stage-count omega-zero omega-one-of b-first first-mu-tilde first-polynomials
-    recurrence-of with-theta legendre-one coefficients-of next-polynomials next-of each sum-of-squares root-of-squares vector-norm all-finite with-direction
+    first-polynomials-in recurrence-of with-theta legendre-one coefficients-of next-polynomials next-of each sum-of-squares root-of-squares vector-norm all-finite with-direction
     perturbation-of perturbed-by perturbed turned radius-of ended scaled first-stage orthogonal-entry entry-in with-row-in exchanged with-candidate candidate-in
     error-in with-last divisor-in scaled-error scaled-error-norm error-norm stage-need _>>=_ evaluate stages-for iterate spectral-radius stage-row stage-loop
     run-recurrence finished-attempt close attempt-step closes by-rule facts-of

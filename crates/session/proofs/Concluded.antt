@@ -4,16 +4,16 @@
 use mathlib.Core.Path.{_≡_, refl, sym, ap, _∙_, subst}
 use mathlib.Core.Bool.{true, false}
 use mathlib.Core.List.{List, [], _∷_, _++_, append-assoc, append-nil}
-use Prim.Native.Nat.{ℕ, _-_}
+use Prim.Native.Nat.{ℕ, _-_, _≤_}
 use native.Mathlib.Omega.{arith}
 use lib.Dec.{T}
 use lib.ListN.{length}
-use lib.Ieee.{Float, lt}
-use Rattle.ieee.specs.Double.{nought}
+use lib.Ieee.{Float, le, lt}
+use Rattle.ieee.specs.Double.{nought, one}
 use Rattle.ieee.specs.Close.{Close}
-use Rattle.family.specs.Family.{Family, RKC, Orthogonal, made-of, family-of, permitted, stage-count}
+use Rattle.family.specs.Family.{Family, RKC, RKMC2, Orthogonal, made-of, family-of, permitted, stage-count}
 use Rattle.family.specs.Reach.{Serves}
-use Rattle.family.proofs.Range.{permitted-range}
+use Rattle.family.proofs.Range.{rkc-between, rkmc2-between}
 use Rattle.family.proofs.Counts.{stage-count-permitted, serves}
 use Rattle.family.proofs.Special.{infinite-count}
 use Rattle.coefficients.specs.declared.Recurrence.{Recurrence}
@@ -21,6 +21,7 @@ use Rattle.coefficients.specs.declared.Polynomials.{Polynomials}
 use Rattle.coefficients.specs.Rows.{recurrence, carried, carried-of, recurrence-of}
 use Rattle.coefficients.specs.Chebyshev as Chebyshev
 use Rattle.coefficients.proofs.CloseTable.{zero-taken, entry-taken, close-taken}
+use Rattle.coefficients.proofs.Carried.{rkmc2-zero-taken, rkmc2-one-taken, zero-from-one, one-above-zero}
 use Rattle.coefficients.proofs.CloseRows.{close-row, close-first}
 use Rattle.coefficients.proofs.Stable.{stable}
 use Rattle.driver.specs.declared.Phase.{Phase}
@@ -134,16 +135,23 @@ carries h f n y t cs q e =
     let F = family-of (x .kept .family) in
     let permits : T (permitted F s) =
     subst (λ (k : ℕ). T (permitted F k)) (sym (p .suits .stages-are)) (stage-count-permitted F (scaled-radius-of x)) in
-    let range = permitted-range F s permits in
-    let own : F ≡ RKC → x .kept .staging .recurrence .polynomials ≡ carried-of RKC s i .polynomials = λ is.
+    let own : (f : Family) → F ≡ f → x .kept .staging .recurrence .polynomials ≡ carried-of f s i .polynomials = λ f is.
     ap (λ (c : Recurrence). c .polynomials) (p .recurrence-is) ∙ ap (λ (f : Family). carried-of f s i .polynomials) is in
-    let entry : F ≡ RKC → x .kept .staging .recurrence .polynomials .«omega_one» ≡ carried-of RKC s i .polynomials .«omega_one» = λ is.
-    ap (λ (p : Polynomials). p .«omega_one») (own is) in record {
+    let zero-of : (f : Family) → F ≡ f → x .kept .staging .recurrence .polynomials .«omega_zero» ≡ carried-of f s i .polynomials .«omega_zero» = λ f is.
+    ap (λ (p : Polynomials). p .«omega_zero») (own f is) in
+    let one-of : (f : Family) → F ≡ f → x .kept .staging .recurrence .polynomials .«omega_one» ≡ carried-of f s i .polynomials .«omega_one» = λ f is.
+    ap (λ (p : Polynomials). p .«omega_one») (own f is) in
+    let chebyshev : F ≡ RKC → (2 ≤ s) × (s ≤ 200) = λ is. rkc-between s (subst (λ (f : Family). T (permitted f s)) is permits) in
+    let combined : F ≡ RKMC2 → (3 ≤ s) × (s ≤ 1000) = λ is. rkmc2-between s (subst (λ (f : Family). T (permitted f s)) is permits) in record {
       stages-permitted = permits;
       from-two = p .from-two;
       to-last = p .to-last;
       recurrence-is = p .recurrence-is;
-      zero-kept = λ is. ap (λ (p : Polynomials). p .«omega_zero») (own is) ∙ zero-taken s i;
-      entry-read = λ is. entry is ∙ entry-taken s i;
-      entry-close = λ is. subst (λ (w : Float). Close 36 w (Chebyshev.omega-one s)) (sym (entry is)) (close-taken s i (range .0) (range .1));
+      zero-kept = λ is. zero-of RKC is ∙ zero-taken s i;
+      entry-read = λ is. one-of RKC is ∙ entry-taken s i;
+      entry-close = λ is. let r = chebyshev is in subst (λ (w : Float). Close 36 w (Chebyshev.omega-one s)) (sym (one-of RKC is)) (close-taken s i (r .0) (r .1));
+      rkmc2-zero-read = λ is. zero-of RKMC2 is ∙ rkmc2-zero-taken s i;
+      rkmc2-one-read = λ is. one-of RKMC2 is ∙ rkmc2-one-taken s i;
+      rkmc2-zero-from-one = λ is. let r = combined is in subst (λ (w : Float). T (le one w)) (sym (zero-of RKMC2 is)) (zero-from-one s i (r .0) (r .1));
+      rkmc2-one-above-zero = λ is. let r = combined is in subst (λ (w : Float). T (lt nought w)) (sym (one-of RKMC2 is)) (one-above-zero s i (r .0) (r .1));
     }

@@ -12,7 +12,7 @@ use lib.Ieee.{Float, lt}
 use Rattle.ieee.specs.Double.{nought}
 use Rattle.family.specs.declared.Setting.{Setting}
 use Rattle.family.specs.Family.{known}
-use Rattle.coefficients.specs.Rows.{recurrence}
+use Rattle.coefficients.specs.Rows.{recurrence, carried-of}
 use Rattle.workspace.specs.declared.Arguments.{Arguments}
 use Rattle.workspace.specs.Vectors.{Vectors, unpack, perturbed-state}
 use Rattle.workspace.specs.Kernel.{with-direction, perturbation-of, perturbed, turned, radius-of, ended, scaled, first-stage}
@@ -61,7 +61,7 @@ module _ (h : Held) (a : Arguments) (hk : known (h .kept .family) ≡ true) (hs 
   need-follows (Met s) k π ρ r g v w c e hr hn ok k≤ k≡ hw hc = let 2≤s = two-from F s ok in let c′ = recurrence F s in
       (stages-follow h a hk hs s k r π ρ ok hr hn (omega arith) k≤ (s - 2) 2 c′
       (first-stage (h .kept .n) (a .step) (c′ .«theta_previous») w) (one-more h c) k (pending-at h a hk hs P.Pass (iteration-at k π ρ nought) g v c)
-      (omega arith) (omega arith) (omega arith)
+      (omega arith) (omega arith) (omega arith) (unfold carried-of in refl)
       (intact-first h (a .step) (c′ .«theta_previous») w hw) (rw k≡ (counted-on h hc)))
   need-follows (Unmet i) k π ρ r g v w c e hr hn ok k≤ k≡ hw hc = record {
     answer-is = refl;

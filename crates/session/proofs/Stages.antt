@@ -1,9 +1,9 @@
 -- The stages and the candidate: from stage j on the calls follow the loop of the rows, and after stage s the candidate's evaluation and the end.
 -- ⊕ ⊗ are operations on doubles: they round.
-use mathlib.Core.Path.{_≡_, refl, sym, ap, _∙_}
+use mathlib.Core.Path.{_≡_, refl, sym, ap, _∙_, subst}
 use mathlib.Core.Bool.{Bool, true, false, cond}
 use mathlib.Core.List.{List}
-use Prim.Native.Nat.{ℕ, zero, suc, _+_, _≤_}
+use Prim.Native.Nat.{ℕ, zero, suc, _+_, _-_, _≤_}
 use native.Mathlib.Omega.{arith}
 use lib.Dec.{ltb, eqb}
 use borrow.Author.Tests.{lt-ltb, le-ltb, le-leb}
@@ -11,15 +11,16 @@ use lib.ListN.{length}
 use lib.Ieee.{Float, lt}
 use Rattle.ieee.specs.Double.{_⊕_, _⊗_, nought}
 use Rattle.family.specs.declared.Setting.{Setting}
-use Rattle.family.specs.Family.{known, facts-of, kind}
+use Rattle.family.specs.Family.{RKMC2, known, facts-of, kind}
 use Rattle.coefficients.specs.declared.Recurrence.{Recurrence}
-use Rattle.coefficients.specs.Rows.{coefficients, next}
+use Rattle.coefficients.specs.Rows.{coefficients, next, carried, candidate-weights}
+use Rattle.coefficients.proofs.Carried.{carried-next}
 use Rattle.workspace.specs.declared.Arguments.{Arguments}
 use Rattle.workspace.specs.Vectors.{Vector, Vectors, _with_≔_, number, each, all-finite, first-derivative, last-derivative}
-use Rattle.workspace.specs.Vectors.{derivative, previous-one, next-stage, state, candidate, older-state}
-use Rattle.workspace.specs.Kernel.{with-row, exchanged, with-candidate, with-last, error}
+use Rattle.workspace.specs.Vectors.{derivative, previous-two, previous-one, next-stage, state, candidate, older-state}
+use Rattle.workspace.specs.Kernel.{with-row, exchanged, combined-entry, with-candidate, with-last, error}
 use Rattle.workspace.proofs.Areas.{long-last}
-use Rattle.workspace.proofs.Candidate.{candidate-is}
+use Rattle.workspace.proofs.Candidate.{candidate-last, candidate-combined, combined-same}
 use Rattle.driver.specs.declared.Phase.the-variants as P
 use Rattle.driver.specs.declared.Iteration.{Iteration}
 use Rattle.driver.specs.declared.Staging.{Staging}
@@ -52,13 +53,21 @@ module _ (h : Held) (a : Arguments) (hk : known (h .kept .family) ≡ true) (hs 
 
     -- ---- after stage s
 
-    candidate-follows : (j : ℕ) (rc : Recurrence) (v w : Vectors) (c : Counters) (e : ℕ) → w candidate ≡ w next-stage → Intact h w → Counted h e c
+    -- how RKMC2's candidate is made of the vectors
+    abbrev combination : Recurrence → Vectors → List Float
+    combination rc w = each (h .kept .n) w (combined-entry (a .step) (candidate-weights s rc))
+
+    record Made (w : Vectors) : Type 0 where
+      last : (kind F ≡ RKMC2 → ⊥) → w candidate ≡ w next-stage
+      combined : kind F ≡ RKMC2 → w candidate ≡ combination (carried F s (s - 2)) w
+
+    candidate-follows : (j : ℕ) (rc : Recurrence) (v w : Vectors) (c : Counters) (e : ℕ) → Made w → Intact h w → Counted h e c
         → e + 2 ≡ k + s
         → Follows h a (suc e) (pending-at h a hk hs P.Stage I (staging-at s j rc) v c) (close F (h .kept .n) a s k r w)
         (settled c (ask-candidate (at h a P.Stage I (staging-at s j rc)) w))
     unfolding Follows close finished-attempt evaluate _>>=_ ask-candidate settled going-on counted in-phase pending in-range awaiting finishes replied
         take-candidate with-last closes evaluated
-    candidate-follows j rc v w c e copied hw hc e≡ = go (all-finite (w candidate)) refl
+    candidate-follows j rc v w c e made hw hc e≡ = go (all-finite (w candidate)) refl
       where
         last-stands : (d : List Float) (b : Vector) → eqb 1 (number b) ≡ false → eqb 2 (number b) ≡ false → with-last F (h .kept .n) a w d b ≡ w b
         last-stands d b p q = pick (a .adaptive)
@@ -97,7 +106,10 @@ module _ (h : Held) (a : Arguments) (hk : known (h .kept .family) ≡ true) (hs 
               first-stands = last-stands d first-derivative refl refl ∙ hw .first-is;
               older-stands = last-stands d older-state refl refl ∙ hw .older-is;
               candidate-finite = ap all-finite (last-stands d candidate refl refl) ∙ finite;
-              candidate-is = last-stands d candidate refl refl ∙ copied ∙ sym (last-stands d next-stage refl refl);
+              candidate-last = λ other. last-stands d candidate refl refl ∙ made .last other ∙ sym (last-stands d next-stage refl refl);
+              candidate-combined = λ own. last-stands d candidate refl refl ∙ made .combined own ∙ combined-same (h .kept .n) (a .step)
+                  (candidate-weights s (carried F s (s - 2))) w (with-last F (h .kept .n) a w d) (sym (last-stands d state refl refl))
+                  (sym (last-stands d next-stage refl refl)) (sym (last-stands d previous-two refl refl)) (sym (last-stands d first-derivative refl refl));
               last-finite = ap all-finite (last-taken d) ∙ fin;
               phase-is = refl;
               family-is = refl;
@@ -141,6 +153,16 @@ module _ (h : Held) (a : Arguments) (hk : known (h .kept .family) ≡ true) (hs 
     whole : (j : ℕ) (rc : Recurrence) (v : Vectors) (d : List Float) → Intact h v → length d ≡ h .kept .n → Intact h (taken j rc v d)
     whole j rc v d hv hd = intact-row h (facts-of (kind F) .row) (a .step) (coefficients F s j rc) v d hv hd
 
+    -- after stage s
+    made-last : (j : ℕ) (rc : Recurrence) (v : Vectors) (d : List Float) → j ≡ s → rc ≡ carried F s (j - 2) → Made (last j rc v d)
+    made-last j rc v d j≡ rc≡ =
+        let row = coefficients F s j rc in
+        record {
+          last = candidate-last F (h .kept .n) (a .step) s rc row (taken j rc v d);
+          combined = λ own. candidate-combined F (h .kept .n) (a .step) s rc row (taken j rc v d) own
+              ∙ ap (λ (y : Recurrence). combination y (last j rc v d)) (rc≡ ∙ ap (λ (i : ℕ). carried F s (i - 2)) j≡);
+        }
+
     -- what a stage's derivative is taken to, in the attempt in one piece: before stage s, and at it
     abbrev on-from : ℕ → ℕ → Recurrence → Vectors → Asking Vectors
     on-from m j rc w = stage-loop F (h .kept .n) a s m (j + 1) (next F rc (coefficients F s j rc)) (exchanged w)
@@ -151,20 +173,20 @@ module _ (h : Held) (a : Arguments) (hk : known (h .kept .family) ≡ true) (hs 
     abbrev row-then : (Vectors → Asking Vectors) → ℕ → Recurrence → Vectors → Asking (List Float) → Asking Finished-attempt
     row-then on j rc v x = (x >>= (λ d. done (taken j rc v d))) >>= on >>= close F (h .kept .n) a s k r
 
-    pub stages-follow : (m j : ℕ) (rc : Recurrence) (v : Vectors) (c : Counters) (e : ℕ) (x : Held) → j + m ≡ s → 2 ≤ j → e + 2 ≡ k + j → Intact h v
-        → Counted h e c
+    pub stages-follow : (m j : ℕ) (rc : Recurrence) (v : Vectors) (c : Counters) (e : ℕ) (x : Held) → j + m ≡ s → 2 ≤ j → e + 2 ≡ k + j
+        → rc ≡ carried F s (j - 2) → Intact h v → Counted h e c
         → Follows h a e x (stage-loop F (h .kept .n) a s m j rc v >>= close F (h .kept .n) a s k r)
         (going-on c (ask-stage (at h a P.Stage (iteration-at k π ρ r) (staging-at s j rc)) v))
     unfolding stage-loop stage-row evaluate _>>=_ ask-stage pending in-range awaiting finishes replied take-stage at-stage settled counted closes
-    stages-follow zero j rc v c e x j≡ 2≤j e≡ hv hc =
+    stages-follow zero j rc v c e x j≡ 2≤j e≡ rc≡ hv hc =
         asked h a hk hs P.Stage I (staging-at s j rc) v c e _ (a .time ⊕ a .step ⊗ rc .«theta_previous») previous-one x
         (row-then (at-last j rc) j rc v)
         hv hc (both hs′ (both (le-leb 2 j 2≤j) (le-leb j s (omega arith)))) refl
         refl (λ c. absurd (differ c))
         (λ d hd fin. rw (le-ltb j s (omega arith))
-        (candidate-follows j rc v (last j rc v d) c e (candidate-is F (h .kept .n) (a .step) s rc (coefficients F s j rc) (taken j rc v d))
+        (candidate-follows j rc v (last j rc v d) c e (made-last j rc v d (omega arith) rc≡)
         (intact-candidate h F (a .step) s rc (coefficients F s j rc) (taken j rc v d) (whole j rc v d hv hd)) hc (omega arith)))
-    stages-follow (suc m) j rc v c e x j≡ 2≤j e≡ hv hc =
+    stages-follow (suc m) j rc v c e x j≡ 2≤j e≡ rc≡ hv hc =
         asked h a hk hs P.Stage I (staging-at s j rc) v c e _ (a .time ⊕ a .step ⊗ rc .«theta_previous») previous-one x
         (row-then (on-from m j rc) j rc v)
         hv hc (both hs′ (both (le-leb 2 j 2≤j) (le-leb j s (omega arith)))) refl
@@ -172,4 +194,4 @@ module _ (h : Held) (a : Arguments) (hk : known (h .kept .family) ≡ true) (hs 
         (λ d hd fin. rw (lt-ltb j s (omega arith))
         (stages-follow m (j + 1) (next F rc (coefficients F s j rc)) (exchanged (taken j rc v d)) (one-more h c) (suc e)
         (pending-at h a hk hs P.Stage I (staging-at s j rc) v c) (omega arith) (omega arith) (omega arith)
-        (intact-exchanged h (taken j rc v d) (whole j rc v d hv hd)) (counted-on h hc)))
+        (carried-next F s j rc 2≤j rc≡) (intact-exchanged h (taken j rc v d) (whole j rc v d hv hd)) (counted-on h hc)))

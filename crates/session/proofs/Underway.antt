@@ -12,6 +12,7 @@ use Rattle.family.proofs.Range.{permitted-range}
 use Rattle.family.proofs.Counts.{stage-count-permitted}
 use Rattle.coefficients.specs.declared.Recurrence.{Recurrence}
 use Rattle.coefficients.specs.Rows.{carried, carried-of}
+use Rattle.coefficients.proofs.Carried.{carried-next}
 use Rattle.workspace.specs.declared.Arguments.{Arguments}
 use Rattle.workspace.specs.Vectors.{Vectors, unpack}
 use Rattle.workspace.specs.Kernel.{radius-of}
@@ -94,14 +95,6 @@ pub record Underway (g : Held) (a : Arguments) (m : ℕ) (x : Held) : Type 0 whe
 least-count : (f : ℕ) (r : Float) → 2 ≤ stage-count (family-of f) r
 least-count f r = permitted-range (family-of f) (stage-count (family-of f) r) (stage-count-permitted (family-of f) r) .0
 
--- what is carried on from stage j is what the recurrence comes to there
-carries-on : (f s j : ℕ) (c : Recurrence) → 2 ≤ j → c ≡ carried (setting f) s (j - 2) → carried-on f s j c ≡ carried (setting f) s (j + 1 - 2)
-unfolding carried-of
-carries-on f s j c from e =
-    let before : j - 2 + 2 ≡ j = omega arith in
-    let after : j + 1 - 2 ≡ suc (j - 2) = omega arith in
-    ap₂ (λ (i : ℕ) (c : Recurrence). carried-on f s i c) (sym before) e ∙ ap (carried (setting f) s) (sym after)
-
 -- a call leaves it so, and answers so
 pub record Goes (g : Held) (a : Arguments) (m : ℕ) (x : Called) : Type 0 where
   pub underway : Underway g a m (x .held)
@@ -170,7 +163,7 @@ module _ (g : Held) (a : Arguments) (m : ℕ) (x : Held) (u : Underway g a m x) 
         replies-are = omega arith;
         from-two = (let l = i .from-two in omega arith);
         to-last = (let l = below in omega arith);
-        recurrence-is = carries-on (x .kept .family) (stages-of x) (x .kept .staging .stage) (x .kept .staging .recurrence) (i .from-two) (i .recurrence-is);
+        recurrence-is = carried-next (setting-of (x .kept)) (stages-of x) (x .kept .staging .stage) (x .kept .staging .recurrence) (i .from-two) (i .recurrence-is);
         attempts-are = i .attempts-are;
       };
     };

@@ -3,14 +3,16 @@
 use mathlib.Core.Path.{_≡_}
 use mathlib.Core.Bool.{Bool, true, false}
 use mathlib.Core.List.{List, [], _∷_, _++_}
-use Prim.Native.Nat.{ℕ, zero, suc, _+_, _≤_, _<_, _^_}
+use Prim.Native.Nat.{ℕ, zero, suc, _+_, _-_, _≤_, _<_, _^_}
 use lib.ListN.{length, take}
 use lib.Ieee.{Float, lt}
 use Rattle.ieee.specs.Double.{nought}
-use Rattle.family.specs.Family.{known, family-of, stage-count}
+use Rattle.family.specs.Family.{RKMC2, known, family-of, stage-count}
+use Rattle.coefficients.specs.Rows.{candidate-weights, carried}
 use Rattle.workspace.specs.declared.Arguments.{Arguments}
-use Rattle.workspace.specs.Vectors.{Vector, Vectors, width, named, unpack, pack, all-finite, next-stage, state, candidate, older-state, first-derivative}
+use Rattle.workspace.specs.Vectors.{Vector, Vectors, width, named, unpack, pack, each, all-finite, next-stage, state, candidate, older-state, first-derivative}
 use Rattle.workspace.specs.Vectors.{last-derivative}
+use Rattle.workspace.specs.Kernel.{combined-entry}
 use Rattle.driver.specs.declared.Phase.the-variants as P
 use Rattle.driver.specs.declared.Need.the-variants.{Met}
 use Rattle.driver.specs.declared.Answer.{Answer}
@@ -80,7 +82,7 @@ pub record Waits (h : Held) (replies : ℕ) (x : Called) : Type 0 where
   pub evaluations-are : x .held .counters .evaluations ≡ h .counters .evaluations + replies
   pub attempts-are : x .held .counters .«finished_attempts» ≡ h .counters .«finished_attempts»
 
--- finished after this many replies, from h with the arguments a
+-- finished after this many replies, from h with the arguments a; the candidate is the last stage, and RKMC2's the combination of the vectors that are left
 pub record Finishes (h : Held) (a : Arguments) (o : Finished-attempt) (replies : ℕ) (x : Called) : Type 0 where
   pub answer-is : x .answer ≡ Finished (figures-of (o .norm))
   pub area-is : x .held .area ≡ pack (o .vectors)
@@ -89,7 +91,9 @@ pub record Finishes (h : Held) (a : Arguments) (o : Finished-attempt) (replies :
   pub first-stands : o .vectors first-derivative ≡ unpack (h .kept .n) (h .area) first-derivative
   pub older-stands : o .vectors older-state ≡ unpack (h .kept .n) (h .area) older-state
   pub candidate-finite : all-finite (o .vectors candidate) ≡ true
-  pub candidate-is : o .vectors candidate ≡ o .vectors next-stage
+  pub candidate-last : (family-of (h .kept .family) ≡ RKMC2 → ⊥) → o .vectors candidate ≡ o .vectors next-stage
+  pub candidate-combined : family-of (h .kept .family) ≡ RKMC2 → o .vectors candidate ≡ each (h .kept .n) (o .vectors)
+      (combined-entry (a .step) (candidate-weights (o .stages) (carried (setting-of (h .kept)) (o .stages) (o .stages - 2))))
   pub last-finite : all-finite (o .vectors last-derivative) ≡ true
   pub phase-is : x .held .kept .phase ≡ P.Finished
   pub family-is : x .held .kept .family ≡ h .kept .family

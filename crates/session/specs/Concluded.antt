@@ -9,17 +9,19 @@ use mathlib.Core.Bool.{Bool, true, false, cond, not, _&&_}
 use mathlib.Core.List.{List, [], _∷_, _++_, map}
 use lib.Dec.{T}
 use lib.ListN.{length, replicate}
-use lib.Ieee.{Float, inf, lt}
+use lib.Ieee.{Float, inf, le, lt}
 use lib.Ieee.Scale.{finite}
-use Rattle.ieee.specs.Double.{nought}
+use Rattle.ieee.specs.Double.{nought, one}
 use Rattle.ieee.specs.Close.{Close}
-use Rattle.family.specs.Family.{RKC, Orthogonal, made-of, family-of, setting, permitted, largest-count, stage-count}
+use Rattle.family.specs.Family.{RKC, RKMC2, Orthogonal, made-of, family-of, setting, permitted, largest-count, stage-count}
 use Rattle.family.specs.Reach.{Serves}
 use Rattle.coefficients.specs.declared.Recurrence.{Recurrence}
 use Rattle.coefficients.specs.Paper as Paper
 use Rattle.coefficients.specs.Rows.{omega-zero, recurrence-of, coefficients-of, carried}
 use Rattle.coefficients.specs.Table as Table
 use Rattle.coefficients.specs.Chebyshev as Chebyshev
+use Rattle.rkmc2_omega_zero.specs.Table as rkmc2-zero
+use Rattle.rkmc2_omega_one.specs.Table as rkmc2-one
 use Rattle.coefficients.specs.Closeness.{Close-row}
 use Rattle.coefficients.specs.Multiplier.{Stable}
 use Rattle.workspace.specs.declared.Arguments.{Arguments}
@@ -126,7 +128,7 @@ pub record Concluded (h : Held) (calls : List Call) (x : Called) : Type 0 where
 -- ---- a stage that awaits its derivative, in a sequence
 
 -- What the record carries into the stage is what the recurrence comes to there, from family and s alone; in RKC `omega_zero` is that of s, and `omega_one` the
--- table's entry for s, within 2 ^ -36 of the paper's fraction.
+-- table's entry for s, within 2 ^ -36 of the paper's fraction; in RKMC2 both are the tables' entries for s, at least 1 and above 0.
 pub record Carries (x : Held) : Type 0 where
   pub stages-permitted : T (permitted (family-of (x .kept .family)) (stages-of x))
   pub from-two : 2 ≤ x .kept .staging .stage
@@ -135,3 +137,7 @@ pub record Carries (x : Held) : Type 0 where
   pub zero-kept : family-of (x .kept .family) ≡ RKC → x .kept .staging .recurrence .polynomials .«omega_zero» ≡ omega-zero (stages-of x)
   pub entry-read : family-of (x .kept .family) ≡ RKC → x .kept .staging .recurrence .polynomials .«omega_one» ≡ Table.omega (stages-of x)
   pub entry-close : family-of (x .kept .family) ≡ RKC → Close 36 (x .kept .staging .recurrence .polynomials .«omega_one») (Chebyshev.omega-one (stages-of x))
+  pub rkmc2-zero-read : family-of (x .kept .family) ≡ RKMC2 → x .kept .staging .recurrence .polynomials .«omega_zero» ≡ rkmc2-zero.omega-zero (stages-of x)
+  pub rkmc2-one-read : family-of (x .kept .family) ≡ RKMC2 → x .kept .staging .recurrence .polynomials .«omega_one» ≡ rkmc2-one.omega-one (stages-of x)
+  pub rkmc2-zero-from-one : family-of (x .kept .family) ≡ RKMC2 → T (le one (x .kept .staging .recurrence .polynomials .«omega_zero»))
+  pub rkmc2-one-above-zero : family-of (x .kept .family) ≡ RKMC2 → T (lt nought (x .kept .staging .recurrence .polynomials .«omega_one»))

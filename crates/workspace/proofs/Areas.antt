@@ -14,16 +14,17 @@ use Rattle.ieee.specs.Double.{one, min-positive}
 use Rattle.family.specs.declared.Setting.{Setting}
 use Rattle.family.specs.declared.RowForm.{RowForm}
 use Rattle.family.specs.declared.CandidateForm.{CandidateForm}
-use Rattle.family.specs.declared.CandidateForm.the-variants.{LastStage}
+use Rattle.family.specs.declared.CandidateForm.the-variants.{LastStage, Combined}
 use Rattle.family.specs.Family.{Family, keeps-older, facts-of, kind}
 use Rattle.coefficients.specs.declared.Recurrence.{Recurrence}
 use Rattle.coefficients.specs.declared.Coefficients.{Coefficients}
+use Rattle.coefficients.specs.Rows.{candidate-weights}
 use Rattle.workspace.specs.declared.Arguments.{Arguments}
 use Rattle.workspace.specs.Vectors.{Vector, Vectors, _with_≔_, number, named, vector-count, width, unpack, Becomes, pack, join, in-order, tabulate, each}
 use Rattle.workspace.specs.Vectors.{vector-norm, first-derivative, last-derivative, derivative, previous-two, previous-one, next-stage, eigenvector}
 use Rattle.workspace.specs.Vectors.{perturbed-state, perturbed-derivative, state, candidate, older-state}
 use Rattle.workspace.specs.Kernel.{with-direction, perturbed-by, perturbed, turned, first-stage, with-row-in, entry-in, exchanged, candidate-in}
-use Rattle.workspace.specs.Kernel.{with-candidate, with-last, error}
+use Rattle.workspace.specs.Kernel.{combined-entry, with-candidate, with-last, error}
 
 -- every vector is as long as it is in the family's area
 abbrev pub Long : Family → ℕ → Vectors → Type 0
@@ -298,6 +299,7 @@ module _ (f : Family) (n : ℕ) where
     where
       go : (form : CandidateForm) → length (candidate-in form m n step s c row v) ≡ n
       go LastStage = h next-stage
+      go Combined = length-each n v (combined-entry step (candidate-weights s c))
 
   pub long-last : (m : Setting) (a : Arguments) (v : Vectors) (d : List Float) → Long f n v → length d ≡ n → Long f n (with-last m n a v d)
   unfolding with-last

@@ -1,5 +1,5 @@
 -- What the kernel does to its vectors between two evaluations: the loops over the entries in workspace.rs, orthogonal.rs, chebyshev.rs and driver.rs.
--- Document 01, "workspace.rs: norms and the power iteration" and "driver.rs: the calls". ⊕ ⊖ ⊗ ⊘ are operations on doubles: they round.
+-- Document 01, "workspace.rs: norms and the power iteration" and "driver.rs: the calls", and document 02, CR 1. ⊕ ⊖ ⊗ ⊘ are operations on doubles: they round.
 use Prim.Native.Nat.{ℕ}
 use mathlib.Core.Bool.{Bool, cond, _&&_, _||_}
 use mathlib.Core.List.{List}
@@ -10,14 +10,16 @@ use Rattle.ieee.specs.Double.{_⊕_, _⊖_, _⊗_, _⊘_, double, nearest, min-
 use Rattle.ieee.specs.Whole.{abs, max}
 use Rattle.family.specs.declared.Setting.{Setting}
 use Rattle.family.specs.declared.RowForm.{RowForm}
-use Rattle.family.specs.declared.RowForm.the-variants.{ChebyshevRow, OrthogonalRow}
+use Rattle.family.specs.declared.RowForm.the-variants.{ChebyshevRow, OrthogonalRow, InitialFirstRow}
 use Rattle.family.specs.declared.ErrorForm.{ErrorForm}
-use Rattle.family.specs.declared.ErrorForm.the-variants.{FirstDerivative, BothDerivatives}
+use Rattle.family.specs.declared.ErrorForm.the-variants.{FirstDerivative, BothDerivatives, LastDerivative}
 use Rattle.family.specs.declared.CandidateForm.{CandidateForm}
-use Rattle.family.specs.declared.CandidateForm.the-variants.{LastStage}
+use Rattle.family.specs.declared.CandidateForm.the-variants.{LastStage, Combined}
 use Rattle.family.specs.Family.{facts-of, kind}
 use Rattle.coefficients.specs.declared.Coefficients.{Coefficients}
 use Rattle.coefficients.specs.declared.Recurrence.{Recurrence}
+use Rattle.coefficients.specs.declared.Weights.{Weights}
+use Rattle.coefficients.specs.Rows.{candidate-weights}
 use Rattle.workspace.specs.declared.Arguments.{Arguments}
 use Rattle.workspace.specs.Vectors.{Vector, Vectors, _with_≔_, each, root-of-squares, vector-norm, first-derivative, last-derivative, derivative}
 use Rattle.workspace.specs.Vectors.{previous-two, previous-one, next-stage, eigenvector, perturbed-state, perturbed-derivative, state, candidate}
@@ -59,7 +61,7 @@ ended pass previous radius =
 unfoldable pub scaled : Float → Float → Float
 scaled step radius = abs step ⊗ (nearest 12 10 ⊗ radius)
 
--- ---- the stages: `run_orthogonal_polynomial` and `run_rkc`
+-- ---- the stages: `run_orthogonal_polynomial`, `run_rkc` and `run_rkmc2`
 
 -- stages 0 and 1
 unfoldable pub first-stage : ℕ → Float → Float → Vectors → Vectors
@@ -77,9 +79,16 @@ chebyshev-entry h c x =
     c .mu ⊗ x previous-one ⊕ c .nu ⊗ x previous-two ⊕ (one ⊖ c .mu ⊖ c .nu) ⊗ x state
     ⊕ h ⊗ c .«mu_tilde» ⊗ (x derivative ⊖ c .«gamma_tilde» ⊗ x first-derivative)
 
+-- the state's term comes first
+unfoldable pub initial-first-entry : Float → Coefficients → (Vector → Float) → Float
+initial-first-entry h c x =
+    (one ⊖ c .mu ⊖ c .nu) ⊗ x state ⊕ c .mu ⊗ x previous-one ⊕ c .nu ⊗ x previous-two
+    ⊕ h ⊗ c .«mu_tilde» ⊗ (x derivative ⊖ c .«gamma_tilde» ⊗ x first-derivative)
+
 unfoldable pub entry-in : RowForm → Float → Coefficients → (Vector → Float) → Float
 entry-in ChebyshevRow = chebyshev-entry
 entry-in OrthogonalRow = orthogonal-entry
+entry-in InitialFirstRow = initial-first-entry
 
 -- a stage's derivative d taken: the row
 unfoldable pub with-row-in : RowForm → ℕ → Float → Coefficients → Vectors → List Float → Vectors
@@ -96,9 +105,13 @@ exchanged v = v
     with previous-one ≔ v next-stage
     with next-stage ≔ v previous-two
 
--- the candidate after stage s, whose row and recurrence these are: the last stage itself
+unfoldable pub combined-entry : Float → Weights → (Vector → Float) → Float
+combined-entry h w x = w .initial ⊗ x state ⊕ w .last ⊗ x next-stage ⊕ w .older ⊗ x previous-two ⊕ h ⊗ w .slope ⊗ x first-derivative
+
+-- the candidate after stage s, whose row and recurrence these are: the last stage itself, or RKMC2's combination
 unfoldable pub candidate-in : CandidateForm → Setting → ℕ → Float → ℕ → Recurrence → Coefficients → Vectors → List Float
 candidate-in LastStage m n step s c row v = v next-stage
+candidate-in Combined m n step s c row v = each n v (combined-entry step (candidate-weights s c))
 
 unfoldable pub with-candidate : Setting → ℕ → Float → ℕ → Recurrence → Coefficients → Vectors → Vectors
 with-candidate m n step s c row v = v with candidate ≔ candidate-in (facts-of (kind m) .candidate) m n step s c row v
@@ -109,6 +122,7 @@ unfoldable pub error-in : ErrorForm → Float → (Vector → Float) → Float
 error-in BothDerivatives h x =
     (four ⊗ (x state ⊖ x candidate) ⊕ two ⊗ h ⊗ (x first-derivative ⊕ x last-derivative)) ⊘ five
 error-in FirstDerivative h x = x candidate ⊖ (x state ⊕ h ⊗ x first-derivative)
+error-in (LastDerivative over) h x = (x state ⊖ x candidate ⊕ h ⊗ x last-derivative) ⊘ over
 
 abbrev pub error : Setting → Float → (Vector → Float) → Float
 error m h x = error-in (facts-of (kind m) .error) h x
@@ -121,6 +135,7 @@ with-last m n a v d = let w = v with last-derivative ≔ d in
 unfoldable pub divisor-in : ErrorForm → ℕ → Float
 divisor-in BothDerivatives s = one
 divisor-in FirstDerivative s = double s
+divisor-in (LastDerivative over) s = one
 
 abbrev pub divisor : Setting → ℕ → Float
 divisor m s = divisor-in (facts-of (kind m) .error) s

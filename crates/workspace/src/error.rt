@@ -32,6 +32,7 @@ fn error_at(area: &[f64], n: usize, i: usize, form: ErrorForm, step: f64) -> f64
             (4.0 * (initial - final_state) + 2.0 * step * (first + last)) / 5.0
         }
         ErrorForm::FirstDerivative => final_state - (initial + step * first),
+        ErrorForm::LastDerivative { over } => (initial - final_state + step * last) / over,
     }
 }
 
@@ -103,6 +104,7 @@ fn divisor(form: ErrorForm, stages: u64) -> f64
     match form {
         ErrorForm::BothDerivatives => 1.0,
         ErrorForm::FirstDerivative => ieee::double_of(stages),
+        ErrorForm::LastDerivative { over } => 1.0,
     }
 }
 

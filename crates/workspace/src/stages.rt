@@ -1,11 +1,12 @@
-// The stages of `run_orthogonal_polynomial` and `run_rkc`: stages 0 and 1, the rows, the exchange after a row, the candidate.
+// The stages of `run_orthogonal_polynomial`, `run_rkc` and `run_rkmc2`: stages 0 and 1, the rows, the exchange after a row,
+// the candidate.
 ghost use mathlib.Core.Path.{_≡_};
 ghost use Prim.Native.Nat.{ℕ, _+_, _-_, _*_, _≤_, _<_};
 ghost use lib.ListN.{length};
 ghost use Rattle.family.specs.Family.{facts-of, kind};
 ghost use lib.Ieee.{Float};
-ghost use Rattle.workspace.specs.Vectors.{Vector, column, unpack, Becomes};
-ghost use Rattle.workspace.specs.Kernel.{first-stage, entry-in, with-row-in, with-row, exchanged, with-candidate};
+ghost use Rattle.workspace.specs.Vectors.{Vector, column, unpack, Becomes, _with_≔_, each, candidate};
+ghost use Rattle.workspace.specs.Kernel.{first-stage, entry-in, with-row-in, with-row, exchanged, combined-entry, with-candidate};
 ghost use Rattle.workspace.specs.Reads.{taking, Reads, Moved, element, Holds, Put, picked};
 use crate::CANDIDATE;
 use crate::DERIVATIVE;
@@ -17,6 +18,7 @@ use crate::STATE;
 use crate::area::copy_vector;
 use coefficients::Coefficients;
 use coefficients::Recurrence;
+use coefficients::Weights;
 use family::CandidateForm;
 use family::RowForm;
 use family::Setting;
@@ -75,11 +77,26 @@ fn entries_at(ten: &[f64], n: usize, i: usize, slope: f64) -> Entries
 fn entry_of(form: RowForm, c: Coefficients, step: f64, x: Entries) -> f64
     ensures { λ r. ⌜ ((v : Vector → Float) → Reads x v → r ≡ entry-in form step c v) ⌝ }
 {
-    let sum = c.mu * x.one + c.nu * x.two + (1.0 - c.mu - c.nu) * x.initial;
+    let initial = 1.0 - c.mu - c.nu;
     match form {
-        RowForm::ChebyshevRow => sum + step * c.mu_tilde * (x.slope - c.gamma_tilde * x.first),
+        RowForm::ChebyshevRow => {
+            c.mu * x.one
+                + c.nu * x.two
+                + initial * x.initial
+                + step * c.mu_tilde * (x.slope - c.gamma_tilde * x.first)
+        }
         RowForm::OrthogonalRow => {
-            sum + step * c.mu_tilde * x.slope + step * c.gamma_tilde * x.first
+            c.mu * x.one
+                + c.nu * x.two
+                + initial * x.initial
+                + step * c.mu_tilde * x.slope
+                + step * c.gamma_tilde * x.first
+        }
+        RowForm::InitialFirstRow => {
+            initial * x.initial
+                + c.mu * x.one
+                + c.nu * x.two
+                + step * c.mu_tilde * (x.slope - c.gamma_tilde * x.first)
         }
     }
 }
@@ -280,6 +297,9 @@ fn row_and_exchange_in(
     match form {
         RowForm::ChebyshevRow => move_all(ten, n, RowForm::ChebyshevRow, c, step, derivative),
         RowForm::OrthogonalRow => move_all(ten, n, RowForm::OrthogonalRow, c, step, derivative),
+        RowForm::InitialFirstRow => {
+            move_all(ten, n, RowForm::InitialFirstRow, c, step, derivative)
+        }
     }
 }
 
@@ -327,6 +347,25 @@ pub fn row_and_exchange(
     row_and_exchange_in(&mut area[0..end], n, form, c, step, derivative);
 }
 
+// RKMC2's candidate, by these weights.
+fn combine(area: &mut [f64], n: usize, step: f64, w: Weights)
+    requires { ⌜ 11 * n ≤ length (now area) ⌝ }
+    ensures { λ _. ⌜ Becomes n (now (area .entry)) (now (area .exit)) (λ v. v with candidate ≔ each n v (combined-entry step w)) ⌝ }
+{
+    let mut i = 0;
+    while i < n {
+        let initial = area[STATE * n + i];
+        let final_stage = area[NEXT_STAGE * n + i];
+        let older_stage = area[PREVIOUS_TWO * n + i];
+        let first = area[FIRST_DERIVATIVE * n + i];
+        area[CANDIDATE * n + i] = w.initial * initial
+            + w.last * final_stage
+            + w.older * older_stage
+            + step * w.slope * first;
+        i += 1;
+    }
+}
+
 // The candidate after stage s, whose row and recurrence these are.
 pub fn keep_candidate(
     area: &mut [f64],
@@ -344,5 +383,8 @@ pub fn keep_candidate(
     let form = own.candidate;
     match form {
         CandidateForm::LastStage => copy_vector(area, n, NEXT_STAGE, CANDIDATE),
+        CandidateForm::Combined => {
+            combine(area, n, step, coefficients::rkmc2::candidate_weights(s, c))
+        }
     }
 }

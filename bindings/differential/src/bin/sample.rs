@@ -69,8 +69,7 @@ fn sample() -> Result<Vec<u64>, String> {
     let mut all = Vec::new();
     for family in oracle::FAMILIES {
         sessions(family, &mut all)?;
-        let permitted: Vec<usize> = oracle::permitted(family).collect();
-        let (least, largest) = (permitted[0], permitted[permitted.len() - 1]);
+        let (least, largest) = oracle::ends(family);
         attempt(family, least, 1, 2, &mut all)?;
         attempt(family, largest, 12, 1, &mut all)?;
         attempt(family, least + 2, 2, 64, &mut all)?;

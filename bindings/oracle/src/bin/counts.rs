@@ -1,6 +1,9 @@
 //! Writes the Rust's stage counts to standard output, which is crates/counts/data/counts: for each scaled radius its bits in
 //! eight bytes, and then the counts of families 1 to 8 in two bytes each, always the lowest first. A count is 0 where the
-//! Rust's sum overflows, and for a family that is not carried.
+//! Rust's sum overflows, and for a family that is not carried. A radius at which RKMC2's count by thresholds is not the
+//! Rust's, a listed difference, is left out; how many were is told on standard error.
+use oracle::thresholds::{count_by, thresholds};
+use oracle::{RKMC2, stages};
 use std::io::Write;
 
 /// How far from a threshold the radii go, in units in the last place.
@@ -8,12 +11,17 @@ const NEIGHBORS: i64 = 8;
 
 fn main() {
     let mut out = std::io::stdout().lock();
-    for radius in radii() {
+    let by_rkmc2 = thresholds();
+    let (written, left_out): (Vec<f64>, Vec<f64>) = radii(&by_rkmc2)
+        .into_iter()
+        .partition(|radius| count_by(&by_rkmc2, *radius) == stages(RKMC2, *radius));
+    for &radius in &written {
         out.write_all(&radius.to_bits().to_le_bytes()).unwrap();
         for count in counts(radius) {
             out.write_all(&count.to_le_bytes()).unwrap();
         }
     }
+    eprintln!("{} radii, {} left out", written.len(), left_out.len());
 }
 
 /// By family, 1 to 8.
@@ -21,7 +29,7 @@ fn counts(radius: f64) -> [u16; 8] {
     let mut all = [0; 8];
     for family in oracle::FAMILIES {
         if family != 1 || !overflows(radius) {
-            let count = oracle::stages(family, radius);
+            let count = stages(family, radius);
             all[family as usize - 1] = u16::try_from(count).expect("a count of two bytes");
         }
     }
@@ -33,26 +41,30 @@ fn overflows(radius: f64) -> bool {
     (1.54 * radius.max(0.0) + 1.0).sqrt() >= 2f64.powi(64)
 }
 
-fn radii() -> Vec<f64> {
+fn radii(by_rkmc2: &[f64]) -> Vec<f64> {
     let mut all = special();
     for family in oracle::FAMILIES {
-        for count in oracle::permitted(family) {
-            all.extend(around(threshold(family, count)));
+        if family == RKMC2 {
+            all.extend(by_rkmc2.iter().flat_map(|threshold| around(*threshold)));
+        } else {
+            let reaches = oracle::permitted(family).map(|count| reach(family, count));
+            all.extend(reaches.flat_map(around));
         }
     }
     all.extend(random());
     all
 }
 
-/// The radius up to which a count serves: its reach. RKC's is where floor(sqrt(1.54r + 1)) gets to the count.
-fn threshold(family: u64, count: usize) -> f64 {
+/// The radius up to which a count serves. RKC's is where floor(sqrt(1.54r + 1)) gets to the count.
+fn reach(family: u64, count: usize) -> f64 {
     let s = count as f64;
     match family {
         1 => (s * s - 1.0) / 1.54,
         2 => s * (s + 1.0),
         3 => (s - 1.0) * (s + 2.0) / 2.0,
         4 => s * (s + 3.0) / 4.0,
-        _ => (s - 1.0) * (s + 4.0) / 6.0,
+        5 => (s - 1.0) * (s + 4.0) / 6.0,
+        _ => panic!("family {family} has no formula for its reach"),
     }
 }
 

@@ -84,7 +84,11 @@ impl Day {
         let start = (60 * minute) as f64;
         let last = RefCell::new(Vec::new());
         let rhs = |derivative: &mut [f64], point: &[f64], time: f64| {
-            let watts = if time < start + 60.0 { reading } else { upcoming };
+            let watts = if time < start + 60.0 {
+                reading
+            } else {
+                upcoming
+            };
             self.inverter.rates(derivative, point, watts);
             *last.borrow_mut() = derivative.to_vec();
             Ok(())

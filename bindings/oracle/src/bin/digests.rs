@@ -2,7 +2,7 @@
 //! and count, then every row of one count.
 //!
 //! The digest is FNV-1a, 64 bits, over omega_one, first_mu_tilde and each row's mu, nu, mu_tilde, gamma_tilde (in RKC
-//! nu_tilde) and theta, the bytes of a double's bits from the lowest on.
+//! nu_tilde, in RKMC2 b_previous) and theta, the bytes of a double's bits from the lowest on.
 use oracle::{Row, Rows};
 
 /// The count whose rows are printed whole; every family permits it.

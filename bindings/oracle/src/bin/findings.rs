@@ -1,21 +1,8 @@
 //! Runs the Rust on the smallest inputs at which it departs from the engine, or from what its user would expect.
+use oracle::thresholds::least;
 use oracle::{Arguments, Oracle, SolveError};
 use std::cell::RefCell;
 use std::panic::catch_unwind;
-
-/// The least double from `low` to `high` at which `holds`, which is false at `low`, true at `high` and changes once.
-fn least(low: f64, high: f64, holds: impl Fn(f64) -> bool) -> f64 {
-    let (mut low, mut high) = (low.to_bits(), high.to_bits());
-    while high - low > 1 {
-        let middle = low + (high - low) / 2;
-        if holds(f64::from_bits(middle)) {
-            high = middle
-        } else {
-            low = middle
-        }
-    }
-    f64::from_bits(high)
-}
 
 /// One attempt from a state with one entry: the points that were evaluated, and the norm.
 fn attempt(
@@ -138,14 +125,17 @@ fn bad_candidate() {
 }
 
 /// More stages than the largest count would be needed: it is cut without a word, and the step is unstable. The norm is
-/// taken relatively to the candidate too, so it stays below 1.
+/// taken relatively to the candidate too: RKL2's stays below 1, and RKMC2's, which has the last derivative, does not.
 fn cut_count() {
-    let (points, norm) = attempt(3, 1.0, 1.0, |y| -21_000.0 * y);
-    println!(
-        "RKL2: y' = -21000 y, y = 1, step 1, relative tolerance 0.01: {} evaluations, candidate {:e}, {norm:?}",
-        points.len(),
-        points[points.len() - 1]
-    );
+    for (family, rate) in [(3, 21_000.0), (oracle::RKMC2, 140_000.0)] {
+        let (points, norm) = attempt(family, 1.0, 1.0, |y| -rate * y);
+        println!(
+            "{}: y' = -{rate} y, y = 1, step 1, relative tolerance 0.01: {} evaluations, candidate {:e}, {norm:?}",
+            oracle::name(family),
+            points.len(),
+            points[points.len() - 1]
+        );
+    }
 }
 
 fn main() {

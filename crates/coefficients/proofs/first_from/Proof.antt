@@ -10,6 +10,9 @@ use Rattle.coefficients.proofs.first_from.Tie as tie
 first-b-requires : tie.Need-first-b-requires
 first-b-requires c κs = search needs
 
+first-b-requires-2 : tie.Need-first-b-requires-2
+first-b-requires-2 c κs = search needs
+
 returns : tie.Need-returns
 unfolding first-mu-tilde family-of
 returns c = rw (c .first-b .ensures, c .before .before .pre, c .before .match .keys1)
@@ -27,9 +30,13 @@ unfolding first-mu-tilde family-of ofBits
 returns-4 c = rw (c .before .pre, c .match .keys4)
 
 returns-5 : tie.Need-returns-5
+unfolding first-mu-tilde family-of
+returns-5 c = rw (c .first-b2 .ensures, c .before .before .pre, c .before .match .keys5)
+
+returns-6 : tie.Need-returns-6
 unfolding first-mu-tilde ofBits
-returns-5 c = let r = c .match .rest in rw (c .before .pre, last-family _ (r .0 .0 .0 .1) (r .0 .0 .1) (r .0 .1) (r .1))
+returns-6 c = let r = c .match .rest in rw (c .before .pre, last-family _ (r .0 .0 .0 .0 .1) (r .0 .0 .0 .1) (r .0 .0 .1) (r .0 .1) (r .1))
 
 pub first-from-spec : {M : Type 1} → statement M
 first-from-spec =
-    tie.close (tie.spec first-b-requires returns returns-2 returns-3 returns-4 returns-5)
+    tie.close (tie.spec first-b-requires first-b-requires-2 returns returns-2 returns-3 returns-4 returns-5 returns-6)

@@ -13,6 +13,12 @@ next-polynomials-requires c κs = search needs
 enum-told-2 : tie.Need-enum-told-2
 enum-told-2 c = search needs
 
+enum-told-3 : tie.Need-enum-told-3
+enum-told-3 c = search needs
+
+next-polynomials-requires-2 : tie.Need-next-polynomials-requires-2
+next-polynomials-requires-2 c κs = search needs
+
 returns : tie.Need-returns
 unfolding next-polynomials
 returns c = rw (c .next-polynomials .ensures, c .before .enum-told .given .1)
@@ -21,6 +27,10 @@ returns-2 : tie.Need-returns-2
 unfolding next-polynomials
 returns-2 c = rw (c .enum-told2 .given .1)
 
+returns-3 : tie.Need-returns-3
+unfolding next-polynomials
+returns-3 c = rw (c .next-polynomials2 .ensures, c .before .enum-told3 .given .1)
+
 pub next-polynomials-spec : {M : Type 1} → statement M
 next-polynomials-spec =
     tie.close
@@ -28,5 +38,8 @@ next-polynomials-spec =
     enum-told
     next-polynomials-requires
     enum-told-2
+    enum-told-3
+    next-polynomials-requires-2
     returns
-    returns-2)
+    returns-2
+    returns-3)

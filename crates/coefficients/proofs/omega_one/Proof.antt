@@ -18,6 +18,9 @@ legendre-two-omega-requires c κs = search needs
 gegenbauer-one-omega-requires : tie.Need-gegenbauer-one-omega-requires
 gegenbauer-one-omega-requires c κs = search needs
 
+omega-one-requires-2 : tie.Need-omega-one-requires-2
+omega-one-requires-2 c κs = search needs
+
 gegenbauer-two-omega-requires : tie.Need-gegenbauer-two-omega-requires
 gegenbauer-two-omega-requires c κs = search needs
 
@@ -38,7 +41,11 @@ unfolding family-of
 returns-4 c = rw (c .gegenbauer-one-omega .ensures, c .before .match .keys4)
 
 returns-5 : tie.Need-returns-5
-returns-5 c = let r = c .before .match .rest in rw (c .gegenbauer-two-omega .ensures, last-family _ (r .0 .0 .0 .1) (r .0 .0 .1) (r .0 .1) (r .1))
+unfolding omega-one-of family-of
+returns-5 c = rw (c .omega-one2 .ensures, c .before .match .keys5)
+
+returns-6 : tie.Need-returns-6
+returns-6 c = let r = c .before .match .rest in rw (c .gegenbauer-two-omega .ensures, last-family _ (r .0 .0 .0 .0 .1) (r .0 .0 .0 .1) (r .0 .0 .1) (r .0 .1) (r .1))
 
 pub omega-one-spec : {M : Type 1} → statement M
 omega-one-spec =
@@ -48,9 +55,11 @@ omega-one-spec =
     legendre-one-omega-requires
     legendre-two-omega-requires
     gegenbauer-one-omega-requires
+    omega-one-requires-2
     gegenbauer-two-omega-requires
     returns
     returns-2
     returns-3
     returns-4
-    returns-5)
+    returns-5
+    returns-6)

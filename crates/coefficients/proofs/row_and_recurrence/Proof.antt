@@ -1,4 +1,4 @@
--- `row_and_recurrence` meets its contract: RKC's is `advance`, and the other families' the two functions one after the other.
+-- `row_and_recurrence` meets its contract: RKC's and RKMC2's is `advance`, and the other families' the two functions one after the other.
 use mathlib.Core.Path.{sym, ap, _∙_}
 use Prim.Native.Nat.{ℕ}
 use Rattle.family.specs.Family.{family-of}
@@ -20,14 +20,27 @@ returns c =
       x .ensures .1 ∙ ap (λ (k : ℕ). next-of (family-of k) (a .c) (x .result .row)) first,
     )
 
+advance-requires-2 : tie.Need-advance-requires-2
+advance-requires-2 c κs = search needs
+
+returns-2 : tie.Need-returns-2
+unfolding coefficients-of family-of
+returns-2 c =
+    let a = c .before .before .before .before .before .args in
+    let sixth = sym (c .before .if2 .taken) in
+    let x = c .advance2 in (
+      x .ensures .0 ∙ ap (λ (k : ℕ). coefficients-of (family-of k) (a .s) (a .j) (a .c)) sixth,
+      x .ensures .1 ∙ ap (λ (k : ℕ). next-of (family-of k) (a .c) (x .result .row)) sixth,
+    )
+
 row-coefficients-requires : tie.Need-row-coefficients-requires
 row-coefficients-requires c κs = search needs
 
 next-recurrence-requires : tie.Need-next-recurrence-requires
 next-recurrence-requires c κs = search needs
 
-returns-2 : tie.Need-returns-2
-returns-2 c = search needs
+returns-3 : tie.Need-returns-3
+returns-3 c = search needs
 
 pub row-and-recurrence-spec : {M : Type 1} → statement M
 row-and-recurrence-spec =
@@ -35,6 +48,8 @@ row-and-recurrence-spec =
     (tie.spec
     advance-requires
     returns
+    advance-requires-2
+    returns-2
     row-coefficients-requires
     next-recurrence-requires
-    returns-2)
+    returns-3)

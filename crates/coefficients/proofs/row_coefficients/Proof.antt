@@ -27,6 +27,9 @@ gegenbauer-one-omega-requires c κs = search needs
 gegenbauer-one-requires : tie.Need-gegenbauer-one-requires
 gegenbauer-one-requires c κs = search needs
 
+row-requires-2 : tie.Need-row-requires-2
+row-requires-2 c κs = search needs
+
 gegenbauer-two-omega-requires : tie.Need-gegenbauer-two-omega-requires
 gegenbauer-two-omega-requires c κs = search needs
 
@@ -50,11 +53,15 @@ unfolding coefficients-of family-of
 returns-4 c = rw (c .gegenbauer-one .ensures, c .before .gegenbauer-one-omega .ensures, c .before .before .match .keys4)
 
 returns-5 : tie.Need-returns-5
+unfolding coefficients-of family-of
+returns-5 c = rw (c .row2 .ensures, c .before .match .keys5)
+
+returns-6 : tie.Need-returns-6
 unfolding coefficients-of
-returns-5 c = let r = c .before .before .match .rest in rw (
+returns-6 c = let r = c .before .before .match .rest in rw (
   c .gegenbauer-two .ensures,
   c .before .gegenbauer-two-omega .ensures,
-  last-family _ (r .0 .0 .0 .1) (r .0 .0 .1) (r .0 .1) (r .1),
+  last-family _ (r .0 .0 .0 .0 .1) (r .0 .0 .0 .1) (r .0 .0 .1) (r .0 .1) (r .1),
 )
 
 pub row-coefficients-spec : {M : Type 1} → statement M
@@ -68,10 +75,12 @@ row-coefficients-spec =
     legendre-two-requires
     gegenbauer-one-omega-requires
     gegenbauer-one-requires
+    row-requires-2
     gegenbauer-two-omega-requires
     gegenbauer-two-requires
     returns
     returns-2
     returns-3
     returns-4
-    returns-5)
+    returns-5
+    returns-6)

@@ -1,7 +1,8 @@
--- Each rule is the definition, from what the callees of `ieee` return. A cast is no more than the largest u64.
+-- Each rule is the definition, from what the callees of `ieee` return. A cast is no more than the largest u64, and neither is a count of the thresholds.
 use lib.Ieee.{ofBits}
 use Rattle.family.specs.Family.{by-rule}
 use Rattle.family.proofs.Saturated.{cast-kept}
+use Rattle.family.proofs.ByThreshold.{rule-kept}
 use borrow.Author.Needs.{needs}
 use Rattle.family.proofs.by_rule.Statement.{statement}
 use Rattle.family.proofs.by_rule.Tie as tie
@@ -53,6 +54,16 @@ returns-2 c = rw (
   ← cast-kept,
 )
 
+enum-told : tie.Need-enum-told
+enum-told c = search needs
+
+by-threshold-requires : tie.Need-by-threshold-requires
+by-threshold-requires c κs = search needs
+
+returns-3 : tie.Need-returns-3
+unfolding by-rule
+returns-3 c = rw (c .by-threshold .ensures, c .before .enum-told .given .1, ← rule-kept)
+
 pub by-rule-spec : {M : Type 1} → statement M
 by-rule-spec =
     tie.close
@@ -66,5 +77,8 @@ by-rule-spec =
     sqrt-requires-2
     ceil-requires
     saturating-u64-requires-2
+    enum-told
+    by-threshold-requires
     returns
-    returns-2)
+    returns-2
+    returns-3)

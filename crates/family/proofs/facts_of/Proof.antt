@@ -27,6 +27,9 @@ rounded-up-requires-3 c κs = search needs
 orthogonal-requires-3 : tie.Need-orthogonal-requires-3
 orthogonal-requires-3 c κs = search needs
 
+rkmc2-requires : tie.Need-rkmc2-requires
+rkmc2-requires c κs = search needs
+
 rounded-up-requires-4 : tie.Need-rounded-up-requires-4
 rounded-up-requires-4 c κs = search needs
 
@@ -50,9 +53,13 @@ unfolding facts-of family-of ofBits
 returns-4 c = rw (c .orthogonal3 .ensures, c .before .rounded-up3 .ensures, c .before .before .match .keys4)
 
 returns-5 : tie.Need-returns-5
+unfolding family-of
+returns-5 c = rw (c .rkmc2 .ensures, c .before .match .keys5)
+
+returns-6 : tie.Need-returns-6
 unfolding facts-of ofBits
-returns-5 c = let r = c .before .before .match .rest in
-    rw (c .orthogonal4 .ensures, c .before .rounded-up4 .ensures, last-family _ (r .0 .0 .0 .1) (r .0 .0 .1) (r .0 .1) (r .1))
+returns-6 c = let r = c .before .before .match .rest in
+    rw (c .orthogonal4 .ensures, c .before .rounded-up4 .ensures, last-family _ (r .0 .0 .0 .0 .1) (r .0 .0 .0 .1) (r .0 .0 .1) (r .0 .1) (r .1))
 
 pub facts-of-spec : {M : Type 1} → statement M
 facts-of-spec =
@@ -65,10 +72,12 @@ facts-of-spec =
     orthogonal-requires-2
     rounded-up-requires-3
     orthogonal-requires-3
+    rkmc2-requires
     rounded-up-requires-4
     orthogonal-requires-4
     returns
     returns-2
     returns-3
     returns-4
-    returns-5)
+    returns-5
+    returns-6)

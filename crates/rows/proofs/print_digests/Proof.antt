@@ -1,14 +1,14 @@
--- `rows::print_digests` is safe and ends: s runs from 2 to 200.
+-- `rows::print_digests` is safe and ends: s runs from 2 to 1000.
 use Prim.Native.Nat.{_-_, _≤_}
 use borrow.Author.Needs.{needs}
 use Rattle.rows.proofs.print_digests.Statement.{statement}
 use Rattle.rows.proofs.print_digests.Tie as tie
 
 abbrev Inv-loop : tie.InvT-loop
-Inv-loop family s₀ t3 s = (2 ≤ s) × (s ≤ 201)
+Inv-loop family s₀ t3 s = (2 ≤ s) × (s ≤ 1001)
 
 abbrev μ-loop : tie.MeasureT-loop
-μ-loop family s₀ t3 s = 201 - s
+μ-loop family s₀ t3 s = 1001 - s
 
 loop-holds : tie.Need-loop-holds Inv-loop μ-loop
 loop-holds c = search needs

@@ -15,6 +15,9 @@ enum-told c = search needs
 enum-told-2 : tie.Need-enum-told-2
 enum-told-2 c = search needs
 
+enum-told-3 : tie.Need-enum-told-3
+enum-told-3 c = search needs
+
 returns : tie.Need-returns
 returns c = search needs
 
@@ -24,5 +27,8 @@ returns-2 c =
     let orthogonal = sym (ap (λ (x : Facts). x .row) (c .before .before .facts-of .ensures)) ∙ c .enum-told2 .given .1 in
     λ r row same on. by-theta (a .time) (a .staging) (a .setting) r row orthogonal same on
 
+returns-3 : tie.Need-returns-3
+returns-3 c = search needs
+
 pub onward-spec : {M : Type 1} → statement M
-onward-spec = tie.close (tie.spec facts-of-requires enum-told enum-told-2 returns returns-2)
+onward-spec = tie.close (tie.spec facts-of-requires enum-told enum-told-2 enum-told-3 returns returns-2 returns-3)

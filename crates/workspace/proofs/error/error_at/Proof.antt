@@ -59,6 +59,9 @@ enum-told c = search needs
 enum-told-2 : tie.Need-enum-told-2
 enum-told-2 c = search needs
 
+enum-known-form : tie.Need-enum-known-form
+enum-known-form c = search needs
+
 returns : tie.Need-returns
 unfolding error-in ofBits
 returns c = rw (c .enum-told .given .1)
@@ -66,6 +69,10 @@ returns c = rw (c .enum-told .given .1)
 returns-2 : tie.Need-returns-2
 unfolding error-in
 returns-2 c = rw (c .enum-told2 .given .1)
+
+returns-3 : tie.Need-returns-3
+unfolding error-in
+returns-3 c = rw (c .before .form .given .1)
 
 pub error-at-spec : {M : Type 1} → statement M
 error-at-spec =
@@ -89,5 +96,7 @@ error-at-spec =
     shared-slice-read-last
     enum-told
     enum-told-2
+    enum-known-form
     returns
-    returns-2)
+    returns-2
+    returns-3)

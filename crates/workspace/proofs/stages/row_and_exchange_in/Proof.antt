@@ -19,6 +19,12 @@ enum-told-2 c = search needs
 move-all-requires-2 : tie.Need-move-all-requires-2
 move-all-requires-2 c κs = search needs
 
+enum-told-3 : tie.Need-enum-told-3
+enum-told-3 c = search needs
+
+move-all-requires-3 : tie.Need-move-all-requires-3
+move-all-requires-3 c κs = search needs
+
 same-length : tie.Need-same-length
 same-length c = search needs
 
@@ -39,6 +45,16 @@ returns-2 c =
     ∙ ap (λ (f : RowForm). exchanged (with-row-in f (x .n) (x .step) (x .c) (unpack (x .n) (x .ten .now)) (x .derivative .now)))
     (sym (c .before .before .before .before .enum-told2 .given .1))
 
+same-length-3 : tie.Need-same-length-3
+same-length-3 c = search needs
+
+returns-3 : tie.Need-returns-3
+returns-3 c =
+    let x = c .before .before .before .before .before .before .before .before .args in
+    c .before .before .move-all3 .ensures
+    ∙ ap (λ (f : RowForm). exchanged (with-row-in f (x .n) (x .step) (x .c) (unpack (x .n) (x .ten .now)) (x .derivative .now)))
+    (sym (c .before .before .before .before .enum-told3 .given .1))
+
 pub row-and-exchange-in-spec : {M : Type 1} → statement M
 row-and-exchange-in-spec =
     tie.close
@@ -47,7 +63,11 @@ row-and-exchange-in-spec =
     move-all-requires
     enum-told-2
     move-all-requires-2
+    enum-told-3
+    move-all-requires-3
     same-length
     returns
     same-length-2
-    returns-2)
+    returns-2
+    same-length-3
+    returns-3)

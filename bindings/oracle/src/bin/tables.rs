@@ -1,0 +1,318 @@
+//! tables CRATES: writes RKMC2's three tables, from the Rust, into their crates below the folder CRATES: code, definition,
+//! and the proofs that the code reads the definition and that the rule of the table holds throughout.
+//!
+//! The doubles are those of the build that the program is run on; docs/VECTORS.md names the one that is stored.
+use oracle::RKMC2;
+use oracle::thresholds::{COUNTS, thresholds};
+use std::fs;
+use std::path::{Path, PathBuf};
+
+/// How many counts a row holds: a read of a row copies it, and a match has an arm a row.
+const WIDTH: usize = 16;
+
+/// A table by count, and the rule that is proved of it.
+struct Table {
+    name: &'static str,
+    title: &'static str,
+    first: usize,
+    doubles: Vec<f64>,
+    rule: Rule,
+}
+
+/// What one computed test proves of every count, and the file that holds it.
+struct Rule {
+    file: &'static str,
+    text: &'static str,
+}
+
+fn main() {
+    let folder = std::env::args().nth(1).expect("the folder of the crates");
+    for table in tables() {
+        table.write(Path::new(&folder));
+    }
+}
+
+fn tables() -> [Table; 3] {
+    let (first, _) = oracle::ends(RKMC2);
+    let rows: Vec<_> = oracle::permitted(RKMC2)
+        .map(|count| oracle::rows(RKMC2, count))
+        .collect();
+    [
+        Table {
+            name: "omega_zero",
+            title: "RKMC2's omega_zero",
+            first,
+            doubles: rows.iter().filter_map(|row| row.omega_zero).collect(),
+            rule: AT_LEAST_ONE,
+        },
+        Table {
+            name: "omega_one",
+            title: "RKMC2's omega_one",
+            first,
+            doubles: rows.iter().map(|row| row.omega_one).collect(),
+            rule: ABOVE_ZERO,
+        },
+        Table {
+            name: "threshold",
+            title: "RKMC2's thresholds",
+            first: *COUNTS.start(),
+            doubles: thresholds(),
+            rule: RISING,
+        },
+    ]
+}
+
+impl Table {
+    fn write(&self, crates: &Path) {
+        let folder = crates.join(format!("rkmc2_{}", self.name));
+        let put = |path: PathBuf, text: &str| {
+            let path = folder.join(path);
+            fs::create_dir_all(path.parent().unwrap()).unwrap();
+            fs::write(&path, text).unwrap_or_else(|error| panic!("{}: {error}", path.display()));
+        };
+        let declared = |name: &str| format!("pub mod {name}\n");
+        let proof = Path::new("proofs").join(self.name).join("Proof.antt");
+        let rule = Path::new("proofs")
+            .join(self.rule.file)
+            .with_extension("antt");
+        put("src/lib.rt".into(), &self.filled(CODE));
+        put("specs/Lib.antt".into(), &declared("Table"));
+        put("specs/Table.antt".into(), &self.filled(SPECS));
+        put("proofs/Lib.antt".into(), &declared(self.rule.file));
+        put(proof, &self.filled(PROOF));
+        put(rule, &self.filled(self.rule.text));
+    }
+
+    fn last(&self) -> usize {
+        self.first + self.doubles.len() - 1
+    }
+
+    /// The entries from count 0 on, in whole rows: a count outside the table has the nearest entry.
+    fn rows(&self) -> Vec<Vec<f64>> {
+        let counts = (self.last() + 1).next_multiple_of(WIDTH);
+        let entry = |count: usize| self.doubles[count.clamp(self.first, self.last()) - self.first];
+        let entries: Vec<f64> = (0..counts).map(entry).collect();
+        entries.chunks(WIDTH).map(<[f64]>::to_vec).collect()
+    }
+
+    /// A text with the table's names and numbers in their places.
+    fn filled(&self, text: &str) -> String {
+        let (first, last) = (self.first, self.last());
+        let numbers = [
+            ("<first>", first),
+            ("<last>", last),
+            ("<before-last>", last - 1),
+            ("<entries>", last + 1 - first),
+            ("<pairs>", last - first),
+            ("<width>", WIDTH),
+            ("<width-1>", WIDTH - 1),
+            ("<rows>", self.rows().len()),
+        ];
+        let named = text
+            .replace("<title>", self.title)
+            .replace("<name>", self.name)
+            .replace("<spec>", &self.name.replace('_', "-"))
+            .replace("<arms>", &self.arms())
+            .replace("<bits>", &self.bits());
+        numbers.into_iter().fold(named, |text, (place, number)| {
+            text.replace(place, &number.to_string())
+        })
+    }
+
+    /// The arms of the code's match, an entry a line.
+    fn arms(&self) -> String {
+        let entry = |value: &f64| format!("            {},\n", decimal(*value));
+        let arm = |(k, row): (usize, &Vec<f64>)| {
+            let entries: String = row.iter().map(entry).collect();
+            format!("        {k} => [\n{entries}        ],\n")
+        };
+        self.rows().iter().enumerate().map(arm).collect()
+    }
+
+    /// The rows of the definition, four bit patterns a line, each row below its first count.
+    fn bits(&self) -> String {
+        let pattern = |value: &f64| format!("0x{:016x}", value.to_bits());
+        let line = |part: &[f64]| part.iter().map(pattern).collect::<Vec<_>>().join(" ∷ ");
+        let row = |(k, row): (usize, &Vec<f64>)| {
+            let lines: Vec<String> = row.chunks(4).map(line).collect();
+            let count = WIDTH * k;
+            format!("    -- {count}\n    ({} ∷ []) ∷\n", lines.join(" ∷\n    "))
+        };
+        self.rows().iter().enumerate().map(row).collect()
+    }
+}
+
+/// The shortest decimal that is read as this double, without an exponent.
+fn decimal(value: f64) -> String {
+    let digits = value.to_string();
+    if digits.contains('.') {
+        digits
+    } else {
+        digits + ".0"
+    }
+}
+
+const CODE: &str = "\
+// <title>, by count. A count outside <first> to <last> reads the nearest entry. Written by bindings/oracle (docs/VECTORS.md).
+ghost use mathlib.Core.Path.{_≡_};
+ghost use Prim.Native.Nat.{_<_};
+ghost use Rattle.table.specs.Rows.{row};
+ghost use Rattle.rkmc2_<name>·specs.specs.Table as spec;
+
+// The counts <width> k to <width> k + <width-1>. No number below <rows> is left for the last arm.
+fn row_of(k: u64) -> [f64; <width>]
+    requires { ⌜ k < <rows> ⌝ }
+    ensures { λ r. ⌜ r ≡ row spec.bits k ⌝ }
+{
+    match k {
+<arms>        _ => table::absent(k, <rows>),
+    }
+}
+
+pub fn <name>(s: u64) -> f64
+    ensures { λ r. ⌜ r ≡ spec.<spec> s ⌝ }
+{
+    let i = table::capped(s, <last>);
+    let row = row_of(i / <width>);
+    let j = (i % <width>) as usize;
+    row[j]
+}
+";
+
+const SPECS: &str = "\
+-- <title>: a table of document 02, CR 1, with the doubles of the named build (docs/VECTORS.md). Bit patterns, <width> counts a row,
+-- a row's first count above it. A count outside <first> to <last> has the nearest entry.
+use Prim.Native.Nat.{ℕ, min}
+use mathlib.Core.List.{List, [], _∷_}
+use lib.Ieee.{Float}
+use Rattle.table.specs.Rows.{entry}
+
+abbrev pub bits : List (List ℕ)
+bits =
+<bits>    []
+
+unfoldable pub <spec> : ℕ → Float
+<spec> s = entry bits (min s <last>)
+";
+
+const PROOF: &str = "\
+-- `<name>` meets its contract: the row is that of the count, and so is the place in it. Assumes nothing.
+use borrow.Author.Needs.{needs}
+use Rattle.rkmc2_<name>·specs.specs.Table.{<spec>}
+use Rattle.rkmc2_<name>·proofs.proofs.<name>.Statement.{statement}
+use Rattle.rkmc2_<name>·proofs.proofs.<name>.Tie as tie
+
+capped-requires : tie.Need-capped-requires
+capped-requires c κs = search needs
+
+row-of-requires : tie.Need-row-of-requires
+row-of-requires c κs = search needs
+
+mul-result : tie.Need-mul-result
+mul-result c = search needs
+
+array-read-result : tie.Need-array-read-result
+array-read-result c = search needs
+
+returns : tie.Need-returns
+unfolding <spec>
+returns c = rw (c .row-of .ensures, c .before .capped .ensures)
+
+pub <spec>-spec : {M : Type 1} → statement M
+<spec>-spec = tie.close (tie.spec capped-requires row-of-requires mul-result array-read-result returns)
+";
+
+const AT_LEAST_ONE: Rule = Rule {
+    file: "AtLeastOne",
+    text: "\
+-- Every entry is at least 1. Computed once for the whole table. Assumes nothing.
+use Prim.Native.Nat.{ℕ, _+_, _≤_, _<_}
+use mathlib.Core.Bool.{Bool, false}
+use native.Mathlib.Omega.{arith}
+use lib.Dec.{T}
+use lib.IntN.{pos}
+use lib.Ieee.{Float, fin, le, ofBits}
+use Rattle.ieee.proofs.Every.{every, among}
+use Rattle.rkmc2_<name>·specs.specs.Table.{<spec>}
+
+abbrev one : Float
+one = fin false 1 (pos 0)
+
+test : ℕ → Bool
+test s = le one (<spec> s)
+
+passes : T (every test <entries> <first>)
+unfolding every test <spec> ofBits le
+passes = tt
+
+pub at-least-one : (s : ℕ) → <first> ≤ s → s ≤ <last> → T (le one (<spec> s))
+unfolding test
+at-least-one s l h = among test <entries> <first> s passes l (omega arith)
+",
+};
+
+const ABOVE_ZERO: Rule = Rule {
+    file: "AboveZero",
+    text: "\
+-- Every entry is above 0. Computed once for the whole table. Assumes nothing.
+use Prim.Native.Nat.{ℕ, _+_, _≤_, _<_}
+use mathlib.Core.Bool.{Bool, false}
+use native.Mathlib.Omega.{arith}
+use lib.Dec.{T}
+use lib.IntN.{pos}
+use lib.Ieee.{Float, fin, lt, ofBits}
+use Rattle.ieee.proofs.Every.{every, among}
+use Rattle.rkmc2_<name>·specs.specs.Table.{<spec>}
+
+abbrev nought : Float
+nought = fin false 0 (pos 0)
+
+test : ℕ → Bool
+test s = lt nought (<spec> s)
+
+passes : T (every test <entries> <first>)
+unfolding every test <spec> ofBits lt
+passes = tt
+
+pub above-zero : (s : ℕ) → <first> ≤ s → s ≤ <last> → T (lt nought (<spec> s))
+unfolding test
+above-zero s l h = among test <entries> <first> s passes l (omega arith)
+",
+};
+
+const RISING: Rule = Rule {
+    file: "Rising",
+    text: "\
+-- The entries rise strictly, and are above 0. Computed once for the whole table. Assumes nothing.
+use Prim.Native.Nat.{ℕ, suc, _+_, _≤_, _<_}
+use mathlib.Core.Bool.{Bool}
+use native.Mathlib.Omega.{arith}
+use lib.Dec.{T}
+use lib.Ieee.{lt, ofBits}
+use lib.Ieee.Positive.{positive}
+use Rattle.ieee.proofs.Every.{every, among}
+use Rattle.rkmc2_<name>·specs.specs.Table.{<spec>}
+
+test : ℕ → Bool
+test s = lt (<spec> s) (<spec> (suc s))
+
+passes : T (every test <pairs> <first>)
+unfolding every test <spec> ofBits lt
+passes = tt
+
+pub rises : (s : ℕ) → <first> ≤ s → s ≤ <before-last> → T (lt (<spec> s) (<spec> (suc s)))
+unfolding test
+rises s l h = among test <pairs> <first> s passes l (omega arith)
+
+some : ℕ → Bool
+some s = positive (<spec> s)
+
+all-positive : T (every some <entries> <first>)
+unfolding every some <spec> ofBits
+all-positive = tt
+
+pub above-zero : (s : ℕ) → <first> ≤ s → s ≤ <last> → T (positive (<spec> s))
+unfolding some
+above-zero s l h = among some <entries> <first> s all-positive l (omega arith)
+",
+};

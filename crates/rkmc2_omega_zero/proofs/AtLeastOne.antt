@@ -1,0 +1,23 @@
+-- Every entry is at least 1. Computed once for the whole table. Assumes nothing.
+use Prim.Native.Nat.{ℕ, _+_, _≤_, _<_}
+use mathlib.Core.Bool.{Bool, false}
+use native.Mathlib.Omega.{arith}
+use lib.Dec.{T}
+use lib.IntN.{pos}
+use lib.Ieee.{Float, fin, le, ofBits}
+use Rattle.ieee.proofs.Every.{every, among}
+use Rattle.rkmc2_omega_zero.specs.Table.{omega-zero}
+
+abbrev one : Float
+one = fin false 1 (pos 0)
+
+test : ℕ → Bool
+test s = le one (omega-zero s)
+
+passes : T (every test 998 3)
+unfolding every test omega-zero ofBits le
+passes = tt
+
+pub at-least-one : (s : ℕ) → 3 ≤ s → s ≤ 1000 → T (le one (omega-zero s))
+unfolding test
+at-least-one s l h = among test 998 3 s passes l (omega arith)
