@@ -195,17 +195,17 @@ polynomials-on p = record {
 }
 
 unfoldable pub rkmc2-polynomials-on : Polynomials → Polynomials
-rkmc2-polynomials-on p = record {
-  «omega_zero» = p .«omega_zero»;
-  «omega_one» = p .«omega_one»;
-  «b_previous» = rkmc2-b-of p;
-  «b_previous_two» = p .«b_previous»;
-  «value_previous» = value-of p;
-  «value_previous_two» = p .«value_previous»;
-  «first_previous» = p .«first_previous»;
-  «first_previous_two» = p .«first_previous_two»;
-  «second_previous» = p .«second_previous»;
-  «second_previous_two» = p .«second_previous_two»;
+rkmc2-polynomials-on q = record {
+  «omega_zero» = q .«omega_zero»;
+  «omega_one» = q .«omega_one»;
+  «b_previous» = rkmc2-b-of q;
+  «b_previous_two» = q .«b_previous»;
+  «value_previous» = value-of q;
+  «value_previous_two» = q .«value_previous»;
+  «first_previous» = q .«first_previous»;
+  «first_previous_two» = q .«first_previous_two»;
+  «second_previous» = q .«second_previous»;
+  «second_previous_two» = q .«second_previous_two»;
 }
 
 unfoldable pub next-polynomials : RowForm → Polynomials → Polynomials

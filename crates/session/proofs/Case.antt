@@ -30,12 +30,12 @@ use Rattle.session.specs.Session.{session-seen, rests, has-tried, waits,
 use Rattle.session.proofs.Sequences.{every-sequence}
 
 -- opens, where it is named on an `unfolding` line, what a double's operation, an attempt of RKL1 and a session are made of
-unfoldable doubles : Unit {0}
+unfoldable pub doubles : Unit {0}
 unfolding toBits add sub mul div neg le lt eq ofInt round toUnsigned sum units odd size span climb isNan trailingZeros root-below root halves root-units sqrt
     abs max floor ceil double nearest square min-positive root-epsilon
 doubles = tt
 
-unfoldable attempts : Unit {0}
+unfoldable pub attempts : Unit {0}
 unfolding smallest-count largest-count odd-only before-limits odd-step limited stage-count omega-zero omega-one-of b-first first-mu-tilde first-polynomials
     first-polynomials-in recurrence-of with-theta legendre-one coefficients-of next-polynomials next-of each sum-of-squares root-of-squares vector-norm all-finite with-direction
     perturbation-of perturbed-by perturbed turned radius-of ended scaled first-stage orthogonal-entry entry-in with-row-in exchanged with-candidate candidate-in
@@ -43,13 +43,13 @@ unfolding smallest-count largest-count odd-only before-limits odd-step limited s
     run-recurrence finished-attempt close attempt-step closes by-rule facts-of
 attempts = tt
 
-unfoldable sessions : Unit {0}
+unfoldable pub sessions : Unit {0}
 unfolding known family-of permitted keeps-older vector-count sized as-long good-times good-tolerance good-tolerances room vectors-of initialize tries
     accept-step at-rest after-attempt waiting finished-by counts-on doing-now replied-with session-after doing-shown session-seen rests has-tried waits
     waits-with-room takes session fresh facts-of
 sessions = tt
 
-pub arguments : Arguments
+unfoldable pub arguments : Arguments
 arguments = record { time = nought; step = one; «absolute_tolerance» = nearest 1 1000000; «relative_tolerance» = nearest 1 1000000; adaptive = true }
 
 pub calls : List Call
@@ -59,11 +59,11 @@ calls = Start 2 1 (one ∷ []) nought ∷ Attempt arguments ∷ Reply zeros ∷ 
     zeros : List Float
     zeros = nought ∷ []
 
-pub bits : Float → ℕ
+unfoldable pub bits : Float → ℕ
 bits x = toBits binary64 x
 
 -- 1 evaluate: time and point; 2 finished: norm, s, k, r, candidate; 3 ready: state and derivative; 4 stopped: number and vectors; 5 nothing
-pub kind : Shown → List ℕ
+unfoldable pub kind : Shown → List ℕ
 kind (evaluates t p) = 1 ∷ bits t ∷ map bits p
 kind (finished-with e s k r p) = 2 ∷ bits e ∷ s ∷ k ∷ bits r ∷ map bits p
 kind (ready-at y d) = 3 ∷ map bits y ++ map bits d
@@ -71,7 +71,7 @@ kind (stops i vs) = 4 ∷ i ∷ map bits (join vs)
 kind nothing = 5 ∷ []
 
 -- and both counts before
-pub numbers : Seen → List ℕ
+unfoldable pub numbers : Seen → List ℕ
 numbers x = x .counts .evaluations ∷ x .counts .«finished_attempts» ∷ kind (x .shown)
 
 pub numbers-in-case : List (List ℕ)
@@ -86,7 +86,7 @@ numbers-in-case =
     ∷ (5 ∷ 1 ∷ 3 ∷ 0x3fefffffffffffff ∷ 0 ∷ [])
     ∷ []
 
-pub zeroes : Counters
+unfoldable pub zeroes : Counters
 zeroes = record { evaluations = 0; «finished_attempts» = 0 }
 
 pub case : map numbers (session 11 (fresh zeroes) calls) ≡ numbers-in-case

@@ -34,6 +34,7 @@ pub mod Served
 pub mod Close
 -- Document 01's case, by computation: `case-of-calls`.
 pub mod Case
+pub mod RustCase
 -- What they rest on. First what holds of any numbers, needs and lengths;
 pub mod Truth
 pub mod Numbers

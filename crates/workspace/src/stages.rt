@@ -77,26 +77,15 @@ fn entries_at(ten: &[f64], n: usize, i: usize, slope: f64) -> Entries
 fn entry_of(form: RowForm, c: Coefficients, step: f64, x: Entries) -> f64
     ensures { λ r. ⌜ ((v : Vector → Float) → Reads x v → r ≡ entry-in form step c v) ⌝ }
 {
-    let initial = 1.0 - c.mu - c.nu;
+    let sum = c.mu * x.one + c.nu * x.two + (1.0 - c.mu - c.nu) * x.initial;
     match form {
-        RowForm::ChebyshevRow => {
-            c.mu * x.one
-                + c.nu * x.two
-                + initial * x.initial
-                + step * c.mu_tilde * (x.slope - c.gamma_tilde * x.first)
-        }
+        RowForm::ChebyshevRow => sum + step * c.mu_tilde * (x.slope - c.gamma_tilde * x.first),
         RowForm::OrthogonalRow => {
-            c.mu * x.one
-                + c.nu * x.two
-                + initial * x.initial
-                + step * c.mu_tilde * x.slope
-                + step * c.gamma_tilde * x.first
+            sum + step * c.mu_tilde * x.slope + step * c.gamma_tilde * x.first
         }
         RowForm::InitialFirstRow => {
-            initial * x.initial
-                + c.mu * x.one
-                + c.nu * x.two
-                + step * c.mu_tilde * (x.slope - c.gamma_tilde * x.first)
+            let initial_first = (1.0 - c.mu - c.nu) * x.initial + c.mu * x.one + c.nu * x.two;
+            initial_first + step * c.mu_tilde * (x.slope - c.gamma_tilde * x.first)
         }
     }
 }

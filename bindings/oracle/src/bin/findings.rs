@@ -138,6 +138,45 @@ fn cut_count() {
     }
 }
 
+/// The case that session/proofs/RustCase.antt has: what RKMC2 evaluates of y' = -4.1 y from y = 25, and where it ends.
+fn rkmc2_case() {
+    let rhs = |derivative: &mut [f64], point: &[f64], time: f64| {
+        derivative[0] = -4.1 * point[0];
+        let [time, point, reply] = [time, point[0], derivative[0]].map(f64::to_bits);
+        println!("  time {time:016X}, point {point:016X}, reply {reply:016X}");
+        Ok(())
+    };
+    println!("RKMC2: y' = -4.1 y, y = 25, step 1, tolerances 1e-6");
+    let mut rust = Oracle::new(oracle::RKMC2, 1);
+    rust.initialize(&[25.0], 0.0, &rhs)
+        .expect("a finite derivative");
+    let arguments = Arguments {
+        time: 0.0,
+        step: 1.0,
+        absolute_tolerance: 1e-6,
+        relative_tolerance: 1e-6,
+        adaptive: true,
+    };
+    let radius =
+        rust.scaled_radius(arguments, &|derivative: &mut [f64],
+                                        point: &[f64],
+                                        _: f64| {
+            derivative[0] = -4.1 * point[0];
+            Ok(())
+        });
+    let radius = radius.expect("finite derivatives");
+    let norm = rust
+        .attempt(arguments, &rhs)
+        .expect("a candidate that is finite");
+    println!(
+        "  r {:016X}, s {}, candidate {:016X}, norm {:016X}",
+        radius.to_bits(),
+        oracle::stages(oracle::RKMC2, radius),
+        rust.vectors()[10][0].to_bits(),
+        norm.to_bits()
+    );
+}
+
 fn main() {
     std::panic::set_hook(Box::new(|_| {}));
     rkc_overflow();
@@ -147,4 +186,5 @@ fn main() {
     bad_derivative_written();
     bad_candidate();
     cut_count();
+    rkmc2_case();
 }
