@@ -1,5 +1,5 @@
--- What is permitted, as facts: from the smallest count to the largest, and odd where it must be. Every permitted count is from 2 to 1000 (`permitted-range`), of
--- RKL and RKG from 2 to 200 (`orthogonal-range`). Assumes nothing.
+-- What is permitted, as facts: from the smallest count to the largest, and odd where it must be. Every permitted count is from 2 to 1000
+-- (`permitted-range`), of RKL and RKG from 2 to 200 (`orthogonal-range`). Assumes nothing.
 use mathlib.Core.Path.{_≡_}
 use Prim.Native.Nat.{ℕ, _%_, _≤_}
 use native.Mathlib.Nat.{le-refl, le-trans}
@@ -7,7 +7,8 @@ use mathlib.Core.Bool.{Bool, true, false, not, _&&_, _||_}
 use lib.Dec.{T, leb, eqb, leb→le, le→leb, eqb→eq, lit≤}
 use lib.Ieee.Fits.{and-l, and-r, and-i, eq→eqb}
 use Rattle.family.specs.declared.Facts.{Facts}
-use Rattle.family.specs.Family.{Family, Orthogonal, Legendre1, Legendre2, Gegenbauer1, Gegenbauer2, made-of, RKC, RKL1, RKL2, RKG1, RKG2, RKMC2, smallest-count, largest-count, odd-only, permitted, facts-of, most-stages}
+use Rattle.family.specs.Family.{Family, RKC, RKL1, RKL2, RKG1, RKG2, RKMC2, smallest-count, largest-count, odd-only, permitted, facts-of, most-stages}
+use Rattle.family.specs.Family.{Orthogonal, Legendre1, Legendre2, Gegenbauer1, Gegenbauer2, made-of}
 
 pub record Permitted (f : Family) (s : ℕ) : Type 0 where
   pub from : smallest-count f ≤ s

@@ -1,4 +1,5 @@
--- The families, and how many stages each runs: family.rs. Document 01, "family.rs: stage counts", and document 02, CR 1. ⊕ ⊖ ⊗ ⊘ are operations on doubles: they round.
+-- The families, and how many stages each runs: family.rs. Document 01, "family.rs: stage counts", and document 02, CR 1.
+-- ⊕ ⊖ ⊗ ⊘ are operations on doubles: they round.
 use Prim.Native.Nat.{ℕ, _+_, _%_, min, max}
 use mathlib.Core.Bool.{Bool, true, false, cond, not, _&&_, _||_}
 use lib.Dec.{leb, eqb}

@@ -1,15 +1,12 @@
 -- Every entry is above 0. Computed once for the whole table. Assumes nothing.
 use Prim.Native.Nat.{ℕ, _+_, _≤_, _<_}
-use mathlib.Core.Bool.{Bool, false}
+use mathlib.Core.Bool.{Bool}
 use native.Mathlib.Omega.{arith}
 use lib.Dec.{T}
-use lib.IntN.{pos}
-use lib.Ieee.{Float, fin, lt, ofBits}
+use lib.Ieee.{lt, ofBits}
+use Rattle.ieee.specs.Double.{nought}
 use Rattle.ieee.proofs.Every.{every, among}
 use Rattle.rkmc2_omega_one.specs.Table.{omega-one}
-
-abbrev nought : Float
-nought = fin false 0 (pos 0)
 
 test : ℕ → Bool
 test s = lt nought (omega-one s)

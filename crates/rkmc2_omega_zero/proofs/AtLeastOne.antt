@@ -1,15 +1,12 @@
 -- Every entry is at least 1. Computed once for the whole table. Assumes nothing.
 use Prim.Native.Nat.{ℕ, _+_, _≤_, _<_}
-use mathlib.Core.Bool.{Bool, false}
+use mathlib.Core.Bool.{Bool}
 use native.Mathlib.Omega.{arith}
 use lib.Dec.{T}
-use lib.IntN.{pos}
-use lib.Ieee.{Float, fin, le, ofBits}
+use lib.Ieee.{le, ofBits}
+use Rattle.ieee.specs.Double.{one}
 use Rattle.ieee.proofs.Every.{every, among}
 use Rattle.rkmc2_omega_zero.specs.Table.{omega-zero}
-
-abbrev one : Float
-one = fin false 1 (pos 0)
 
 test : ℕ → Bool
 test s = le one (omega-zero s)

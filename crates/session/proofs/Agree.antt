@@ -22,8 +22,9 @@ use Rattle.coefficients.specs.Rows.{candidate-weights}
 use Rattle.workspace.specs.declared.Arguments.{Arguments}
 use Rattle.workspace.specs.Vectors.{Vector, Vectors, _with_≔_, number, each, vector-norm, first-derivative, last-derivative, derivative, previous-two}
 use Rattle.workspace.specs.Vectors.{previous-one, next-stage, eigenvector, perturbed-state, perturbed-derivative, state, candidate, older-state}
-use Rattle.workspace.specs.Kernel.{with-direction, perturbed-by, perturbed, turned, first-stage, orthogonal-entry, chebyshev-entry, initial-first-entry, entry-in}
-use Rattle.workspace.specs.Kernel.{with-row-in, exchanged, with-candidate, with-last, error, error-in, scaled-error, scaled-error-norm, error-norm, candidate-in}
+use Rattle.workspace.specs.Kernel.{with-direction, perturbed-by, perturbed, turned, first-stage, orthogonal-entry, chebyshev-entry}
+use Rattle.workspace.specs.Kernel.{initial-first-entry, entry-in, with-row-in, exchanged, with-candidate, candidate-in, with-last, error, error-in}
+use Rattle.workspace.specs.Kernel.{scaled-error, scaled-error-norm, error-norm}
 use Rattle.workspace.proofs.Candidate.{combined-same}
 use Rattle.session.specs.Attempt.{all-but-last}
 use Rattle.session.specs.Alike.{compared, Same-vectors}

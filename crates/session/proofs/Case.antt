@@ -37,10 +37,10 @@ doubles = tt
 
 unfoldable pub attempts : Unit {0}
 unfolding smallest-count largest-count odd-only before-limits odd-step limited stage-count omega-zero omega-one-of b-first first-mu-tilde first-polynomials
-    first-polynomials-in recurrence-of with-theta legendre-one coefficients-of next-polynomials next-of each sum-of-squares root-of-squares vector-norm all-finite with-direction
-    perturbation-of perturbed-by perturbed turned radius-of ended scaled first-stage orthogonal-entry entry-in with-row-in exchanged with-candidate candidate-in
-    error-in with-last divisor-in scaled-error scaled-error-norm error-norm stage-need _>>=_ evaluate stages-for iterate spectral-radius stage-row stage-loop
-    run-recurrence finished-attempt close attempt-step closes by-rule facts-of
+    first-polynomials-in recurrence-of with-theta legendre-one coefficients-of next-polynomials next-of each sum-of-squares root-of-squares vector-norm
+    all-finite with-direction perturbation-of perturbed-by perturbed turned radius-of ended scaled first-stage orthogonal-entry entry-in with-row-in exchanged
+    with-candidate candidate-in error-in with-last divisor-in scaled-error scaled-error-norm error-norm stage-need _>>=_ evaluate stages-for iterate
+    spectral-radius stage-row stage-loop run-recurrence finished-attempt close attempt-step closes by-rule facts-of
 attempts = tt
 
 unfoldable pub sessions : Unit {0}

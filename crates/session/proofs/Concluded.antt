@@ -149,7 +149,8 @@ carries h f n y t cs q e =
       recurrence-is = p .recurrence-is;
       zero-kept = λ is. zero-of RKC is ∙ zero-taken s i;
       entry-read = λ is. one-of RKC is ∙ entry-taken s i;
-      entry-close = λ is. let r = chebyshev is in subst (λ (w : Float). Close 36 w (Chebyshev.omega-one s)) (sym (one-of RKC is)) (close-taken s i (r .0) (r .1));
+      entry-close = λ is. let r = chebyshev is in
+          subst (λ (w : Float). Close 36 w (Chebyshev.omega-one s)) (sym (one-of RKC is)) (close-taken s i (r .0) (r .1));
       rkmc2-zero-read = λ is. zero-of RKMC2 is ∙ rkmc2-zero-taken s i;
       rkmc2-one-read = λ is. one-of RKMC2 is ∙ rkmc2-one-taken s i;
       rkmc2-zero-from-one = λ is. let r = combined is in subst (λ (w : Float). T (le one w)) (sym (zero-of RKMC2 is)) (zero-from-one s i (r .0) (r .1));

@@ -163,7 +163,8 @@ module _ (g : Held) (a : Arguments) (m : ℕ) (x : Held) (u : Underway g a m x) 
         replies-are = omega arith;
         from-two = (let l = i .from-two in omega arith);
         to-last = (let l = below in omega arith);
-        recurrence-is = carried-next (setting-of (x .kept)) (stages-of x) (x .kept .staging .stage) (x .kept .staging .recurrence) (i .from-two) (i .recurrence-is);
+        recurrence-is = carried-next (setting-of (x .kept)) (stages-of x) (x .kept .staging .stage) (x .kept .staging .recurrence) (i .from-two)
+            (i .recurrence-is);
         attempts-are = i .attempts-are;
       };
     };

@@ -1,5 +1,6 @@
 -- The smallest count whose threshold is at least r (`smallest`), found by halving where the thresholds are positive and rise (`found`): for every r, a NaN and
--- the infinities too. And what makes a count the smallest (`is-smallest`) and where it lies (`smallest-from`, `smallest-to`), whether they rise or not. Assumes nothing.
+-- the infinities too. And what makes a count the smallest (`is-smallest`) and where it lies (`smallest-from`, `smallest-to`), whether they rise or not.
+-- Assumes nothing.
 use mathlib.Core.Path.{_≡_, refl, ap, _∙_, subst}
 use mathlib.Core.Logic.{inl, inr}
 use mathlib.Core.Bool.{Bool, true, false, not, cond}

@@ -32,6 +32,7 @@ module _ (m : Setting) (n : ℕ) (step : Float) (s : ℕ) (c : Recurrence) (row 
   candidate-combined e = ap (λ (f : Family). candidate-in (facts-of f .candidate) m n step s c row v) e
 
 pub combined-same : (n : ℕ) (step : Float) (weights : Weights) (v w : Vectors) → v state ≡ w state → v next-stage ≡ w next-stage
-    → v previous-two ≡ w previous-two → v first-derivative ≡ w first-derivative → each n v (combined-entry step weights) ≡ each n w (combined-entry step weights)
+    → v previous-two ≡ w previous-two → v first-derivative ≡ w first-derivative
+    → each n v (combined-entry step weights) ≡ each n w (combined-entry step weights)
 unfolding each combined-entry
 combined-same n step weights v w a b c d = rw (a, b, c, d)

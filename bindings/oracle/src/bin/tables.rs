@@ -227,16 +227,13 @@ const AT_LEAST_ONE: Rule = Rule {
     text: "\
 -- Every entry is at least 1. Computed once for the whole table. Assumes nothing.
 use Prim.Native.Nat.{ℕ, _+_, _≤_, _<_}
-use mathlib.Core.Bool.{Bool, false}
+use mathlib.Core.Bool.{Bool}
 use native.Mathlib.Omega.{arith}
 use lib.Dec.{T}
-use lib.IntN.{pos}
-use lib.Ieee.{Float, fin, le, ofBits}
+use lib.Ieee.{le, ofBits}
+use Rattle.ieee.specs.Double.{one}
 use Rattle.ieee.proofs.Every.{every, among}
 use Rattle.rkmc2_<name>·specs.specs.Table.{<spec>}
-
-abbrev one : Float
-one = fin false 1 (pos 0)
 
 test : ℕ → Bool
 test s = le one (<spec> s)
@@ -256,16 +253,13 @@ const ABOVE_ZERO: Rule = Rule {
     text: "\
 -- Every entry is above 0. Computed once for the whole table. Assumes nothing.
 use Prim.Native.Nat.{ℕ, _+_, _≤_, _<_}
-use mathlib.Core.Bool.{Bool, false}
+use mathlib.Core.Bool.{Bool}
 use native.Mathlib.Omega.{arith}
 use lib.Dec.{T}
-use lib.IntN.{pos}
-use lib.Ieee.{Float, fin, lt, ofBits}
+use lib.Ieee.{lt, ofBits}
+use Rattle.ieee.specs.Double.{nought}
 use Rattle.ieee.proofs.Every.{every, among}
 use Rattle.rkmc2_<name>·specs.specs.Table.{<spec>}
-
-abbrev nought : Float
-nought = fin false 0 (pos 0)
 
 test : ℕ → Bool
 test s = lt nought (<spec> s)

@@ -45,7 +45,8 @@ unfolding omega-one-of family-of
 returns-5 c = rw (c .omega-one2 .ensures, c .before .match .keys5)
 
 returns-6 : tie.Need-returns-6
-returns-6 c = let r = c .before .match .rest in rw (c .gegenbauer-two-omega .ensures, last-family _ (r .0 .0 .0 .0 .1) (r .0 .0 .0 .1) (r .0 .0 .1) (r .0 .1) (r .1))
+returns-6 c = let r = c .before .match .rest in
+    rw (c .gegenbauer-two-omega .ensures, last-family _ (r .0 .0 .0 .0 .1) (r .0 .0 .0 .1) (r .0 .0 .1) (r .0 .1) (r .1))
 
 pub omega-one-spec : {M : Type 1} → statement M
 omega-one-spec =

@@ -25,7 +25,8 @@ returns-2 c = λ v r. rw (r .0, r .1, r .2, r .3, r .4, c .before .before .befor
 
 returns-3 : tie.Need-returns-3
 unfolding entry-in initial-first-entry Reads ofBits
-returns-3 c = λ v r. rw (r .0, r .1, r .2, r .3, r .4, c .before .before .before .before .before .before .before .before .before .before .before .enum-told3 .given .1)
+returns-3 c = λ v r.
+    rw (r .0, r .1, r .2, r .3, r .4, c .before .before .before .before .before .before .before .before .before .before .before .enum-told3 .given .1)
 
 pub entry-of-spec : {M : Type 1} → statement M
 entry-of-spec = tie.close (tie.spec enum-told enum-told-2 enum-told-3 returns returns-2 returns-3)
