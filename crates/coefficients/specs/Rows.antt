@@ -156,7 +156,7 @@ chebyshev c = let p = c .polynomials in
     let theta = mu ⊗ c .«theta_previous» ⊕ nu ⊗ c .«theta_previous_two» ⊕ mu~ ⊗ (one ⊖ nu~) in
     record { mu = mu; nu = nu; «mu_tilde» = mu~; «gamma_tilde» = nu~; theta = theta }
 
--- RKMC2: b, and the row, with b_previous where the others have `gamma_tilde`
+-- RKMC2: b, and the row, with b_previous where RKL and RKG have `gamma_tilde` and RKC has `nu_tilde`
 unfoldable pub rkmc2-b-of : Polynomials → Float
 rkmc2-b-of p = one ⊘ (one ⊕ value-of p)
 

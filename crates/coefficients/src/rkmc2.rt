@@ -1,5 +1,5 @@
 // `run_rkmc2` of chebyshev.rs: the recurrence of the Chebyshev polynomials, and the weights of the candidate. omega_zero and
-// omega_one are tables by s, read once, when the stages begin.
+// omega_one are tables by s, read only when the stages begin.
 ghost use mathlib.Core.Path.{_≡_};
 ghost use Rattle.family.specs.Family.{RKMC2};
 ghost use Rattle.coefficients.specs.Rows as rows;
@@ -101,8 +101,8 @@ pub fn candidate_weights(s: u64, c: Recurrence) -> Weights
     ensures { λ r. ⌜ r ≡ rows.candidate-weights s c ⌝ }
 {
     let p = c.polynomials;
-    let value = 2.0 * p.omega_zero * p.value_previous - p.value_previous_two;
-    let b_final = 1.0 / (1.0 + value);
+    let after = next_polynomials(p);
+    let b_final = after.b_previous;
     let degree = ieee::double_of(s);
     let gamma = p.b_previous / (2.0 * degree * p.omega_one);
     let delta = -p.b_previous / (2.0 * (degree - 2.0) * p.omega_one);

@@ -1,6 +1,6 @@
 -- What is permitted, as facts: from the smallest count to the largest, and odd where it must be. Every permitted count is from 2 to 1000
--- (`permitted-range`), of RKL and RKG from 2 to 200 (`orthogonal-range`). Assumes nothing.
-use mathlib.Core.Path.{_≡_}
+-- (`permitted-range`), which RKMC2 reaches (`largest-reached`), of RKL and RKG from 2 to 200 (`orthogonal-range`). Assumes nothing.
+use mathlib.Core.Path.{_≡_, refl}
 use Prim.Native.Nat.{ℕ, _%_, _≤_}
 use native.Mathlib.Nat.{le-refl, le-trans}
 use mathlib.Core.Bool.{Bool, true, false, not, _&&_, _||_}
@@ -100,6 +100,10 @@ largest-permitted f = let x = sound-says f in record {
   to = le-refl (largest-count f);
   odd = odd-so (odd-only f) (largest-count f) (x .odd-largest);
 }
+
+pub largest-reached : largest-count RKMC2 ≡ most-stages
+unfolding largest-count facts-of
+largest-reached = refl
 
 pub largest-to : (f : Family) → largest-count f ≤ most-stages
 largest-to f = sound-says f .to-most

@@ -52,6 +52,10 @@ made-of Gegenbauer2 = RKG2
 -- ---- each family's facts: its permitted counts (smallest, largest, only odd ones), its stage rule, whether its area keeps an older state, and the forms of
 -- its rows, its error and its candidate
 
+-- the largest count of any family, RKMC2's
+abbrev pub most-stages : ℕ
+most-stages = 1000
+
 -- what RKL and RKG share
 abbrev pub orthogonal : ℕ → ℕ → Bool → StageRule → Facts
 orthogonal smallest largest odd rule = record {
@@ -82,7 +86,7 @@ facts-of RKG1 = orthogonal 2 200 false (RoundedUp nine sixteen three)
 facts-of RKG2 = orthogonal 3 200 false (RoundedUp twenty-five twenty-four three)
 facts-of RKMC2 = record {
   smallest = 3;
-  largest = 1000;
+  largest = most-stages;
   «odd_only» = false;
   rule = ByThreshold;
   «keeps_older» = false;
@@ -98,10 +102,6 @@ smallest-count f = facts-of f .smallest
 
 unfoldable pub largest-count : Family → ℕ
 largest-count f = facts-of f .largest
-
--- the largest of any family
-abbrev pub most-stages : ℕ
-most-stages = 1000
 
 unfoldable pub odd-only : Family → Bool
 odd-only f = facts-of f .«odd_only»

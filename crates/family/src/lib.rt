@@ -8,7 +8,7 @@ ghost use Rattle.family.specs.declared.StageRule.the-variants.{RoundedUp
 ghost use Rattle.family.specs.Family as spec;
 ghost use Rattle.family.specs.Family.{family-of, keeps-older, before-limits, odd-step, stage-count};
 
-// The largest count of any family.
+// The largest count of any family, RKMC2's.
 pub const MOST_STAGES: u64 = 1000;
 
 // What an attempt runs under.
@@ -97,7 +97,7 @@ fn rkmc2() -> Facts
 {
     Facts {
         smallest: 3,
-        largest: 1000,
+        largest: MOST_STAGES,
         odd_only: false,
         rule: StageRule::ByThreshold,
         keeps_older: false,

@@ -1,6 +1,6 @@
 -- The record as it is lent: its whole numbers w, in the order of the record's fields, and its doubles x. Of these a value and its predecessor (`b_previous` and
 -- `b_previous_two`, ..) do not stand side by side. The compiler would read such two at once, and that read waits until the reply before has stored them one by
--- one, which RKC's next coefficients wait for.
+-- one, which RKC's and RKMC2's next coefficients wait for.
 use Prim.Native.Nat.{ℕ}
 use mathlib.Core.List.{List}
 use lib.ListN.{getD}

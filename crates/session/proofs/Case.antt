@@ -29,7 +29,7 @@ use Rattle.session.specs.Session.{at-rest, after-attempt, waiting, finis
 use Rattle.session.specs.Session.{session-seen, rests, has-tried, waits, waits-with-room, takes, session, fresh}
 use Rattle.session.proofs.Sequences.{every-sequence}
 
--- opens, where it is named on an `unfolding` line, what a double's operation, an attempt of RKL1 and a session are made of
+-- opens, where it is named on an `unfolding` line, what a double's operation, an attempt (its rows, of RKL1) and a session are made of
 unfoldable pub doubles : Unit {0}
 unfolding toBits add sub mul div neg le lt eq ofInt round toUnsigned sum units odd size span climb isNan trailingZeros root-below root halves root-units sqrt
     abs max floor ceil double nearest square min-positive root-epsilon
@@ -95,13 +95,17 @@ case = refl
 
 -- ---- and so of the calls
 
-starts : (size : ℕ) (counts : Counters) → size ≡ 11 → takes size (fresh counts) (Start 2 1 (one ∷ []) nought) ≡ true
-unfolding sessions all-finite
-starts size counts l = rw l refl
+-- of a start that is taken, with nothing counted before
+pub from-start : (h : Held) (size f n : ℕ) (y : List Float) (t : Float) (cs : List Call) → length (h .area) ≡ size → h .counters ≡ zeroes
+    → takes size (fresh zeroes) (Start f n y t) ≡ true → seen-of h (Start f n y t ∷ cs) ≡ session size (fresh zeroes) (Start f n y t ∷ cs)
+from-start h size f n y t cs l e start =
+    let taken = ap₂ (λ (size : ℕ) (counts : Counters). takes size (fresh counts) (Start f n y t)) l e ∙ start in
+    every-sequence h f n y t cs taken ∙ ap₂ (λ (size : ℕ) (counts : Counters). session size (fresh counts) (Start f n y t ∷ cs)) l e
 
-as-session : (h : Held) → length (h .area) ≡ 11 → seen-of h calls ≡ session (length (h .area)) (fresh (h .counters)) calls
-unfolding calls
-as-session h l = every-sequence h 2 1 (one ∷ []) nought _ (starts (length (h .area)) (h .counters) l)
+starts : takes 11 (fresh zeroes) (Start 2 1 (one ∷ []) nought) ≡ true
+unfolding sessions all-finite zeroes
+starts = refl
 
 pub case-of-calls : (h : Held) → length (h .area) ≡ 11 → h .counters ≡ zeroes → map numbers (seen-of h calls) ≡ numbers-in-case
-case-of-calls h l e = ap (map numbers) (as-session h l ∙ ap₂ (λ (size : ℕ) (counts : Counters). session size (fresh counts) calls) l e) ∙ case
+unfolding calls
+case-of-calls h l e = ap (map numbers) (from-start h 11 2 1 (one ∷ []) nought _ l e starts) ∙ case

@@ -108,7 +108,7 @@ exchanged v = v
 unfoldable pub combined-entry : Float → Weights → (Vector → Float) → Float
 combined-entry h w x = w .initial ⊗ x state ⊕ w .last ⊗ x next-stage ⊕ w .older ⊗ x previous-two ⊕ h ⊗ w .slope ⊗ x first-derivative
 
--- the candidate after stage s, whose row and recurrence these are: the last stage itself, or RKMC2's combination
+-- the candidate after stage s, into which c was carried: the last stage itself, or RKMC2's combination (neither reads the row of stage s)
 unfoldable pub candidate-in : CandidateForm → Setting → ℕ → Float → ℕ → Recurrence → Coefficients → Vectors → List Float
 candidate-in LastStage m n step s c row v = v next-stage
 candidate-in Combined m n step s c row v = each n v (combined-entry step (candidate-weights s c))

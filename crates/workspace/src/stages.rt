@@ -73,7 +73,7 @@ fn entries_at(ten: &[f64], n: usize, i: usize, slope: f64) -> Entries
     gather(one, two, initial, slope, first)
 }
 
-// An element of the row, from what it reads of its column.
+// An element of the row, from what it reads of its column. `sum` serves the first two forms.
 fn entry_of(form: RowForm, c: Coefficients, step: f64, x: Entries) -> f64
     ensures { λ r. ⌜ ((v : Vector → Float) → Reads x v → r ≡ entry-in form step c v) ⌝ }
 {
@@ -347,15 +347,16 @@ fn combine(area: &mut [f64], n: usize, step: f64, w: Weights)
         let final_stage = area[NEXT_STAGE * n + i];
         let older_stage = area[PREVIOUS_TWO * n + i];
         let first = area[FIRST_DERIVATIVE * n + i];
-        area[CANDIDATE * n + i] = w.initial * initial
+        let combined = w.initial * initial
             + w.last * final_stage
             + w.older * older_stage
             + step * w.slope * first;
+        area[CANDIDATE * n + i] = combined;
         i += 1;
     }
 }
 
-// The candidate after stage s, whose row and recurrence these are.
+// The candidate after stage s, into which c was carried.
 pub fn keep_candidate(
     area: &mut [f64],
     n: usize,
