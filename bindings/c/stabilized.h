@@ -93,8 +93,9 @@ enum {
 
 /* The record: what the engine keeps beside the area, its whole numbers and its doubles. All zeros is one to begin with. A
  * call that is turned away with 1 to 8 leaves it as it was. The doubles are the attempt's arguments, the power iteration's
- * (perturbation, previous_radius, scaled_radius) and what the stages carry on, theta and, for RKC and RKMC2 alone, the
- * others; they stand in the order in which the engine reads them fastest. */
+ * (perturbation, previous_radius, scaled_radius) and what the stages carry on: theta; for RKC and RKMC2 also omega, b and
+ * value; for RKC alone first and second, which RKMC2 sets to 0 and carries along. They stand in the order in which the
+ * engine reads them fastest. */
 typedef struct {
   uint64_t family;
   uint64_t n;

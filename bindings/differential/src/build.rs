@@ -1,12 +1,22 @@
 //! The build that a run is made on: compiler, C library, processor, and the tables that were taken from them.
-use oracle::{RKMC2, permitted, rows, thresholds};
+use oracle::thresholds::{self, Disagreement, UNITS};
+use oracle::{RKMC2, permitted, rows};
+use std::env;
 use std::fmt::{Display, Formatter, Result};
+use std::ops::Range;
 use std::path::Path;
 use std::process::Command;
 
-/// The build that the tables were taken from, and that a differential run is made on. The C library takes fused variants of
-/// exp and pow where the processor has both features.
-pub const NAMED: [&str; 3] = ["rustc 1.95.0", "GLIBC 2.36", "FMA and AVX2"];
+/// The build that the tables were taken from, and that a differential run is made on: compiler, C library and processor.
+/// Where the processor has both features, the C library takes fused variants of exp and expm1, of which sinh and cosh are
+/// made, and of pow.
+pub const NAMED: [&str; 3] = ["rustc 1.95.0", "GLIBC 2.36", "x86-64 with FMA and AVX2"];
+
+/// Whether these lines are those of the named build, as many as there are.
+pub fn as_named(lines: &[String]) -> bool {
+    let mut pairs = lines.iter().zip(NAMED);
+    pairs.all(|(line, name)| line.contains(name))
+}
 
 fn first_line(program: &str, argument: &str) -> String {
     Command::new(program).arg(argument).output().map_or_else(
@@ -21,11 +31,21 @@ fn first_line(program: &str, argument: &str) -> String {
     )
 }
 
-fn processor() -> &'static str {
-    if is_x86_feature_detected!("fma") && is_x86_feature_detected!("avx2") {
-        "x86-64 with FMA and AVX2"
-    } else {
-        "x86-64 without FMA or without AVX2"
+/// What the processor has of the two features, and what the C library is told, since that can turn them off.
+fn processor() -> String {
+    let features = [
+        ("FMA", is_x86_feature_detected!("fma")),
+        ("AVX2", is_x86_feature_detected!("avx2")),
+    ];
+    let missing = features.iter().filter(|(_, present)| !present);
+    let missing: Vec<&str> = missing.map(|(name, _)| *name).collect();
+    let has = match missing[..] {
+        [] => "with FMA and AVX2".to_string(),
+        _ => format!("without {}", missing.join(" and ")),
+    };
+    match env::var("GLIBC_TUNABLES") {
+        Ok(told) => format!("x86-64 {has}; GLIBC_TUNABLES={told}"),
+        Err(_) => format!("x86-64 {has}"),
     }
 }
 
@@ -34,7 +54,7 @@ pub fn lines() -> [String; 3] {
     [
         first_line("rustc", "--version"),
         first_line("ldd", "--version"),
-        processor().to_string(),
+        processor(),
     ]
 }
 
@@ -43,15 +63,19 @@ struct Table {
     name: &'static str,
     family: u64,
     file: &'static str,
-    /// The count of the file's first entry, and those that the table is for.
-    from: usize,
+    /// The counts that the file has an entry for, and those that the table is for.
+    held: Range<usize>,
     counts: Vec<usize>,
     /// The Rust's entry on this build.
     rust: fn(usize) -> f64,
 }
 
+const RKMC2_OMEGA_ZERO: &str = "RKMC2's omega_zero";
 const RKMC2_OMEGA_ONE: &str = "RKMC2's omega_one";
 const THRESHOLD: &str = "RKMC2's threshold";
+
+/// RKMC2's files have 63 rows of 16 counts.
+const IN_ROWS: Range<usize> = 0..1008;
 
 fn tables() -> [Table; 4] {
     [
@@ -59,23 +83,23 @@ fn tables() -> [Table; 4] {
             name: "RKC's omega_one",
             family: 1,
             file: "coefficients",
-            from: 2,
+            held: 2..201,
             counts: permitted(1).collect(),
             rust: |s| rows(1, s).omega_one,
         },
         Table {
-            name: "RKMC2's omega_zero",
+            name: RKMC2_OMEGA_ZERO,
             family: RKMC2,
             file: "rkmc2_omega_zero",
-            from: 0,
+            held: IN_ROWS,
             counts: permitted(RKMC2).collect(),
-            rust: |s| rows(RKMC2, s).omega_zero.expect("RKMC2's omega_zero"),
+            rust: |s| rows(RKMC2, s).omega_zero.expect(RKMC2_OMEGA_ZERO),
         },
         Table {
             name: RKMC2_OMEGA_ONE,
             family: RKMC2,
             file: "rkmc2_omega_one",
-            from: 0,
+            held: IN_ROWS,
             counts: permitted(RKMC2).collect(),
             rust: |s| rows(RKMC2, s).omega_one,
         },
@@ -83,7 +107,7 @@ fn tables() -> [Table; 4] {
             name: THRESHOLD,
             family: RKMC2,
             file: "rkmc2_threshold",
-            from: 0,
+            held: IN_ROWS,
             counts: thresholds::COUNTS.collect(),
             rust: thresholds::threshold,
         },
@@ -102,21 +126,27 @@ impl Table {
             .filter_map(|word| word.strip_prefix("0x"))
             .map(|digits| u64::from_str_radix(digits, 16).expect("hexadecimal digits"))
             .collect();
-        let entry = |s: &usize| entries[s - self.from];
+        assert_eq!(
+            entries.len(),
+            self.held.len(),
+            "entries of {}",
+            file.display()
+        );
+        let entry = |s: &usize| entries[s - self.held.start];
         self.counts.iter().map(entry).collect()
     }
 
     fn departures(&self) -> Vec<Departure> {
         let entries = self.counts.iter().zip(self.stored());
         entries
-            .map(|(&count, stored)| (count, stored, (self.rust)(count).to_bits()))
-            .filter(|(_, stored, bits)| stored != bits)
-            .map(|(count, _, bits)| Departure {
+            .map(|(&count, stored)| Departure {
                 table: self.name,
                 family: self.family,
                 count,
-                bits,
+                stored,
+                rust: (self.rust)(count).to_bits(),
             })
+            .filter(|entry| entry.stored != entry.rust)
             .collect()
     }
 }
@@ -127,32 +157,43 @@ pub struct Departure {
     pub table: &'static str,
     pub family: u64,
     pub count: usize,
-    /// The Rust's.
-    pub bits: u64,
+    /// The bits of the two.
+    pub stored: u64,
+    pub rust: u64,
 }
 
 impl Display for Departure {
     fn fmt(&self, formatter: &mut Formatter<'_>) -> Result {
         let Self {
-            table, count, bits, ..
+            table,
+            count,
+            stored,
+            rust,
+            ..
         } = self;
-        write!(formatter, "{table} of s = {count} is {bits:016X}")
+        write!(
+            formatter,
+            "{table} of s = {count} is {rust:016X}, stored is {stored:016X}"
+        )
     }
 }
 
-/// What departs where the C library takes no fused variants.
+/// What departs where the C library takes no fused variants. Of the doubles near a threshold 40B7A61A4CA5CE08 alone then has
+/// two counts: 193 by thresholds, 194 by the Rust.
 pub const UNFUSED: [Departure; 2] = [
     Departure {
         table: RKMC2_OMEGA_ONE,
         family: RKMC2,
         count: 264,
-        bits: 0x3F27_C0C2_8D7C_DC82,
+        stored: 0x3F27_C0C2_8D7C_DC84,
+        rust: 0x3F27_C0C2_8D7C_DC82,
     },
     Departure {
         table: THRESHOLD,
         family: RKMC2,
         count: 193,
-        bits: 0x40B7_A61A_4CA5_CE07,
+        stored: 0x40B7_A61A_4CA5_CE08,
+        rust: 0x40B7_A61A_4CA5_CE07,
     },
 ];
 
@@ -174,6 +215,28 @@ pub fn departures() -> Vec<Departure> {
 
 /// RKMC2's thresholds as they are stored.
 pub fn stored_thresholds() -> Vec<f64> {
-    let [.., table] = tables();
-    table.stored().into_iter().map(f64::from_bits).collect()
+    let mut tables = tables().into_iter();
+    let table = tables.find(|table| table.name == THRESHOLD);
+    let stored = table.expect(THRESHOLD).stored();
+    stored.into_iter().map(f64::from_bits).collect()
+}
+
+/// The doubles near a threshold on which the counts by the stored thresholds and by the Rust must disagree: those between
+/// the two entries of a threshold that departs.
+pub fn disagreements(departures: &[Departure]) -> Vec<Disagreement> {
+    let of_thresholds = departures.iter().filter(|found| found.table == THRESHOLD);
+    of_thresholds.flat_map(Departure::disagreements).collect()
+}
+
+impl Departure {
+    fn disagreements(&self) -> impl Iterator<Item = Disagreement> {
+        let (count, stored, rust) = (self.count, self.stored, self.rust);
+        (stored - UNITS..=stored + UNITS)
+            .map(move |bits| Disagreement {
+                radius: f64::from_bits(bits),
+                by_thresholds: count + usize::from(bits > stored),
+                by_the_rust: count + usize::from(bits > rust),
+            })
+            .filter(|found| found.by_thresholds != found.by_the_rust)
+    }
 }

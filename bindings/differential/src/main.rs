@@ -2,48 +2,46 @@
 //! reached.
 //! differential scenario SEED, differential call SEED: one of them again.
 use differential::build::{self, Departure};
+use differential::pair::SHORT;
 use differential::random::mixed;
 use differential::random_calls::{self, Answers};
-use differential::scenarios::{self, Coverage, DIMENSIONS, ENDINGS};
-use oracle::thresholds::{self, UNITS};
+use differential::scenarios::{self, Counted, Coverage, DIMENSIONS, EARLY, ENDINGS};
+use oracle::thresholds::{self, Disagreement, UNITS};
 use std::ops::RangeInclusive;
 use std::process::ExitCode;
 
 /// How much is run.
 struct Size {
-    /// Dimensions in which every count of stages is run.
+    /// Dimensions that the counts of stages are run in.
     dimensions: &'static [usize],
-    /// Each count of stages in every dimension with every count of passes, or one of them; see `runs` and `passes`.
-    every_pass: bool,
+    /// Every dimension, and every count of passes up to SHORT stages; else one count of passes, and one dimension above SHORT.
+    whole: bool,
     attempts: u64,
     calls: u64,
 }
 
 const QUICK: Size = Size {
     dimensions: &[1, 8],
-    every_pass: false,
+    whole: false,
     attempts: 20_000,
     calls: 200_000,
 };
 const LONG: Size = Size {
     dimensions: &DIMENSIONS,
-    every_pass: true,
+    whole: true,
     attempts: 200_000,
     calls: 5_000_000,
 };
 
-/// The largest count of the families but RKMC2. Above it attempts are long, and fewer are made.
-const SHORT: usize = 200;
-
 impl Size {
-    /// Whether a count is run in the dimension at this place: a long one in one of two, if not every pass is run.
+    /// Whether a count is run in the dimension at this place.
     fn runs(&self, stages: usize, at: usize) -> bool {
-        self.every_pass || stages <= SHORT || stages % self.dimensions.len() == at
+        self.whole || stages <= SHORT || stages % self.dimensions.len() == at
     }
 
-    /// The counts of passes that a count of stages is run with.
+    /// The counts of passes that a count of stages is run with: one where attempts take long.
     fn passes(&self, stages: usize, n: usize) -> RangeInclusive<usize> {
-        if self.every_pass && n < 512 && stages <= SHORT {
+        if self.whole && n < 512 && stages <= SHORT {
             return 2..=12;
         }
         let one = 2 + stages % 11;
@@ -82,29 +80,30 @@ fn all(size: &Size, seed: u64) -> Result<(), String> {
     Ok(())
 }
 
-/// The build, its tables against the engine's, and RKMC2's counts near its thresholds. On the named build a table that
-/// departs is a fault; elsewhere, and where the C library takes no fused variants, what departs is left out.
+/// The build, its tables against the engine's, and RKMC2's counts near its thresholds. With the compiler and the C library of
+/// the named build nothing departs, or what is known to depart without fused variants: anything else is a fault. With others
+/// what departs is left out.
 fn tables() -> Result<Vec<Departure>, String> {
     let lines = build::lines();
     for line in &lines {
         println!("{line}");
     }
     let departures = build::departures();
-    let mut pairs = lines.iter().zip(build::NAMED);
-    let named = pairs.all(|(line, name)| line.contains(name));
-    let listed: Vec<String> = departures.iter().map(Departure::to_string).collect();
-    let listed = listed.join(", ");
+    for found in &departures {
+        println!("In the Rust {found}");
+    }
     if departures == build::UNFUSED {
         println!(
-            "The C library takes no fused variants of exp and pow here, for which the processor must have FMA and AVX2. \
-             Therefore in the Rust {listed}."
+            "The C library takes no fused variants of exp and expm1, of which sinh and cosh are made, nor of pow. It needs \
+             FMA and AVX2 for them: the processor lacks one, or the C library is told to do without."
         );
-    } else if named && !departures.is_empty() {
-        return Err(format!("this is the named build, and in the Rust {listed}"));
+    } else if build::as_named(&lines[..2]) && !departures.is_empty() {
+        let fault = "compiler and C library are those of the named build, and this is not known to depart there";
+        return Err(fault.to_string());
     }
-    if !named || !departures.is_empty() {
+    if !build::as_named(&lines) || !departures.is_empty() {
         println!(
-            "This is not the named build ({}): no differential run.",
+            "This run does not count as one on the named build ({}).",
             build::NAMED.join(", ")
         );
     }
@@ -112,17 +111,22 @@ fn tables() -> Result<Vec<Departure>, String> {
     Ok(departures)
 }
 
-/// RKMC2's counts by the stored thresholds beside the Rust's. None is known to differ.
+/// RKMC2's counts by the stored thresholds beside the Rust's: they disagree where a threshold departs, and nowhere else.
 fn near_thresholds(departures: &[Departure]) -> Result<(), String> {
     let (compared, disagreements) = thresholds::compared(&build::stored_thresholds());
     println!(
         "RKMC2's counts: {compared} doubles within {UNITS} units of a threshold, {} disagree",
         disagreements.len()
     );
-    match disagreements.first() {
-        Some(found) if departures.is_empty() => Err(format!("{found:?}")),
-        _ => Ok(()),
+    for found in &disagreements {
+        println!("{found}");
     }
+    let known = build::disagreements(departures);
+    if disagreements == known {
+        return Ok(());
+    }
+    let known: Vec<String> = known.iter().map(Disagreement::to_string).collect();
+    Err(format!("known to disagree: [{}]", known.join("; ")))
 }
 
 /// Every permitted count, and random sessions of the families whose tables are those of the named build: a session may come
@@ -130,11 +134,9 @@ fn near_thresholds(departures: &[Departure]) -> Result<(), String> {
 fn run_scenarios(size: &Size, seed: u64, departures: &[Departure]) -> Result<(), String> {
     let mut coverage = Coverage::default();
     every_count(size, seed, departures, &mut coverage)?;
-    let departs = |family: &u64| departures.iter().any(|found| found.family == *family);
-    let families: Vec<u64> = oracle::FAMILIES
-        .into_iter()
-        .filter(|family| !departs(family))
-        .collect();
+    every_early_ending(seed, departures, &mut coverage)?;
+    let as_stored = |family: &u64| departures.iter().all(|found| found.family != *family);
+    let families: Vec<u64> = oracle::FAMILIES.into_iter().filter(as_stored).collect();
     let mut index = 0;
     while coverage.attempts < size.attempts {
         let seed = mixed(seed ^ mixed(index));
@@ -165,7 +167,14 @@ fn reached(missing: Vec<String>) -> Result<(), String> {
     Err(format!("not reached: {}", missing.join(", ")))
 }
 
-/// Every permitted count of stages of every family.
+/// Whether an attempt comes to a count whose table's entry departs.
+fn departs(departures: &[Departure], counted: &Counted) -> bool {
+    let here = (counted.family, counted.stages);
+    let mut found = departures.iter();
+    found.any(|found| (found.family, found.count) == here)
+}
+
+/// Every permitted count of stages of every family, and one pass, with the least.
 fn every_count(
     size: &Size,
     seed: u64,
@@ -174,26 +183,43 @@ fn every_count(
 ) -> Result<(), String> {
     for (at, &n) in size.dimensions.iter().enumerate() {
         for family in oracle::FAMILIES {
-            let departs = |stages: usize| {
-                let mut found = departures.iter();
-                found.any(|found| (found.family, found.count) == (family, stages))
-            };
-            for stages in oracle::permitted(family) {
-                if departs(stages) || !size.runs(stages, at) {
-                    continue;
-                }
-                for passes in size.passes(stages, n) {
-                    scenarios::counted_attempt(family, stages, passes, n, mixed(seed), coverage)
-                        .map_err(|difference| {
-                            format!(
-                                "{} s {stages} k {passes} n {n}: {difference}",
-                                oracle::name(family)
-                            )
-                        })?;
+            let (least, _) = oracle::ends(family);
+            let attempts = oracle::permitted(family)
+                .filter(|stages| size.runs(*stages, at))
+                .flat_map(|stages| size.passes(stages, n).map(move |passes| (stages, passes)))
+                .chain([(least, 1)]);
+            for (stages, passes) in attempts {
+                let counted = Counted {
+                    family,
+                    stages,
+                    passes,
+                    n,
+                };
+                if !departs(departures, &counted) {
+                    scenarios::counted_attempt(&counted, seed, coverage)?;
                 }
             }
-            let (least, _) = oracle::ends(family);
-            scenarios::counted_attempt(family, least, 1, n, mixed(seed), coverage)?;
+        }
+    }
+    Ok(())
+}
+
+/// Every early ending of every family, with its largest count.
+fn every_early_ending(
+    seed: u64,
+    departures: &[Departure],
+    coverage: &mut Coverage,
+) -> Result<(), String> {
+    for family in oracle::FAMILIES {
+        let (_, stages) = oracle::ends(family);
+        let counted = Counted {
+            family,
+            stages,
+            passes: 12,
+            n: 3,
+        };
+        if !departs(departures, &counted) {
+            scenarios::early_attempts(&counted, seed, coverage)?;
         }
     }
     Ok(())
@@ -205,24 +231,36 @@ fn report(coverage: &Coverage) {
         coverage.scenarios, coverage.attempts, coverage.evaluations, coverage.turned_away
     );
     for family in oracle::FAMILIES {
-        let stages = coverage.stages.keys().filter(|key| key.0 == family).count();
-        let passes = coverage.passes.keys().filter(|key| key.0 == family).count();
-        let permitted = oracle::permitted(family).count();
-        let endings = coverage.endings.keys();
-        let endings = endings
-            .filter(|(of, ending)| *of == family && ENDINGS.contains(ending))
-            .count();
-        println!(
-            "{}: {stages} of {permitted} stage counts, {passes} of 12 pass counts, {endings} of {} endings",
-            oracle::name(family),
-            ENDINGS.len()
-        );
+        report_family(coverage, family);
     }
     for (n, count) in &coverage.dimensions {
         println!("n = {n}: {count} attempts");
     }
     for (kind, count) in &coverage.kinds {
         println!("{kind}: {count}");
+    }
+}
+
+fn report_family(coverage: &Coverage, family: u64) {
+    let name = oracle::name(family);
+    let norms = coverage.norms.keys().filter(|key| key.0 == family).count();
+    let passes = coverage.passes.keys().filter(|key| key.0 == family).count();
+    let permitted = oracle::permitted(family).count();
+    let endings = coverage.endings.keys();
+    let endings = endings
+        .filter(|(of, ending)| *of == family && ENDINGS.contains(ending))
+        .count();
+    println!(
+        "{name}: {norms} of {permitted} stage counts with their norms, {passes} of 12 pass counts, {endings} of {} endings",
+        ENDINGS.len()
+    );
+    for ending in EARLY {
+        let early = coverage.early.iter();
+        let places = early
+            .filter(|((of, how, _), _)| (*of, *how) == (family, ending))
+            .map(|((.., place), count)| format!("{count} {place}"));
+        let places: Vec<String> = places.collect();
+        println!("{name}, {ending}: {}", places.join(", "));
     }
 }
 

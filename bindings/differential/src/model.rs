@@ -48,6 +48,9 @@ impl Model {
     }
 }
 
+/// Place, entry and value of a bad reply.
+pub type Bad = (usize, usize, f64);
+
 /// How the evaluations of one call are answered: by the model, except that the passes of the power iteration may be given
 /// radii, and one reply may hold a double that is not finite.
 #[derive(Clone, Debug)]
@@ -57,8 +60,7 @@ pub struct Replies {
     /// The first derivative and the perturbation, for the radii.
     pub base: Vec<f64>,
     pub perturbation: f64,
-    /// Place, entry and value of a bad reply.
-    pub bad: Option<(usize, usize, f64)>,
+    pub bad: Option<Bad>,
 }
 
 impl Replies {

@@ -3,18 +3,22 @@
 //!
 //! The Rust evaluates inside a call. To see its vectors at an evaluation, it is run again from a copy up to there, where
 //! the right-hand side stops it before a derivative is written. That is done at each evaluation of an attempt with up to 200
-//! stages; of a longer one at some (`looked_at`), and at the others time and point are compared, and by [`check`] how a
-//! reply exchanges the vectors.
+//! stages. Of a longer one it is done at every pass, at the candidate and at some stages (`looked_at`). At the other stages
+//! [`check`] settles every vector but previous_one, and that is the point, which is compared; so all eleven are settled at
+//! each evaluation.
 use crate::model::Replies;
 use crate::random::{Random, all_same, same};
 use crate::refusals::{Arguments, Call, Given, Held, Outcome, Start, check, number, stands};
 use crate::trace::Trace;
 use oracle::{Oracle, SolveError};
-use stabilized::calls::{self, Answer, Counters, Record, VECTORS, code, phase, vector};
+use stabilized::calls::{self, Answer, Counters, Record, VECTORS, Wholes, code, phase, vector};
 use std::cell::{Cell, RefCell};
 
 /// From this r on the Rust's stage count of RKC overflows: a listed difference.
 pub const RKC_OVERFLOW: f64 = f64::from_bits(0x47E4_C77B_0353_1DEC);
+
+/// The largest count of the families but RKMC2. Above it attempts are long: fewer are made, and less often all is looked at.
+pub const SHORT: usize = 200;
 
 /// How a run of evaluations ended.
 #[derive(Clone, Copy, Debug, PartialEq)]
@@ -48,6 +52,8 @@ pub struct Pair {
     pub record: Record,
     pub counters: Counters,
     pub area: Vec<f64>,
+    /// The record's whole numbers at the latest evaluation.
+    pub evaluated: Wholes,
     oracle: Oracle,
     /// Evaluations counted before this oracle began.
     counted: u64,
@@ -79,8 +85,9 @@ impl Pair {
         Self {
             record: Record::default(),
             counters: Counters::default(),
-            oracle: Oracle::new(1, n),
             area,
+            evaluated: Wholes::default(),
+            oracle: Oracle::new(1, n),
             counted: 0,
             finished: 0,
             strict,
@@ -150,7 +157,7 @@ impl Pair {
     ) -> Compared {
         let radius = self.scaled_radius(arguments, replies);
         let outcome = self.engine(&Call::Attempt(arguments_of(arguments)))?;
-        if self.record.wholes.family == 1 && radius.is_ok_and(|r| r >= RKC_OVERFLOW) {
+        if self.overflows(radius) {
             return self.left_out(outcome, replies);
         }
         let ending = self.follow(outcome, replies, stop, |oracle, rhs| {
@@ -191,6 +198,20 @@ impl Pair {
                 .accept_with_callback(state, time, step, rhs)
                 .map(|()| 0.0)
         })
+    }
+
+    /// How many evaluations the Rust makes in an attempt; 1 where its count overflows, since it is not run there.
+    pub fn evaluations(&self, arguments: oracle::Arguments, replies: &Replies) -> usize {
+        if self.overflows(self.scaled_radius(arguments, replies)) {
+            return 1;
+        }
+        let run = |oracle: &mut Oracle, rhs: &Rhs| oracle.attempt(arguments, rhs);
+        Whole::of(&self.oracle, replies, &run).evaluated.len()
+    }
+
+    /// Whether the Rust's stage count overflows at this scaled radius.
+    fn overflows(&self, radius: Result<f64, SolveError>) -> bool {
+        self.record.wholes.family == 1 && radius.is_ok_and(|r| r >= RKC_OVERFLOW)
     }
 
     /// |step| × 1.2 × radius as the Rust works it out.
@@ -245,7 +266,8 @@ impl Pair {
         let mut derivative = vec![0.0; self.n()];
         let mut at = self.oracle.clone();
         for (place, (time, point)) in whole.evaluated.iter().enumerate() {
-            let number = asked(self.record.wholes.phase);
+            self.evaluated = self.record.wholes;
+            let number = asked(self.evaluated.phase);
             expect(&outcome.answer, code::EVALUATE, number as u64, *time)?;
             if !all_same(self.vector(number), point) {
                 return Err(format!("another point at evaluation {place}"));
@@ -255,7 +277,7 @@ impl Pair {
                 at = stopped_at(place, &self.oracle, replies, &run);
                 self.compare(&at, self.strict, &format!("evaluation {place}"))?;
             }
-            passes += u64::from(self.record.wholes.phase == phase::PASS);
+            passes += u64::from(self.evaluated.phase == phase::PASS);
             self.something_turned_away()?;
             if let Some((_, stop)) = stop {
                 self.oracle = at;
@@ -390,48 +412,8 @@ impl Pair {
             return Ok(());
         }
         let n = self.n();
-        let one_too_long = vec![0.0; n + 1];
-        let spoiled = vec![f64::INFINITY; n];
-        let bad = Arguments {
-            step: 0.0,
-            ..Arguments::default()
-        };
-        let intolerant = Arguments {
-            step: 1.0,
-            ..Arguments::default()
-        };
-        let start = Start {
-            family: 1,
-            n: n as u64,
-            state: &one_too_long[..n],
-            time: 0.0,
-        };
-        let calls = [
-            Call::Start(Start { family: 7, ..start }),
-            Call::Start(Start { n: 513, ..start }),
-            Call::Start(Start {
-                state: &one_too_long,
-                ..start
-            }),
-            Call::Start(Start {
-                time: f64::NAN,
-                ..start
-            }),
-            Call::Start(Start {
-                state: &spoiled,
-                ..start
-            }),
-            Call::Attempt(bad),
-            Call::Attempt(intolerant),
-            Call::Reply {
-                derivative: &one_too_long,
-            },
-            Call::AcceptWithCallback {
-                state: &one_too_long,
-                time: 0.0,
-            },
-            Call::Accept,
-        ];
+        let (one_too_long, infinite) = (vec![0.0; n + 1], vec![f64::INFINITY; n]);
+        let calls = bad_calls(&one_too_long, &infinite);
         let call = calls[self.random.below(calls.len())];
         let held = Held {
             record: self.record,
@@ -444,6 +426,40 @@ impl Pair {
         }
         Ok(())
     }
+}
+
+/// Calls that are turned away, in every phase or in most: each brings something bad, or comes out of turn.
+fn bad_calls<'a>(one_too_long: &'a [f64], infinite: &'a [f64]) -> [Call<'a>; 10] {
+    let n = infinite.len();
+    let good = Start {
+        family: 1,
+        n: n as u64,
+        state: &one_too_long[..n],
+        time: 0.0,
+    };
+    // with tolerances of 0
+    let attempt = |step| {
+        Call::Attempt(Arguments {
+            step,
+            ..Arguments::default()
+        })
+    };
+    let (state, derivative, time) = (one_too_long, one_too_long, f64::NAN);
+    [
+        Call::Start(Start { family: 7, ..good }),
+        Call::Start(Start { n: 513, ..good }),
+        Call::Start(Start { state, ..good }),
+        Call::Start(Start { time, ..good }),
+        Call::Start(Start {
+            state: infinite,
+            ..good
+        }),
+        attempt(0.0),
+        attempt(1.0),
+        Call::Reply { derivative },
+        Call::AcceptWithCallback { state, time: 0.0 },
+        Call::Accept,
+    ]
 }
 
 type Rhs<'a> = dyn Fn(&mut [f64], &[f64], f64) -> Result<(), SolveError> + 'a;
@@ -478,10 +494,23 @@ impl Whole {
     }
 }
 
-/// Whether the Rust is run again up to an evaluation, to see all its vectors there: at each of 200 stages and twelve passes,
-/// of more at the first ones, the last ones and some between, since all would take the square of their number.
+/// The most passes.
+const PASSES: usize = 12;
+
+/// How many evaluations of a long attempt are looked at from its beginning: the passes and some stages.
+const FIRST: usize = PASSES + 8;
+/// From its end: some stages and the candidate.
+const LAST: usize = 4;
+/// And between them one in so many.
+const EVERY: usize = 16;
+
+/// Whether the Rust is run again up to an evaluation, to see all its vectors there: at each of a short attempt, of a long
+/// one at some, since all would take the square of their number.
 fn looked_at(place: usize, evaluations: usize) -> bool {
-    evaluations <= 212 || place < 20 || place + 4 >= evaluations || place.is_multiple_of(16)
+    evaluations <= SHORT + PASSES
+        || place < FIRST
+        || place + LAST >= evaluations
+        || place.is_multiple_of(EVERY)
 }
 
 /// The Rust's kernel inside a call, at an evaluation whose derivative is not yet written.

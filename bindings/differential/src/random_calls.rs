@@ -2,17 +2,8 @@
 use crate::pair::make;
 use crate::random::Random;
 use crate::refusals::{Arguments, Call, Given, Held, Start, check, numbers};
-use stabilized::calls::{Counters, Record, VECTORS, code, phase};
+use stabilized::calls::{Answer, Counters, Doubles, Record, VECTORS, Wholes, code, phase};
 use std::collections::{BTreeMap, BTreeSet};
-
-const NAMES: [&str; 6] = [
-    "start",
-    "attempt",
-    "reply",
-    "accept",
-    "accept with callback",
-    "abandon",
-];
 
 /// How often each call gave each answer: 0 for a call that was not turned away, else the number.
 #[derive(Default)]
@@ -56,12 +47,16 @@ impl Answers {
     }
 
     /// Counts a call by its answer.
-    fn count(&mut self, name: &'static str, call: &Call, record: &Record, answer: u64) {
+    fn count(&mut self, name: &'static str, call: &Call, record: &Record, answer: &Answer) {
+        let number = match answer.code {
+            code::REFUSED => answer.number,
+            _ => 0,
+        };
         self.calls += 1;
-        *self.given.entry((name, answer)).or_default() += 1;
+        *self.given.entry((name, number)).or_default() += 1;
         self.lists.insert(name, numbers(call));
         let kept = record.wholes;
-        match (call, answer) {
+        match (call, number) {
             (Call::Start(start), 1) => {
                 self.families.insert(start.family);
             }
@@ -128,117 +123,137 @@ fn record(random: &mut Random, family: u64, n: u64) -> Record {
     let stages = stages(random, family);
     let stage = random.draw() % (stages + 3);
     let stage = if random.chance(30) { stages } else { stage };
-    let mut record = Record::default();
-    let (w, x) = (&mut record.wholes, &mut record.doubles);
-    w.family = number(random, family, 9);
-    w.n = number(random, n, 16);
-    let usual = random.draw() % 8;
-    w.phase = number(random, usual, 12);
-    x.time = double(random);
-    x.step = double(random);
-    x.absolute_tolerance = double(random);
-    x.relative_tolerance = double(random);
-    let usual = random.draw() % 2;
-    w.adaptive = number(random, usual, 4);
-    let usual = random.draw() % 15;
-    w.pass = number(random, usual, 20);
-    x.perturbation = double(random);
-    x.previous_radius = double(random);
-    x.scaled_radius = double(random);
-    w.stages = number(random, stages, 2000);
-    w.stage = number(random, stage, 2000);
-    for carried in [
-        &mut x.theta_previous,
-        &mut x.theta_previous_two,
-        &mut x.omega_zero,
-        &mut x.omega_one,
-        &mut x.b_previous,
-        &mut x.b_previous_two,
-        &mut x.value_previous,
-        &mut x.value_previous_two,
-        &mut x.first_previous,
-        &mut x.first_previous_two,
-        &mut x.second_previous,
-        &mut x.second_previous_two,
-    ] {
-        *carried = double(random);
-    }
-    record
+    let wholes = Wholes {
+        family: number(random, family, 9),
+        n: number(random, n, 16),
+        phase: usually_below(random, 8, 12),
+        adaptive: usually_below(random, 2, 4),
+        pass: usually_below(random, 15, 20),
+        stages: number(random, stages, 2000),
+        stage: number(random, stage, 2000),
+    };
+    let doubles = record_doubles(random);
+    Record { wholes, doubles }
 }
 
-fn counter(random: &mut Random) -> u64 {
-    match random.below(10) {
+/// A number below `limit`, and now and then anything.
+fn usually_below(random: &mut Random, limit: u64, about: u64) -> u64 {
+    let usual = random.draw() % limit;
+    number(random, usual, about)
+}
+
+fn record_doubles(random: &mut Random) -> Doubles {
+    Doubles {
+        time: double(random),
+        step: double(random),
+        value_previous: double(random),
+        absolute_tolerance: double(random),
+        first_previous: double(random),
+        relative_tolerance: double(random),
+        second_previous: double(random),
+        perturbation: double(random),
+        value_previous_two: double(random),
+        previous_radius: double(random),
+        first_previous_two: double(random),
+        scaled_radius: double(random),
+        second_previous_two: double(random),
+        b_previous: double(random),
+        omega_one: double(random),
+        theta_previous: double(random),
+        b_previous_two: double(random),
+        theta_previous_two: double(random),
+        omega_zero: double(random),
+    }
+}
+
+fn counters(random: &mut Random) -> Counters {
+    let mut counter = || match random.below(10) {
         0 => u64::MAX,
         1 => u64::MAX - 1,
         2 => random.draw(),
         _ => random.draw() % 1000,
+    };
+    Counters {
+        evaluations: counter(),
+        finished_attempts: counter(),
+    }
+}
+
+fn dimension(random: &mut Random) -> usize {
+    match random.below(200) {
+        0 => random.pick(&[511, 512, 513, 514]),
+        1..8 => 0,
+        _ => random.below(9),
+    }
+}
+
+/// A call and its name. A reply comes more often than the others, since it has the most phases.
+fn any_call<'a>(
+    random: &mut Random,
+    family: u64,
+    n: u64,
+    brought: &'a [f64],
+) -> (&'static str, Call<'a>) {
+    match random.below(8) {
+        0 => {
+            let start = Start {
+                family: number(random, family, 9),
+                n: number(random, n, 16),
+                state: brought,
+                time: double(random),
+            };
+            ("start", Call::Start(start))
+        }
+        1 => ("attempt", Call::Attempt(any_arguments(random))),
+        2 => ("accept", Call::Accept),
+        3 => {
+            let (state, time) = (brought, double(random));
+            let call = Call::AcceptWithCallback { state, time };
+            ("accept with callback", call)
+        }
+        4 => ("abandon", Call::Abandon),
+        _ => {
+            let derivative = brought;
+            ("reply", Call::Reply { derivative })
+        }
+    }
+}
+
+fn any_arguments(random: &mut Random) -> Arguments {
+    Arguments {
+        time: double(random),
+        step: double(random) * random.sign(),
+        absolute_tolerance: double(random),
+        relative_tolerance: double(random),
+        adaptive: random.draw() % 3,
     }
 }
 
 /// One random call.
 pub fn call(seed: u64, answers: &mut Answers) -> Result<(), String> {
     let random = &mut Random::new(seed);
-    let n = match random.below(200) {
-        0 => random.pick(&[511, 512, 513, 514]),
-        1..8 => 0,
-        _ => random.below(9),
-    };
+    let n = dimension(random);
     let family = random.pick(&oracle::FAMILIES);
     let record = record(random, family, n as u64);
-    let counters = Counters {
-        evaluations: counter(random),
-        finished_attempts: counter(random),
-    };
+    let counters = counters(random);
     let size = length(random, VECTORS * n);
     let before = doubles(random, size);
     let size = length(random, n);
     let brought = doubles(random, size);
-    let kind = random.pick(&[0, 1, 2, 2, 2, 3, 4, 5]);
-    let call = match kind {
-        0 => Call::Start(Start {
-            family: number(random, family, 9),
-            n: number(random, n as u64, 16),
-            state: &brought,
-            time: double(random),
-        }),
-        1 => Call::Attempt(Arguments {
-            time: double(random),
-            step: double(random) * random.sign(),
-            absolute_tolerance: double(random),
-            relative_tolerance: double(random),
-            adaptive: random.draw() % 3,
-        }),
-        2 => Call::Reply {
-            derivative: &brought,
-        },
-        3 => Call::Accept,
-        4 => Call::AcceptWithCallback {
-            state: &brought,
-            time: double(random),
-        },
-        _ => Call::Abandon,
-    };
+    let (name, call) = any_call(random, family, n as u64, &brought);
     let (mut area, mut left) = (before.clone(), counters);
     let outcome = make(record, &mut left, &mut area, &call);
-    let answer = if outcome.answer.code == code::REFUSED {
-        outcome.answer.number
-    } else {
-        0
-    };
-    answers.count(NAMES[kind], &call, &record, answer);
+    answers.count(name, &call, &record, &outcome.answer);
     let held = Held {
         record,
         counters,
         area: &before,
     };
-    check(
-        &held,
-        &call,
-        &Given {
-            outcome,
-            counters: left,
-            area: &area,
-        },
-    )
-    .map_err(|difference| format!("{difference}\n{call:?}\n{record:?}\n{counters:?}"))
+    let given = Given {
+        outcome,
+        counters: left,
+        area: &area,
+    };
+    check(&held, &call, &given)
+        .map_err(|difference| format!("{difference}\n{call:?}\n{record:?}\n{counters:?}"))
 }

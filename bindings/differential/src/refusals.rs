@@ -4,6 +4,7 @@
 //! [`number`] gives the number of the first test from 1 to 9 that a call fails. [`check`] compares what an engine answered
 //! and left with what the document settles, number 10 included: whether a candidate is finite is seen in the area.
 use crate::random::{all_same, same};
+use oracle::RKMC2;
 use stabilized::calls::{Answer, Counters, Doubles, Record, code, phase, vector};
 
 /// What start brings.
@@ -465,21 +466,38 @@ fn settle_stage(s: &mut Settled, record: Record, given: &Given, n: usize) {
         s.open = &[vector::PREVIOUS_ONE];
         return;
     }
-    let made = |vector: usize| &given.area[vector * n..(vector + 1) * n];
-    let candidate = made(if record.wholes.family == 6 {
-        vector::CANDIDATE
-    } else {
-        vector::NEXT_STAGE
-    });
-    s.put(vector::NEXT_STAGE, made(vector::NEXT_STAGE));
-    s.put(vector::CANDIDATE, candidate);
-    if finite(candidate) {
+    let last = &given.area[vector::NEXT_STAGE * n..(vector::NEXT_STAGE + 1) * n];
+    s.put(vector::NEXT_STAGE, last);
+    let candidate = match record.wholes.family {
+        RKMC2 => combination(&record, &s.area, n),
+        _ => last.to_vec(),
+    };
+    s.put(vector::CANDIDATE, &candidate);
+    if finite(&candidate) {
         s.answer = Some(evaluate(vector::CANDIDATE, time + step));
         s.record = Some(with_phase(record, phase::CANDIDATE));
     } else {
         s.answer = Some(refused(10));
         s.record = Some(with_phase(record, phase::EMPTY));
     }
+}
+
+/// RKMC2's candidate, from the recurrence as it was carried into the last stage and the area with that stage in it.
+fn combination(record: &Record, area: &[f64], n: usize) -> Vec<f64> {
+    let carried = &record.doubles;
+    let value = 2.0 * carried.omega_zero * carried.value_previous - carried.value_previous_two;
+    let b_final = 1.0 / (1.0 + value);
+    let degree = record.wholes.stages as f64;
+    let gamma = carried.b_previous / (2.0 * degree * carried.omega_one);
+    let delta = -carried.b_previous / (2.0 * (degree - 2.0) * carried.omega_one);
+    let entry = |i: usize| {
+        let at = |vector: usize| area[vector * n + i];
+        (1.0 - gamma / b_final - delta / carried.b_previous_two) * at(vector::STATE)
+            + (gamma / b_final) * at(vector::NEXT_STAGE)
+            + (delta / carried.b_previous_two) * at(vector::PREVIOUS_TWO)
+            + carried.step * carried.b_previous * at(vector::FIRST_DERIVATIVE)
+    };
+    (0..n).map(entry).collect()
 }
 
 /// What the document settles of a call that tests 1 to 9 turn away.

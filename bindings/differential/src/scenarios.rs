@@ -1,12 +1,13 @@
 //! Seeded scenarios: the stage counts and pass counts one by one, and random sessions of starts, attempts, rejections,
 //! accepts, callbacks and failures.
-use crate::model::{Model, Replies};
-use crate::pair::{Ending, Pair, Stop};
-use crate::random::Random;
+use crate::model::{Bad, Model, Replies};
+use crate::pair::{Ending, Pair, SHORT, Stop};
+use crate::random::{Random, mixed};
 use crate::trace::Trace;
 use oracle::Arguments;
-use stabilized::calls::{VECTORS, vector};
+use stabilized::calls::{VECTORS, Wholes, phase, vector};
 use std::collections::BTreeMap;
+use std::fmt::{Display, Formatter};
 
 pub const DIMENSIONS: [usize; 8] = [1, 2, 3, 5, 8, 16, 64, 512];
 
@@ -46,6 +47,36 @@ pub const ENDINGS: [&str; 5] = [
     "left for a start in the middle",
 ];
 
+/// The endings that can be at every evaluation, and where they are wanted in every family.
+pub const EARLY: [&str; 3] = [
+    "ended with 9",
+    "abandoned",
+    "left for a start in the middle",
+];
+const PLACES: [&str; 3] = ["at a pass", "at a stage", "at the candidate"];
+
+/// Where they are wanted too of a family with more than 200 stages: at a later stage or at the candidate.
+const LATE: &str = "past 200 stages";
+
+/// The early endings that are wanted of a family, with their places.
+fn early_of(family: u64) -> impl Iterator<Item = (&'static str, &'static str)> {
+    let (_, largest) = oracle::ends(family);
+    let late = (largest > SHORT).then_some(LATE);
+    let places = PLACES.into_iter().chain(late);
+    places.flat_map(|place| EARLY.map(|ending| (ending, place)))
+}
+
+/// The places that an evaluation with this record counts for.
+fn places(at: &Wholes) -> impl Iterator<Item = &'static str> {
+    let (place, stage) = match at.phase {
+        phase::PASS => (PLACES[0], 0),
+        phase::STAGE => (PLACES[1], at.stage),
+        _ => (PLACES[2], at.stages),
+    };
+    let late = (stage > SHORT as u64).then_some(LATE);
+    [place].into_iter().chain(late)
+}
+
 /// What the scenarios reached.
 #[derive(Default)]
 pub struct Coverage {
@@ -53,12 +84,14 @@ pub struct Coverage {
     pub attempts: u64,
     pub evaluations: u64,
     pub turned_away: u64,
-    /// Finished attempts by family and stages.
-    pub stages: BTreeMap<(u64, u64), u64>,
+    /// Finished attempts whose norm was compared, by family and stages.
+    pub norms: BTreeMap<(u64, u64), u64>,
     /// Finished attempts by family and passes.
     pub passes: BTreeMap<(u64, u64), u64>,
     /// Attempts by family and ending.
     pub endings: BTreeMap<(u64, &'static str), u64>,
+    /// Attempts that were ended early, by family, ending and place.
+    pub early: BTreeMap<(u64, &'static str, &'static str), u64>,
     /// By dimension.
     pub dimensions: BTreeMap<usize, u64>,
     /// Everything else that is counted, by name.
@@ -70,41 +103,53 @@ pub struct Coverage {
 impl Coverage {
     /// What is wanted of a run with these families and was not reached.
     pub fn missing(&self, families: &[u64]) -> Vec<String> {
-        let mut missing = Vec::new();
-        for &family in families {
-            let name = oracle::name(family);
-            for stages in oracle::permitted(family) {
-                if !self.stages.contains_key(&(family, stages as u64)) {
-                    missing.push(format!("{name} with {stages} stages"));
-                }
-            }
-            for passes in 1..=12 {
-                if !self.passes.contains_key(&(family, passes)) {
-                    missing.push(format!("{name} with {passes} passes"));
-                }
-            }
-            for ending in ENDINGS {
-                if !self.endings.contains_key(&(family, ending)) {
-                    missing.push(format!("{name}, {ending}"));
-                }
-            }
-        }
-        let kinds = WANTED.iter().filter(|kind| !self.kinds.contains_key(*kind));
-        missing.extend(kinds.map(|kind| kind.to_string()));
+        let of_families = families.iter().flat_map(|family| self.missing_of(*family));
+        let kinds = WANTED
+            .into_iter()
+            .filter(|kind| !self.kinds.contains_key(kind))
+            .map(str::to_string);
         let dimensions = DIMENSIONS
-            .iter()
-            .filter(|n| !self.dimensions.contains_key(n));
-        missing.extend(dimensions.map(|n| format!("n = {n}")));
-        missing
+            .into_iter()
+            .filter(|n| !self.dimensions.contains_key(n))
+            .map(|n| format!("n = {n}"));
+        of_families.chain(kinds).chain(dimensions).collect()
+    }
+
+    fn missing_of(&self, family: u64) -> Vec<String> {
+        let norms = oracle::permitted(family)
+            .filter(|stages| !self.norms.contains_key(&(family, *stages as u64)))
+            .map(|stages| format!("a norm with {stages} stages"));
+        let passes = (1..=12)
+            .filter(|passes| !self.passes.contains_key(&(family, *passes)))
+            .map(|passes| format!("{passes} passes"));
+        let endings = ENDINGS
+            .into_iter()
+            .filter(|ending| !self.endings.contains_key(&(family, ending)))
+            .map(str::to_string);
+        let early = early_of(family)
+            .filter(|(ending, place)| !self.early.contains_key(&(family, ending, place)))
+            .map(|(ending, place)| format!("{ending} {place}"));
+        let all = norms.chain(passes).chain(endings).chain(early);
+        let name = oracle::name(family);
+        all.map(|what| format!("{name}, {what}")).collect()
     }
 
     fn count(&mut self, kind: &'static str) {
         *self.kinds.entry(kind).or_default() += 1;
     }
 
-    fn attempt(&mut self, family: u64, n: usize, arguments: &Arguments, ending: &Ending) {
+    /// A scenario at its end.
+    fn scenario(&mut self, pair: Pair) {
+        self.scenarios += 1;
+        self.evaluations += pair.counters.evaluations;
+        self.turned_away += pair.turned_away;
+        self.trace = pair.written();
+    }
+
+    /// An attempt at its end.
+    fn attempt(&mut self, pair: &Pair, arguments: &Arguments, ending: &Ending) {
         self.attempts += 1;
-        *self.dimensions.entry(n).or_default() += 1;
+        *self.dimensions.entry(pair.n()).or_default() += 1;
         self.count(if arguments.step < 0.0 {
             "negative steps"
         } else {
@@ -117,8 +162,7 @@ impl Coverage {
             self.count("attempts without adaptive");
         }
         if let Some(name) = named(ending) {
-            self.count(name);
-            *self.endings.entry((family, name)).or_default() += 1;
+            self.ended(pair, name);
         }
         if let Ending::Finished {
             stages,
@@ -127,9 +171,23 @@ impl Coverage {
             norm,
         } = *ending
         {
-            *self.stages.entry((family, stages)).or_default() += 1;
+            let family = pair.record.wholes.family;
+            if arguments.adaptive {
+                *self.norms.entry((family, stages)).or_default() += 1;
+            }
             *self.passes.entry((family, passes)).or_default() += 1;
             self.values(scaled_radius, norm);
+        }
+    }
+
+    fn ended(&mut self, pair: &Pair, name: &'static str) {
+        let family = pair.record.wholes.family;
+        self.count(name);
+        *self.endings.entry((family, name)).or_default() += 1;
+        if EARLY.contains(&name) {
+            for place in places(&pair.evaluated) {
+                *self.early.entry((family, name, place)).or_default() += 1;
+            }
         }
     }
 
@@ -195,60 +253,131 @@ fn radii_for(passes: usize, last: f64) -> Vec<f64> {
         .collect()
 }
 
-/// One attempt of a family with given stages and passes, from a random state. One pass means a radius of 0.
-pub fn counted_attempt(
-    family: u64,
-    stages: usize,
-    passes: usize,
-    n: usize,
-    seed: u64,
-    coverage: &mut Coverage,
-) -> Result<(), String> {
-    let random = &mut Random::new(seed);
-    let mut pair = Pair::new(n, vec![0.0; VECTORS * n], true, random.draw());
-    pair.write_down(&mut coverage.trace);
-    let model = Model::Diagonal {
-        least: 0.1,
-        most: 1.0,
-    };
-    let state: Vec<f64> = (0..n).map(|_| random.between(-1.0, 1.0)).collect();
-    let time = random.between(-2.0, 2.0);
-    let step = random.sign() * random.magnitude(-6.0, -3.0);
-    pair.start(family, &state, time, &Replies::of(&model), None)?;
-    let radius = radius_for(family, stages) / (1.2 * step.abs());
-    let radii = if passes == 1 {
-        vec![0.0]
-    } else {
-        radii_for(passes, radius)
-    };
-    let replies = Replies::of(&model).with_radii(
+/// The replies with these radii in the passes of the attempt that follows.
+fn with_radii(replies: Replies, radii: Vec<f64>, pair: &Pair) -> Replies {
+    replies.with_radii(
         radii,
         pair.vector(vector::FIRST_DERIVATIVE),
         pair.vector(vector::STATE),
-    );
-    let arguments = Arguments {
-        time,
-        step,
-        absolute_tolerance: 1e-6,
-        relative_tolerance: 1e-3,
-        adaptive: random.chance(90),
-    };
-    let ending = pair.attempt(arguments, &replies, None)?;
-    coverage.scenarios += 1;
-    coverage.evaluations += pair.counters.evaluations;
-    coverage.turned_away += pair.turned_away;
-    coverage.trace = pair.written();
-    coverage.attempt(family, n, &arguments, &ending);
-    match ending {
-        Ending::Finished {
-            stages: s,
-            passes: k,
-            ..
-        } if (s, k) == (stages as u64, passes as u64) || passes == 1 => Ok(()),
-        other => Err(format!(
-            "meant {stages} stages and {passes} passes, got {other:?}"
-        )),
+    )
+}
+
+/// An attempt that is asked for by its counts.
+#[derive(Clone, Copy, Debug)]
+pub struct Counted {
+    pub family: u64,
+    pub stages: usize,
+    /// One pass means a radius of 0, and so the least count of stages.
+    pub passes: usize,
+    pub n: usize,
+}
+
+impl Display for Counted {
+    fn fmt(&self, formatter: &mut Formatter<'_>) -> std::fmt::Result {
+        let Self {
+            family,
+            stages,
+            passes,
+            n,
+        } = *self;
+        let name = oracle::name(family);
+        write!(formatter, "{name} s {stages} k {passes} n {n}")
     }
+}
+
+impl Counted {
+    /// A seed of its own for each, so that no two share state, time and step.
+    fn seed(&self, seed: u64) -> u64 {
+        let counts = self.stages << 16 | self.passes << 10 | self.n;
+        mixed(seed ^ mixed(self.family << 32 | counts as u64))
+    }
+
+    /// Starts at a random state, and gives the replies to an attempt with these counts. The model's rates go with the step: in
+    /// its direction every entry decays, at no more than half of the radius, where the stages are stable.
+    fn start(
+        &self,
+        pair: &mut Pair,
+        random: &mut Random,
+        arguments: &Arguments,
+    ) -> Result<Replies, String> {
+        let radius = radius_for(self.family, self.stages) / (1.2 * arguments.step.abs());
+        let rate = 0.5 * radius * arguments.step.signum();
+        let model = Model::Diagonal {
+            least: 0.1 * rate,
+            most: rate,
+        };
+        let replies = Replies::of(&model);
+        let state: Vec<f64> = (0..self.n).map(|_| random.between(-1.0, 1.0)).collect();
+        pair.start(self.family, &state, arguments.time, &replies, None)?;
+        let radii = match self.passes {
+            1 => vec![0.0],
+            passes => radii_for(passes, radius),
+        };
+        Ok(with_radii(replies, radii, pair))
+    }
+
+    /// Runs it, with a bad reply or a stop if there is one.
+    fn run(
+        &self,
+        seed: u64,
+        bad: Option<Bad>,
+        stop: Option<(usize, Stop)>,
+        coverage: &mut Coverage,
+    ) -> Result<Ending, String> {
+        let random = &mut Random::new(self.seed(seed));
+        let area = vec![0.0; VECTORS * self.n];
+        let mut pair = Pair::new(self.n, area, true, random.draw());
+        pair.write_down(&mut coverage.trace);
+        let arguments = Arguments {
+            time: random.between(-2.0, 2.0),
+            step: random.sign() * random.magnitude(-2.0, 0.0),
+            absolute_tolerance: 1e-6,
+            relative_tolerance: 1e-3,
+            adaptive: true,
+        };
+        let replies = self.start(&mut pair, random, &arguments)?;
+        let ending = pair.attempt(arguments, &Replies { bad, ..replies }, stop)?;
+        coverage.attempt(&pair, &arguments, &ending);
+        coverage.scenario(pair);
+        Ok(ending)
+    }
+}
+
+/// One attempt with given counts, from a random state.
+pub fn counted_attempt(
+    counted: &Counted,
+    seed: u64,
+    coverage: &mut Coverage,
+) -> Result<(), String> {
+    let ending = counted
+        .run(seed, None, None, coverage)
+        .map_err(|difference| format!("{counted}: {difference}"))?;
+    let meant = (counted.stages as u64, counted.passes as u64);
+    match ending {
+        Ending::Finished { stages, passes, .. } if (stages, passes) == meant => Ok(()),
+        other => Err(format!("{counted}: got {other:?}")),
+    }
+}
+
+/// Such an attempt ended early, in every way at its last pass, its last stage and its candidate.
+pub fn early_attempts(counted: &Counted, seed: u64, coverage: &mut Coverage) -> Result<(), String> {
+    let last = counted.passes + counted.stages - 1;
+    for place in [counted.passes - 1, last - 1, last] {
+        let ways = [
+            (Ending::BadDerivative, Some((place, 0, f64::NAN)), None),
+            (Ending::Abandoned, None, Some((place, Stop::Abandon))),
+            (Ending::Pending, None, Some((place, Stop::Leave))),
+        ];
+        for (meant, bad, stop) in ways {
+            let ending = counted
+                .run(seed, bad, stop, coverage)
+                .map_err(|difference| format!("{counted}, {meant:?} at {place}: {difference}"))?;
+            if ending != meant {
+                return Err(format!("{counted}, {meant:?} at {place}: got {ending:?}"));
+            }
+        }
+    }
+    Ok(())
 }
 
 fn model(random: &mut Random, wild: bool) -> Model {
@@ -343,23 +472,50 @@ fn tolerance(random: &mut Random, wild: bool) -> f64 {
     if value == 0.0 { 5e-324 } else { value }
 }
 
-fn stop(random: &mut Random, among: usize) -> Option<(usize, Stop)> {
+/// Now and then something else than a reply, at a place that is drawn.
+fn stop(random: &mut Random, place: impl Fn(&mut Random) -> usize) -> Option<(usize, Stop)> {
     random.chance(4).then(|| {
         let stop = if random.chance(50) {
             Stop::Abandon
         } else {
             Stop::Leave
         };
-        (random.below(among), stop)
+        (place(random), stop)
     })
 }
 
-fn spoiled(random: &mut Random, replies: Replies, among: usize) -> Replies {
-    let bad = random.chance(4).then(|| {
+/// Now and then a bad reply, at a place that is drawn.
+fn bad(random: &mut Random, place: impl Fn(&mut Random) -> usize) -> Option<Bad> {
+    random.chance(4).then(|| {
         let value = random.pick(&[f64::NAN, f64::INFINITY, f64::NEG_INFINITY]);
-        (random.below(among), random.below(512), value)
-    });
-    Replies { bad, ..replies }
+        (place(random), random.below(512), value)
+    })
+}
+
+/// A place for the one evaluation of a start or callback: it, or one that is not reached.
+fn at_once(random: &mut Random) -> usize {
+    random.below(3)
+}
+
+/// The reply of a start or callback.
+fn spoiled(random: &mut Random, model: &Model) -> Replies {
+    Replies {
+        bad: bad(random, at_once),
+        ..Replies::of(model)
+    }
+}
+
+/// How many evaluations of an attempt are its first: the passes and some stages.
+const FIRST: usize = 20;
+
+/// A place in an attempt: among the first evaluations, anywhere, or one of the last two, which are a stage and the candidate
+/// if it comes so far.
+fn within(random: &mut Random, evaluations: impl Fn() -> usize) -> usize {
+    match random.below(4) {
+        0 | 1 => random.below(FIRST),
+        2 => random.below(evaluations()),
+        _ => evaluations().saturating_sub(1 + random.below(2)),
+    }
 }
 
 /// A random session: starts, and attempts each rejected, accepted, or ended by a callback. Wild ones hold doubles of every
@@ -379,7 +535,6 @@ pub fn session(
         .map(|_| if garbage { random.any_double() } else { 0.0 })
         .collect();
     let strict = !garbage || random.chance(50);
-    coverage.scenarios += 1;
     coverage.count(if garbage {
         "areas of any doubles"
     } else {
@@ -388,9 +543,7 @@ pub fn session(
     let mut pair = Pair::new(n, area, strict, random.draw());
     pair.write_down(&mut coverage.trace);
     let result = starts(&mut pair, random, wild, families, coverage);
-    coverage.evaluations += pair.counters.evaluations;
-    coverage.turned_away += pair.turned_away;
-    coverage.trace = pair.written();
+    coverage.scenario(pair);
     result
 }
 
@@ -405,8 +558,8 @@ fn starts(
         let family = random.pick(families);
         let model = model(random, wild);
         let state = state(random, pair.n(), coverage, wild);
-        let replies = spoiled(random, Replies::of(&model), 3);
-        let (time, stop) = (time(random, wild), stop(random, 3));
+        let replies = spoiled(random, &model);
+        let (time, stop) = (time(random, wild), stop(random, at_once));
         coverage.count("starts");
         if pair.start(family, &state, time, &replies, stop)? != Ending::Ready {
             coverage.count("starts not brought to an end");
@@ -427,53 +580,75 @@ fn attempts(
     model: &Model,
     coverage: &mut Coverage,
 ) -> Result<Ending, String> {
-    let family = pair.record.wholes.family;
     for _ in 0..random.below(10) + 1 {
-        let arguments = Arguments {
-            time: time(random, wild),
-            step: step(random, wild),
-            absolute_tolerance: tolerance(random, wild),
-            relative_tolerance: tolerance(random, wild),
-            adaptive: random.chance(85),
-        };
-        let mut replies = spoiled(random, Replies::of(model), 20);
-        if random.chance(20) {
-            let most = if wild && random.chance(30) {
-                300.0
-            } else {
-                6.0
-            };
-            let radius = random.magnitude(-1.0, most);
-            let radii = radii_for(random.below(11) + 2, radius);
-            replies = replies.with_radii(
-                radii,
-                pair.vector(vector::FIRST_DERIVATIVE),
-                pair.vector(vector::STATE),
-            );
-        }
-        let ending = pair.attempt(arguments, &replies, stop(random, 20))?;
-        coverage.attempt(family, pair.n(), &arguments, &ending);
+        let arguments = arguments(random, wild);
+        let replies = replies(pair, random, wild, model);
+        let place = |random: &mut Random| within(random, || pair.evaluations(arguments, &replies));
+        let (bad, stop) = (bad(random, place), stop(random, place));
+        let ending = pair.attempt(arguments, &Replies { bad, ..replies }, stop)?;
+        coverage.attempt(pair, &arguments, &ending);
         if !matches!(ending, Ending::Finished { .. }) {
             return Ok(ending);
         }
         pair.something_turned_away()?;
-        match random.below(10) {
-            0..4 => coverage.count("rejected attempts"),
-            4..8 => {
-                coverage.count("accepted attempts");
-                pair.accept()?;
+        let ending = afterwards(pair, random, wild, model, coverage)?;
+        if ending != Ending::Ready {
+            return Ok(ending);
+        }
+    }
+    Ok(Ending::Ready)
+}
+
+fn arguments(random: &mut Random, wild: bool) -> Arguments {
+    Arguments {
+        time: time(random, wild),
+        step: step(random, wild),
+        absolute_tolerance: tolerance(random, wild),
+        relative_tolerance: tolerance(random, wild),
+        adaptive: random.chance(85),
+    }
+}
+
+/// The replies of an attempt: by the model, now and then with radii.
+fn replies(pair: &Pair, random: &mut Random, wild: bool, model: &Model) -> Replies {
+    let replies = Replies::of(model);
+    if !random.chance(20) {
+        return replies;
+    }
+    let most = if wild && random.chance(30) {
+        300.0
+    } else {
+        6.0
+    };
+    let radius = random.magnitude(-1.0, most);
+    let radii = radii_for(random.below(11) + 2, radius);
+    with_radii(replies, radii, pair)
+}
+
+/// What follows a finished attempt: it is rejected, accepted, or ended by a callback.
+fn afterwards(
+    pair: &mut Pair,
+    random: &mut Random,
+    wild: bool,
+    model: &Model,
+    coverage: &mut Coverage,
+) -> Result<Ending, String> {
+    match random.below(10) {
+        0..4 => coverage.count("rejected attempts"),
+        4..8 => {
+            coverage.count("accepted attempts");
+            pair.accept()?;
+        }
+        _ => {
+            let state = state(random, pair.n(), coverage, wild);
+            let replies = spoiled(random, model);
+            coverage.count("callbacks");
+            let (time, stop) = (time(random, wild), stop(random, at_once));
+            let ending = pair.accept_with_callback(&state, time, &replies, stop)?;
+            if ending != Ending::Ready {
+                coverage.count("callbacks not brought to an end");
             }
-            _ => {
-                let state = state(random, pair.n(), coverage, wild);
-                let replies = spoiled(random, Replies::of(model), 3);
-                coverage.count("callbacks");
-                let (time, stop) = (time(random, wild), stop(random, 3));
-                let ending = pair.accept_with_callback(&state, time, &replies, stop)?;
-                if ending != Ending::Ready {
-                    coverage.count("callbacks not brought to an end");
-                    return Ok(ending);
-                }
-            }
+            return Ok(ending);
         }
     }
     Ok(Ending::Ready)

@@ -32,7 +32,8 @@ pub fn ends(family: u64) -> (usize, usize) {
         1 | 4 => (2, 200),
         2 | 3 => (3, 199),
         5 => (3, 200),
-        _ => (3, 1000),
+        RKMC2 => (3, 1000),
+        _ => panic!("no family {family}"),
     }
 }
 

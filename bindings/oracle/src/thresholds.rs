@@ -1,6 +1,7 @@
 //! RKMC2's stage rule by thresholds, document 02, CR 1: in place of the Rust's `powf`, a double for each count below the
 //! largest.
 use crate::RKMC2;
+use std::fmt::{Display, Formatter, Result};
 use std::ops::RangeInclusive;
 
 /// The counts that have a threshold.
@@ -45,12 +46,27 @@ pub struct Disagreement {
     pub by_the_rust: usize,
 }
 
+impl Display for Disagreement {
+    fn fmt(&self, formatter: &mut Formatter<'_>) -> Result {
+        let Self {
+            radius,
+            by_thresholds,
+            by_the_rust,
+        } = self;
+        let bits = radius.to_bits();
+        write!(
+            formatter,
+            "{radius:e} (bits {bits:016X}): {by_thresholds} by thresholds, {by_the_rust} by the Rust"
+        )
+    }
+}
+
 /// How far from a threshold doubles are compared, in units in the last place.
 pub const UNITS: u64 = 2000;
 
 /// Every double near a threshold: how many were compared, and where the count by thresholds is not the Rust's.
 pub fn compared(thresholds: &[f64]) -> (u64, Vec<Disagreement>) {
-    let mut disagreements = Vec::new();
+    let (mut count, mut disagreements) = (0, Vec::new());
     for threshold in thresholds {
         let bits = threshold.to_bits();
         for radius in (bits - UNITS..=bits + UNITS).map(f64::from_bits) {
@@ -63,7 +79,8 @@ pub fn compared(thresholds: &[f64]) -> (u64, Vec<Disagreement>) {
                     by_the_rust,
                 });
             }
+            count += 1;
         }
     }
-    (thresholds.len() as u64 * (2 * UNITS + 1), disagreements)
+    (count, disagreements)
 }

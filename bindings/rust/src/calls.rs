@@ -29,8 +29,9 @@ pub struct Wholes {
     pub stage: u64,
 }
 
-/// What it keeps in doubles: the attempt's arguments, the power iteration's position, and what the stages carry on, `theta`
-/// and for RKC and RKMC2 alone the others. They stand in the order in which the engine reads them fastest.
+/// What it keeps in doubles: the attempt's arguments, the power iteration's position, and what the stages carry on: `theta`;
+/// for RKC and RKMC2 also `omega`, `b` and `value`; for RKC alone `first` and `second`, which RKMC2 sets to 0 and carries
+/// along. They stand in the order in which the engine reads them fastest.
 #[repr(C)]
 #[derive(Clone, Copy, Debug, Default, PartialEq)]
 pub struct Doubles {

@@ -1,12 +1,17 @@
--- What the private functions of the rows promise of single columns and of four at a time. No public contract cites this.
+-- What the private functions of the rows promise of single columns and of four at a time. No public contract cites this. ⊕ ⊖ ⊗ are operations on doubles: they
+-- round.
 use mathlib.Core.Path.{_≡_}
 use mathlib.Core.Logic.{_⊎_}
-use mathlib.Core.Bool.{cond}
+use mathlib.Core.Bool.{Bool, true, false, cond}
 use mathlib.Core.List.{List}
 use Prim.Native.Nat.{ℕ, zero, suc, _+_, _≤_, _<_}
 use lib.Dec.{eqb}
 use lib.ListN.{length, getD}
 use lib.Ieee.{Float, nan}
+use Rattle.ieee.specs.Double.{_⊕_, _⊖_, _⊗_, one}
+use Rattle.family.specs.declared.RowForm.{RowForm}
+use Rattle.family.specs.declared.RowForm.the-variants.{ChebyshevRow, OrthogonalRow, InitialFirstRow}
+use Rattle.coefficients.specs.declared.Coefficients.{Coefficients}
 use Rattle.workspace.specs.declared.stages.Entries.{Entries}
 use Rattle.workspace.specs.declared.stages.Four.{Four}
 use Rattle.workspace.specs.Vectors.{Vector, number, column, first-derivative, derivative, previous-two, previous-one, next-stage, state}
@@ -19,6 +24,22 @@ taking x v b = cond (eqb (number derivative) (number b)) x (v b)
 unfoldable pub Reads : Entries → (Vector → Float) → Type 0
 Reads r x =
     (r .one ≡ x previous-one) × (r .two ≡ x previous-two) × (r .initial ≡ x state) × (r .slope ≡ x derivative) × (r .first ≡ x first-derivative)
+
+-- the two choices that a form of rows is: the place of the state's term, and how the derivatives are weighed
+unfoldable pub state-first : RowForm → Bool
+state-first ChebyshevRow = false
+state-first OrthogonalRow = false
+state-first InitialFirstRow = true
+
+unfoldable pub two-products : RowForm → Bool
+two-products ChebyshevRow = false
+two-products OrthogonalRow = true
+two-products InitialFirstRow = false
+
+-- the terms of a row without the derivatives'
+unfoldable pub weighted-in : RowForm → Coefficients → (Vector → Float) → Float
+weighted-in form c x = let initial = (one ⊖ c .mu ⊖ c .nu) ⊗ x state in
+    cond (state-first form) (initial ⊕ c .mu ⊗ x previous-one ⊕ c .nu ⊗ x previous-two) (c .mu ⊗ x previous-one ⊕ c .nu ⊗ x previous-two ⊕ initial)
 
 -- a column after the row, whose element is g of it, and the exchange
 abbrev pub moved : ((Vector → Float) → Float) → (Vector → Float) → Vector → Float

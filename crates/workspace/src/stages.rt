@@ -7,7 +7,7 @@ ghost use Rattle.family.specs.Family.{facts-of, kind};
 ghost use lib.Ieee.{Float};
 ghost use Rattle.workspace.specs.Vectors.{Vector, column, unpack, Becomes, _with_≔_, each, candidate};
 ghost use Rattle.workspace.specs.Kernel.{first-stage, entry-in, with-row-in, with-row, exchanged, combined-entry, with-candidate};
-ghost use Rattle.workspace.specs.Reads.{taking, Reads, Moved, element, Holds, Put, picked};
+ghost use Rattle.workspace.specs.Reads.{taking, Reads, state-first, two-products, weighted-in, Moved, element, Holds, Put, picked};
 use crate::CANDIDATE;
 use crate::DERIVATIVE;
 use crate::FIRST_DERIVATIVE;
@@ -73,20 +73,51 @@ fn entries_at(ten: &[f64], n: usize, i: usize, slope: f64) -> Entries
     gather(one, two, initial, slope, first)
 }
 
-// An element of the row, from what it reads of its column. `sum` serves the first two forms.
+// Whether the state's term comes first in a row. A choice of two, as the next is, so that a loop over the columns is
+// compiled apart for each: with one of three it is not.
+fn state_first(form: RowForm) -> bool
+    ensures { λ r. ⌜ r ≡ state-first form ⌝ }
+{
+    match form {
+        RowForm::ChebyshevRow => false,
+        RowForm::OrthogonalRow => false,
+        RowForm::InitialFirstRow => true,
+    }
+}
+
+// Whether the two derivatives have a product each.
+fn two_products(form: RowForm) -> bool
+    ensures { λ r. ⌜ r ≡ two-products form ⌝ }
+{
+    match form {
+        RowForm::ChebyshevRow => false,
+        RowForm::OrthogonalRow => true,
+        RowForm::InitialFirstRow => false,
+    }
+}
+
+// The terms of the state and of the two stages before. The products stand in both arms: with less in them the compiler
+// makes a choice of each element of them, and no loops of their own.
+fn weighted(form: RowForm, c: Coefficients, x: Entries) -> f64
+    ensures { λ r. ⌜ ((v : Vector → Float) → Reads x v → r ≡ weighted-in form c v) ⌝ }
+{
+    let weight = 1.0 - c.mu - c.nu;
+    if state_first(form) {
+        weight * x.initial + c.mu * x.one + c.nu * x.two
+    } else {
+        c.mu * x.one + c.nu * x.two + weight * x.initial
+    }
+}
+
+// An element of the row, from what it reads of its column.
 fn entry_of(form: RowForm, c: Coefficients, step: f64, x: Entries) -> f64
     ensures { λ r. ⌜ ((v : Vector → Float) → Reads x v → r ≡ entry-in form step c v) ⌝ }
 {
-    let sum = c.mu * x.one + c.nu * x.two + (1.0 - c.mu - c.nu) * x.initial;
-    match form {
-        RowForm::ChebyshevRow => sum + step * c.mu_tilde * (x.slope - c.gamma_tilde * x.first),
-        RowForm::OrthogonalRow => {
-            sum + step * c.mu_tilde * x.slope + step * c.gamma_tilde * x.first
-        }
-        RowForm::InitialFirstRow => {
-            let initial_first = (1.0 - c.mu - c.nu) * x.initial + c.mu * x.one + c.nu * x.two;
-            initial_first + step * c.mu_tilde * (x.slope - c.gamma_tilde * x.first)
-        }
+    let sum = weighted(form, c, x);
+    if two_products(form) {
+        sum + step * c.mu_tilde * x.slope + step * c.gamma_tilde * x.first
+    } else {
+        sum + step * c.mu_tilde * (x.slope - c.gamma_tilde * x.first)
     }
 }
 
@@ -270,7 +301,24 @@ fn move_all(
     move_rest(ten, n, i, form, c, step, derivative);
 }
 
-// Form by form, so that the loop is compiled for each by itself.
+// The same one column at a time.
+fn move_singly(
+    ten: &mut [f64],
+    n: usize,
+    form: RowForm,
+    c: Coefficients,
+    step: f64,
+    derivative: &[f64],
+)
+    requires { ⌜ length (now ten) ≡ 10 * n ⌝ }
+    requires { ⌜ length (now derivative) ≡ n ⌝ }
+    ensures { λ _. ⌜ unpack n (now (ten .exit)) ≡ exchanged (with-row-in form n step c (unpack n (now (ten .entry))) (now (derivative .entry))) ⌝ }
+{
+    move_rest(ten, n, 0, form, c, step, derivative);
+}
+
+// Form by form, so that the loop is compiled for each by itself. RKMC2's goes one column at a time: a third loop by four would
+// keep the compiler from compiling any of them apart.
 fn row_and_exchange_in(
     ten: &mut [f64],
     n: usize,
@@ -287,7 +335,7 @@ fn row_and_exchange_in(
         RowForm::ChebyshevRow => move_all(ten, n, RowForm::ChebyshevRow, c, step, derivative),
         RowForm::OrthogonalRow => move_all(ten, n, RowForm::OrthogonalRow, c, step, derivative),
         RowForm::InitialFirstRow => {
-            move_all(ten, n, RowForm::InitialFirstRow, c, step, derivative)
+            move_singly(ten, n, RowForm::InitialFirstRow, c, step, derivative)
         }
     }
 }

@@ -4,12 +4,17 @@
 //! The model is a rod of n cells, in C and in Rust. An attempt is made again and again from the same state, as after a
 //! rejection. Each time is the least of many rounds. The model's share is the time of its evaluations alone over the
 //! Rust's attempt.
+//!
+//! An attempt's power iteration goes on where the one before ended, so that s can still grow from attempt to attempt.
+//! Therefore all three make many attempts before the rounds, and the same number in all; s is that of the last.
 use oracle::{Arguments, Oracle};
 use stabilized::calls::{Answer, Record, VECTORS};
 use stabilized::{Attempt, Family, Stepper};
 use std::hint::black_box;
 use std::time::{Duration, Instant};
 
+/// Attempts before the rounds.
+const BEFORE: u32 = 200;
 const ROUNDS: usize = 60;
 const ROUND: Duration = Duration::from_millis(3);
 
@@ -63,11 +68,32 @@ fn from_c(family: Family, state: &[f64], rate: f64, attempt: Attempt) -> impl Fn
     move || unsafe { rod_attempt(&mut rod, black_box(step), absolute, relative) }.value
 }
 
+/// The same by the Rust.
+fn by_the_rust(family: Family, state: &[f64], rate: f64, attempt: Attempt) -> impl FnMut() -> f64 {
+    let rhs = move |derivative: &mut [f64], state: &[f64], _: f64| {
+        rod(rate, derivative, state);
+        Ok(())
+    };
+    let mut rust = Oracle::new(family as u64, state.len());
+    rust.initialize(state, 0.0, &rhs).expect("a start");
+    let arguments = Arguments {
+        time: attempt.time,
+        step: attempt.step,
+        absolute_tolerance: attempt.absolute_tolerance,
+        relative_tolerance: attempt.relative_tolerance,
+        adaptive: attempt.adaptive,
+    };
+    move || {
+        let norm = rust.attempt(black_box(arguments), &rhs);
+        norm.expect("a finished attempt")
+    }
+}
+
 /// Nanoseconds a turn, over turns that fill a round.
-fn timed(turns: u32, mut work: impl FnMut()) -> f64 {
+fn timed<T>(turns: u32, mut work: impl FnMut() -> T) -> f64 {
     let begin = Instant::now();
     for _ in 0..turns {
-        work();
+        black_box(work());
     }
     begin.elapsed().as_nanos() as f64 / f64::from(turns)
 }
@@ -83,61 +109,36 @@ struct Times {
 
 fn times(family: Family, n: usize, rate: f64, step: f64) -> Times {
     let state: Vec<f64> = (0..n).map(|i| 1.0 + 0.25 * ((i * 7) % 5) as f64).collect();
-    let mut engine = Stepper::start(
-        family,
-        &state,
-        0.0,
-        |derivative: &mut [f64], state: &[f64], _: f64| rod(rate, derivative, state),
-    )
-    .expect("a start");
-    let rhs = |derivative: &mut [f64], state: &[f64], _: f64| {
-        rod(rate, derivative, state);
-        Ok(())
-    };
-    let mut rust = Oracle::new(family as u64, n);
-    rust.initialize(&state, 0.0, &rhs).expect("a start");
     let attempt = Attempt::new(0.0, step);
-    let arguments = Arguments {
-        time: attempt.time,
-        step: attempt.step,
-        absolute_tolerance: attempt.absolute_tolerance,
-        relative_tolerance: attempt.relative_tolerance,
-        adaptive: attempt.adaptive,
-    };
+    let right_hand_side =
+        |derivative: &mut [f64], state: &[f64], _: f64| rod(rate, derivative, state);
+    let mut engine = Stepper::start(family, &state, 0.0, right_hand_side).expect("a start");
+    let mut rust = by_the_rust(family, &state, rate, attempt);
     let mut c = from_c(family, &state, rate, attempt);
-    for _ in 0..20 {
+    let once = timed(BEFORE, || {
         let ours = engine.attempt(attempt).expect("a finished attempt");
-        let theirs = rust.attempt(arguments, &rhs).expect("a finished attempt");
-        assert_eq!(ours.to_bits(), theirs.to_bits());
-        assert_eq!(c().to_bits(), theirs.to_bits());
-    }
-    let record = engine.record();
-    let (stages, passes) = (record.wholes.stages, record.wholes.pass);
-    let once = timed(10, || {
-        black_box(rust.attempt(arguments, &rhs).ok());
+        assert_eq!([ours, c()].map(f64::to_bits), [rust().to_bits(); 2]);
     });
-    let turns = (ROUND.as_nanos() as f64 / once).max(1.0) as u32;
+    let turns = (3.0 * ROUND.as_nanos() as f64 / once).max(1.0) as u32;
     let mut least = [f64::INFINITY; 4];
     let mut derivative = vec![0.0; n];
     for _ in 0..ROUNDS {
-        least[0] = least[0].min(timed(turns, || {
-            black_box(engine.attempt(black_box(attempt)).ok());
-        }));
-        least[1] = least[1].min(timed(turns, || {
-            black_box(rust.attempt(black_box(arguments), &rhs).ok());
-        }));
-        least[2] = least[2].min(timed(turns, || {
-            for _ in 0..stages + passes {
-                rod(rate, black_box(&mut derivative), black_box(&state));
-            }
-        }));
-        least[3] = least[3].min(timed(turns, || {
-            black_box(c());
-        }));
+        let evaluations = engine.record().wholes.stages + engine.record().wholes.pass;
+        let round = [
+            timed(turns, || engine.attempt(black_box(attempt)).ok()),
+            timed(turns, &mut rust),
+            timed(turns, || {
+                for _ in 0..evaluations {
+                    rod(rate, black_box(&mut derivative), black_box(&state));
+                }
+            }),
+            timed(turns, &mut c),
+        ];
+        least = std::array::from_fn(|i| least[i].min(round[i]));
     }
     Times {
-        stages,
-        passes,
+        stages: engine.record().wholes.stages,
+        passes: engine.record().wholes.pass,
         from_rust: least[0],
         rust: least[1],
         model: least[2],

@@ -5,7 +5,7 @@
 //! or number that no session of that family before it held, and is short. To them come the least and the largest count of
 //! stages of every family, and one attempt at n = 64 and at n = 512.
 use differential::random::mixed;
-use differential::scenarios::{self, Coverage};
+use differential::scenarios::{self, Counted, Coverage};
 use differential::trace::Trace;
 use std::collections::BTreeSet;
 use std::io::Write;
@@ -60,7 +60,13 @@ fn attempt(
     all: &mut Vec<u64>,
 ) -> Result<(), String> {
     let mut coverage = fresh();
-    scenarios::counted_attempt(family, stages, passes, n, mixed(family), &mut coverage)?;
+    let counted = Counted {
+        family,
+        stages,
+        passes,
+        n,
+    };
+    scenarios::counted_attempt(&counted, 1, &mut coverage)?;
     all.extend(words(&mut coverage));
     Ok(())
 }

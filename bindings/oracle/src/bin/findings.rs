@@ -138,43 +138,47 @@ fn cut_count() {
     }
 }
 
-/// The case that session/proofs/RustCase.antt has: what RKMC2 evaluates of y' = -4.1 y from y = 25, and where it ends.
-fn rkmc2_case() {
-    let rhs = |derivative: &mut [f64], point: &[f64], time: f64| {
-        derivative[0] = -4.1 * point[0];
-        let [time, point, reply] = [time, point[0], derivative[0]].map(f64::to_bits);
-        println!("  time {time:016X}, point {point:016X}, reply {reply:016X}");
+/// The doubles' bits.
+fn bits(values: &[f64]) -> String {
+    let each = values.iter().map(|x| format!("{:016X}", x.to_bits()));
+    each.collect::<Vec<_>>().join(" ")
+}
+
+/// A case that session/proofs/RustCase.antt has: what RKMC2 evaluates of y' = -rate y with two temperatures, and where it
+/// ends.
+fn rkmc2_case(step: f64, state: [f64; 2], rates: [f64; 2]) {
+    let rhs = |derivative: &mut [f64], point: &[f64], _: f64| {
+        for i in 0..2 {
+            derivative[i] = -rates[i] * point[i];
+        }
         Ok(())
     };
-    println!("RKMC2: y' = -4.1 y, y = 25, step 1, tolerances 1e-6");
-    let mut rust = Oracle::new(oracle::RKMC2, 1);
-    rust.initialize(&[25.0], 0.0, &rhs)
-        .expect("a finite derivative");
+    let printed = |derivative: &mut [f64], point: &[f64], time: f64| {
+        rhs(derivative, point, time)?;
+        let [time, point, reply] = [&[time], point, derivative].map(bits);
+        println!("  time {time}, point {point}, reply {reply}");
+        Ok(())
+    };
+    println!("RKMC2: y' = -rate y, rates {rates:?}, y = {state:?}, step {step}, tolerances 1e-6");
+    let mut rust = Oracle::new(oracle::RKMC2, 2);
+    rust.initialize(&state, 0.0, &printed)
+        .expect("finite derivatives");
+    let before = rust.evaluations() as usize;
     let arguments = Arguments {
         time: 0.0,
-        step: 1.0,
+        step,
         absolute_tolerance: 1e-6,
         relative_tolerance: 1e-6,
         adaptive: true,
     };
-    let radius =
-        rust.scaled_radius(arguments, &|derivative: &mut [f64],
-                                        point: &[f64],
-                                        _: f64| {
-            derivative[0] = -4.1 * point[0];
-            Ok(())
-        });
+    let radius = rust.scaled_radius(arguments, &rhs);
     let radius = radius.expect("finite derivatives");
-    let norm = rust
-        .attempt(arguments, &rhs)
-        .expect("a candidate that is finite");
-    println!(
-        "  r {:016X}, s {}, candidate {:016X}, norm {:016X}",
-        radius.to_bits(),
-        oracle::stages(oracle::RKMC2, radius),
-        rust.vectors()[10][0].to_bits(),
-        norm.to_bits()
-    );
+    let norm = rust.attempt(arguments, &printed);
+    let norm = norm.expect("a candidate that is finite");
+    let stages = oracle::stages(oracle::RKMC2, radius);
+    let passes = rust.evaluations() as usize - before - stages;
+    let [radius, candidate, norm] = [&[radius], rust.vectors()[10], &[norm]].map(bits);
+    println!("  r {radius}, s {stages}, k {passes}, candidate {candidate}, norm {norm}");
 }
 
 fn main() {
@@ -186,5 +190,6 @@ fn main() {
     bad_derivative_written();
     bad_candidate();
     cut_count();
-    rkmc2_case();
+    rkmc2_case(0.37, [-13.9375, -1.375], [19.1, 4.5]);
+    rkmc2_case(0.43, [-20.5625, 22.125], [3.0, 56.7]);
 }

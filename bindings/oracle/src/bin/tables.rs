@@ -42,7 +42,10 @@ fn tables() -> [Table; 3] {
             name: "omega_zero",
             title: "RKMC2's omega_zero",
             first,
-            doubles: rows.iter().filter_map(|row| row.omega_zero).collect(),
+            doubles: rows
+                .iter()
+                .map(|row| row.omega_zero.expect("RKMC2's omega_zero"))
+                .collect(),
             rule: AT_LEAST_ONE,
         },
         Table {
@@ -278,35 +281,41 @@ const RISING: Rule = Rule {
     file: "Rising",
     text: "\
 -- The entries rise strictly, and are above 0. Computed once for the whole table. Assumes nothing.
+use mathlib.Core.Path.{_≡_, sym, subst}
+use mathlib.Core.Logic.{inl, inr}
 use Prim.Native.Nat.{ℕ, suc, _+_, _≤_, _<_}
-use mathlib.Core.Bool.{Bool}
+use native.Mathlib.Nat.{eq-or-lt-of-le}
+use mathlib.Core.Bool.{Bool, _&&_}
 use native.Mathlib.Omega.{arith}
 use lib.Dec.{T}
 use lib.Ieee.{lt, ofBits}
+use lib.Ieee.Fits.{and-l, and-r}
 use lib.Ieee.Positive.{positive}
 use Rattle.ieee.proofs.Every.{every, among}
 use Rattle.rkmc2_<name>·specs.specs.Table.{<spec>}
 
 test : ℕ → Bool
-test s = lt (<spec> s) (<spec> (suc s))
+test s = positive (<spec> s) && lt (<spec> s) (<spec> (suc s))
 
 passes : T (every test <pairs> <first>)
 unfolding every test <spec> ofBits lt
 passes = tt
 
-pub rises : (s : ℕ) → <first> ≤ s → s ≤ <before-last> → T (lt (<spec> s) (<spec> (suc s)))
+passes-at : (s : ℕ) → <first> ≤ s → s ≤ <before-last> → T (positive (<spec> s) && lt (<spec> s) (<spec> (suc s)))
 unfolding test
-rises s l h = among test <pairs> <first> s passes l (omega arith)
+passes-at s l h = among test <pairs> <first> s passes l (omega arith)
 
-some : ℕ → Bool
-some s = positive (<spec> s)
+pub rises : (s : ℕ) → <first> ≤ s → s ≤ <before-last> → T (lt (<spec> s) (<spec> (suc s)))
+rises s l h = and-r (positive (<spec> s)) (lt (<spec> s) (<spec> (suc s))) (passes-at s l h)
 
-all-positive : T (every some <entries> <first>)
-unfolding every some <spec> ofBits
-all-positive = tt
+last-above-zero : T (positive (<spec> <last>))
+unfolding <spec> ofBits
+last-above-zero = tt
 
 pub above-zero : (s : ℕ) → <first> ≤ s → s ≤ <last> → T (positive (<spec> s))
-unfolding some
-above-zero s l h = among some <entries> <first> s all-positive l (omega arith)
+above-zero s l h = elim (eq-or-lt-of-le h) [
+  | inl e ↦ subst (λ (i : ℕ). T (positive (<spec> i))) (sym e) last-above-zero
+  | inr m ↦ and-l (positive (<spec> s)) (lt (<spec> s) (<spec> (suc s))) (passes-at s l (omega arith))
+]
 ",
 };

@@ -1,4 +1,4 @@
--- `row_and_exchange_in` meets its contract, form by form, from `move_all`.
+-- `row_and_exchange_in` meets its contract, form by form, from `move_all` and `move_singly`.
 use Rattle.workspace.specs.Vectors.{unpack}
 use Rattle.workspace.specs.Kernel.{with-row-in, exchanged}
 use Rattle.family.specs.declared.RowForm.{RowForm}
@@ -22,8 +22,8 @@ move-all-requires-2 c κs = search needs
 enum-told-3 : tie.Need-enum-told-3
 enum-told-3 c = search needs
 
-move-all-requires-3 : tie.Need-move-all-requires-3
-move-all-requires-3 c κs = search needs
+move-singly-requires : tie.Need-move-singly-requires
+move-singly-requires c κs = search needs
 
 same-length : tie.Need-same-length
 same-length c = search needs
@@ -51,7 +51,7 @@ same-length-3 c = search needs
 returns-3 : tie.Need-returns-3
 returns-3 c =
     let x = c .before .before .before .before .before .before .before .before .args in
-    c .before .before .move-all3 .ensures
+    c .before .before .move-singly .ensures
     ∙ ap (λ (f : RowForm). exchanged (with-row-in f (x .n) (x .step) (x .c) (unpack (x .n) (x .ten .now)) (x .derivative .now)))
     (sym (c .before .before .before .before .enum-told3 .given .1))
 
@@ -64,7 +64,7 @@ row-and-exchange-in-spec =
     enum-told-2
     move-all-requires-2
     enum-told-3
-    move-all-requires-3
+    move-singly-requires
     same-length
     returns
     same-length-2

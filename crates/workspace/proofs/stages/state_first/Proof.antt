@@ -1,0 +1,29 @@
+-- `state_first` meets its contract, form by form.
+use Rattle.workspace.specs.Reads.{state-first}
+use borrow.Author.Needs.{needs}
+use Rattle.workspace.proofs.stages.state_first.Statement.{statement}
+use Rattle.workspace.proofs.stages.state_first.Tie as tie
+
+enum-told : tie.Need-enum-told
+enum-told c = search needs
+
+enum-told-2 : tie.Need-enum-told-2
+enum-told-2 c = search needs
+
+enum-told-3 : tie.Need-enum-told-3
+enum-told-3 c = search needs
+
+returns : tie.Need-returns
+unfolding state-first
+returns c = rw (c .enum-told .given .1)
+
+returns-2 : tie.Need-returns-2
+unfolding state-first
+returns-2 c = rw (c .enum-told2 .given .1)
+
+returns-3 : tie.Need-returns-3
+unfolding state-first
+returns-3 c = rw (c .enum-told3 .given .1)
+
+pub state-first-spec : {M : Type 1} → statement M
+state-first-spec = tie.close (tie.spec enum-told enum-told-2 enum-told-3 returns returns-2 returns-3)

@@ -1,0 +1,29 @@
+-- `two_products` meets its contract, form by form.
+use Rattle.workspace.specs.Reads.{two-products}
+use borrow.Author.Needs.{needs}
+use Rattle.workspace.proofs.stages.two_products.Statement.{statement}
+use Rattle.workspace.proofs.stages.two_products.Tie as tie
+
+enum-told : tie.Need-enum-told
+enum-told c = search needs
+
+enum-told-2 : tie.Need-enum-told-2
+enum-told-2 c = search needs
+
+enum-told-3 : tie.Need-enum-told-3
+enum-told-3 c = search needs
+
+returns : tie.Need-returns
+unfolding two-products
+returns c = rw (c .enum-told .given .1)
+
+returns-2 : tie.Need-returns-2
+unfolding two-products
+returns-2 c = rw (c .enum-told2 .given .1)
+
+returns-3 : tie.Need-returns-3
+unfolding two-products
+returns-3 c = rw (c .enum-told3 .given .1)
+
+pub two-products-spec : {M : Type 1} → statement M
+two-products-spec = tie.close (tie.spec enum-told enum-told-2 enum-told-3 returns returns-2 returns-3)
