@@ -37,7 +37,7 @@ use Rattle.driver.proofs.Sizes.{both}
 answer-of : ℕ → Values → Answer
 answer-of zero x = Empty
 answer-of (suc zero) x = Evaluate (getD (x .doubles) 0 nan) (getD (x .numbers) 0 0)
-answer-of (suc (suc zero)) x = Finished (figures-of (getD (x .doubles) 0 nan))
+answer-of (suc (suc zero)) x = Finished (figures-of (getD (x .doubles) 0 nan) (getD (x .numbers) 0 0) (getD (x .numbers) 1 0) (getD (x .doubles) 1 nan))
 answer-of (suc (suc (suc zero))) x = Ready
 answer-of (suc (suc (suc (suc zero)))) x = Refused (getD (x .numbers) 0 0)
 answer-of (suc (suc (suc (suc (suc k))))) x = Empty

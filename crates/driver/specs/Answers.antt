@@ -1,4 +1,5 @@
--- What a call answers, by the numbers and values of document 01: "evaluate at this time, finished with this error norm, ready, or refused", and empty.
+-- What a call answers, by the numbers and values of document 01: "evaluate at this time, finished with this error norm, ready, or refused", and empty. By
+-- document 02, CR 2, finished carries s, k and the scaled radius beside the norm.
 use mathlib.Core.Path.{_≡_}
 use mathlib.Core.List.{List, [], _∷_}
 use Prim.Native.Nat.{ℕ}
@@ -23,7 +24,7 @@ values doubles numbers = record { doubles = doubles; numbers = numbers }
 
 unfoldable pub case-values : Answer → Values
 case-values (Evaluate time vector) = values (time ∷ []) (vector ∷ [])
-case-values (Finished figures) = values (figures .norm ∷ []) []
+case-values (Finished figures) = values (figures .norm ∷ figures .«scaled_radius» ∷ []) (figures .stages ∷ figures .passes ∷ [])
 case-values Ready = values [] []
 case-values (Refused number) = values [] (number ∷ [])
 case-values Empty = values [] []

@@ -165,14 +165,17 @@ take-stage r v d = let m = setting-of r in
     (ask-stage (at-stage s (j + 1) (next m c row) r) (exchanged w))
     (ask-candidate r (with-candidate m (r .n) (r .arguments .step) s c row w))
 
--- what a finished attempt tells
-abbrev pub figures-of : Float → Figures
-figures-of norm = record { norm = norm }
+-- What a finished attempt tells: its error norm, s, k, and r "as it was before NaN became 0" (document 02, CR 2). `stage-count` takes a NaN as 0; the r that it
+-- was handed stands in the record.
+abbrev pub figures-of : Float → ℕ → ℕ → Float → Figures
+figures-of norm s k radius = record { norm = norm; stages = s; passes = k; «scaled_radius» = radius }
 
 unfoldable pub take-candidate : Record → Vectors → List Float → Step
 take-candidate r v d = let m = setting-of r in
+    let s = r .staging .stages in
+    let i = r .iteration in
     let w = with-last m (r .n) (r .arguments) v d in
-    step-to (Finished (figures-of (error-norm m (r .n) (r .staging .stages) (r .arguments) w))) (in-phase P.Finished r) w
+    step-to (Finished (figures-of (error-norm m (r .n) s (r .arguments) w) s (i .pass) (i .«scaled_radius»))) (in-phase P.Finished r) w
 
 -- (Empty, Ready and Finished are never reached here: test 4 answers first)
 unfoldable pub replied : Phase → Record → Vectors → List Float → Step
@@ -209,12 +212,16 @@ permits m s = permitted (kind m) s
 abbrev pub good-stage : Setting → ℕ → ℕ → Bool
 good-stage m s j = permits m s && (leb 2 j && leb j s)
 
+-- the figures of a finished attempt hold both
+abbrev pub good-end : Setting → ℕ → ℕ → Bool
+good-end m k s = good-pass k && permits m s
+
 -- what a phase uses of the record is in range: the pass, s, the stage
 unfoldable pub in-range : Phase → Record → Bool
 in-range p r =
     cond (same-phase p P.Pass) (good-pass (r .iteration .pass))
     (cond (same-phase p P.Stage) (good-stage (setting-of r) (r .staging .stages) (r .staging .stage))
-    (cond (same-phase p P.Candidate) (permits (setting-of r) (r .staging .stages)) true))
+    (cond (same-phase p P.Candidate) (good-end (setting-of r) (r .iteration .pass) (r .staging .stages)) true))
 
 unfoldable pub awaiting : Record → Bool
 awaiting r = pending (r .phase) && in-range (r .phase) r

@@ -78,6 +78,16 @@ pub fn good_stage(setting: Setting, stages: u64, stage: u64) -> bool
     stage <= stages
 }
 
+// The figures of a finished attempt hold both.
+fn good_end(setting: Setting, pass: u64, stages: u64) -> bool
+    ensures { λ r. ⌜ r ≡ calls.good-end setting pass stages ⌝ }
+{
+    if !good_pass(pass) {
+        return false;
+    }
+    permits(setting, stages)
+}
+
 // Whether what the phase uses of the record is in range.
 pub fn in_range(record: Record) -> bool
     ensures { λ r. ⌜ r ≡ calls.in-range («record» .phase) «record» ⌝ }
@@ -91,7 +101,7 @@ pub fn in_range(record: Record) -> bool
         return good_stage(setting, record.staging.stages, record.staging.stage);
     }
     if same_phase(phase, Phase::Candidate) {
-        return permits(setting, record.staging.stages);
+        return good_end(setting, record.iteration.pass, record.staging.stages);
     }
     true
 }

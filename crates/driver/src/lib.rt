@@ -34,7 +34,8 @@ pub enum Phase {
     Callback,
 }
 
-// The position among the passes of the power iteration. The scaled radius is known once they end.
+// The position among the passes of the power iteration. The scaled radius is known once they end, and 0 before. After the
+// attempt both stand until the next one.
 pub struct Iteration {
     pub pass: u64,
     pub perturbation: f64,
@@ -42,7 +43,7 @@ pub struct Iteration {
     pub scaled_radius: f64,
 }
 
-// The position among the stages, and what they carry on.
+// The position among the stages, and what they carry on. How many they are stands until the next attempt has its own.
 pub struct Staging {
     pub stages: u64,
     pub stage: u64,
@@ -63,9 +64,13 @@ pub struct Counters {
     pub finished_attempts: u64,
 }
 
-// What a finished attempt tells: its error norm.
+// What a finished attempt tells: its error norm, how many stages and passes it ran (s and k), and the scaled radius r that
+// gave s, as it was before NaN counted as 0.
 pub struct Figures {
     pub norm: f64,
+    pub stages: u64,
+    pub passes: u64,
+    pub scaled_radius: f64,
 }
 
 // Evaluate the vector of this number at this time; finished with these figures; ready; refused with

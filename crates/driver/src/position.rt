@@ -1,6 +1,7 @@
-// What a record runs under, its phase by number, and the record in another phase and further on.
+// What a record runs under, its phase by number, the record in another phase and further on, and what it tells at the end.
 ghost use mathlib.Core.Path.{_≡_};
 ghost use Rattle.driver.specs.Calls as calls;
+use crate::Figures;
 use crate::Iteration;
 use crate::Phase;
 use crate::Record;
@@ -115,6 +116,18 @@ pub fn with_radius(record: Record, scaled_radius: f64) -> Record
     let mut after = record;
     after.iteration.scaled_radius = scaled_radius;
     after
+}
+
+// What a finished attempt tells: its norm, and s, k and r as the record holds them.
+pub fn figures_of(record: Record, norm: f64) -> Figures
+    ensures { λ r. ⌜ r ≡ calls.figures-of norm («record» .staging .stages) («record» .iteration .pass) («record» .iteration .«scaled_radius») ⌝ }
+{
+    Figures {
+        norm,
+        stages: record.staging.stages,
+        passes: record.iteration.pass,
+        scaled_radius: record.iteration.scaled_radius,
+    }
 }
 
 // Before a stage.

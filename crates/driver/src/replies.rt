@@ -14,7 +14,6 @@ ghost use Rattle.driver.specs.declared.Staged.the-variants.{On};
 ghost use Rattle.driver.specs.Calls as calls;
 ghost use Rattle.driver.specs.Promises.{Steps, in-stages, outcome-of};
 use crate::Answer;
-use crate::Figures;
 use crate::Need;
 use crate::Next;
 use crate::Phase;
@@ -226,9 +225,10 @@ pub fn take_candidate(record: Record, area: &mut [f64], derivative: &[f64]) -> N
     let arguments = record.arguments;
     workspace::last(area, n, setting, arguments, derivative);
     let norm = workspace::error_norm(area, n, setting, record.staging.stages, arguments);
+    let figures = position::figures_of(record, norm);
     let finished = position::in_phase(record, Phase::Finished);
     Next {
-        answer: Answer::Finished(Figures { norm }),
+        answer: Answer::Finished(figures),
         record: finished,
     }
 }

@@ -2,7 +2,7 @@
 use mathlib.Core.Path.{refl, sym, ap, _∙_}
 use borrow.Author.Needs.{needs}
 use Rattle.family.specs.declared.Setting.{Setting}
-use Rattle.driver.specs.Calls.{permits, good-stage, in-range}
+use Rattle.driver.specs.Calls.{good-stage, good-end, in-range}
 use Rattle.driver.proofs.Ladder.{in-case, otherwise}
 use Rattle.driver.proofs.checks.in_range.Statement.{statement}
 use Rattle.driver.proofs.checks.in_range.Tie as tie
@@ -38,8 +38,8 @@ returns-2 c =
 same-phase-requires-3 : tie.Need-same-phase-requires-3
 same-phase-requires-3 c κs = search needs
 
-permits-requires : tie.Need-permits-requires
-permits-requires c κs = search needs
+good-end-requires : tie.Need-good-end-requires
+good-end-requires c κs = search needs
 
 returns-3 : tie.Need-returns-3
 unfolding in-range
@@ -50,7 +50,7 @@ returns-3 c =
     otherwise _ (sym (e .before .same-phase .ensures) ∙ e .if1 .left)
     (otherwise _ (sym (d .before .same-phase2 .ensures) ∙ d .if2 .left)
     (in-case _ (sym (c .before .before .same-phase3 .ensures) ∙ c .before .if3 .taken)
-    (c .permits .ensures ∙ ap (λ (m : Setting). permits m (r .staging .stages)) (e .before .before .setting-of .ensures))))
+    (c .good-end .ensures ∙ ap (λ (m : Setting). good-end m (r .iteration .pass) (r .staging .stages)) (e .before .before .setting-of .ensures))))
 
 returns-4 : tie.Need-returns-4
 unfolding in-range
@@ -73,6 +73,6 @@ in-range-spec =
     good-stage-requires
     returns-2
     same-phase-requires-3
-    permits-requires
+    good-end-requires
     returns-3
     returns-4)

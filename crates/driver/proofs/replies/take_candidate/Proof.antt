@@ -29,6 +29,9 @@ last-requires c κs = search needs
 error-norm-requires : tie.Need-error-norm-requires
 error-norm-requires c κs = search needs
 
+figures-of-requires : tie.Need-figures-of-requires
+figures-of-requires c κs = search needs
+
 in-phase-requires : tie.Need-in-phase-requires
 in-phase-requires c κs = search needs
 
@@ -38,18 +41,20 @@ same-length c = search needs
 returns : tie.Need-returns
 unfolding take-candidate
 returns c =
-    let a = c .before .before .before .before .before .before .before .before .before .before .before .args in
+    let a = c .before .before .before .before .before .before .before .before .before .before .before .before .args in
     let r = a .«record» in
-    let e = c .before .before .before .before .before .before .before .before .setting-of .ensures in
+    let e = c .before .before .before .before .before .before .before .before .before .setting-of .ensures in
     let v = unpack (r .n) (a .area .now) in
-    let last = c .before .before .before .before .before .last .ensures .vectors
+    let last = c .before .before .before .before .before .before .last .ensures .vectors
     ∙ ap (λ (m : Setting). with-last m (r .n) (r .arguments) v (a .derivative .now)) e in
     record {
-      answer = same-answer (ap (λ (norm : Float). Finished (figures-of norm)) (finished r e (c .before .error-norm .ensures) last));
+      answer = same-answer (ap Finished (c .before .figures-of .ensures
+          ∙ ap (λ (norm : Float). figures-of norm (r .staging .stages) (r .iteration .pass) (r .iteration .«scaled_radius»))
+          (finished r e (c .before .before .error-norm .ensures) last)));
       kept = c .in-phase .ensures;
       vectors = last;
     }
 
 pub take-candidate-spec : {M : Type 1} → statement M
 take-candidate-spec =
-    tie.close (tie.spec setting-of-requires last-requires error-norm-requires in-phase-requires same-length returns)
+    tie.close (tie.spec setting-of-requires last-requires error-norm-requires figures-of-requires in-phase-requires same-length returns)
