@@ -9,15 +9,16 @@ use Rattle.driver.specs.declared.Record.{Record as Kept}
 use Rattle.driver.specs.declared.Counters.{Counters}
 use Rattle.driver.specs.declared.Next.{Next}
 use Rattle.driver.specs.declared.Staged.{Staged}
-use Rattle.driver.specs.Answers.{Values, Same-answer, case-number, case-values}
+use Rattle.driver.specs.Answers.{Same-answer}
 use Rattle.driver.specs.Calls.{Held, Called, one-more}
 use Rattle.driver.specs.Promises.{Meets, Keeps, Stands-for, holding, stage-taken, outcome-of}
-use Rattle.lent.specs.Numbers.{Record, Answered, meaning, coded, in-numbers, handed-back}
+use Rattle.driver.proofs.Counting.{said}
+use Rattle.lent.specs.Numbers.{Record, Answered, meaning, in-numbers, handed-back}
 use Rattle.lent.specs.Lent.{lent, place-of, staged-outcome}
 use Rattle.capi.specs.Promises.{Meets-lent, Keeps-lent}
 
 same-numbers : {a b : Case} → Same-answer a b → in-numbers a ≡ in-numbers b
-same-numbers {a} {b} s = ap (λ (k : ℕ). coded k (case-values a)) (s .same-case) ∙ ap (λ (v : Values). coded (case-number b) v) (s .same-values)
+same-numbers s = ap in-numbers (said s)
 
 pub meets-lent : {before : Record} (adaptive : ℕ) (call : Held → Called) {area left : List Float} {kept after : Kept} {a : Case} {c d : Counters}
     {given : Answered}

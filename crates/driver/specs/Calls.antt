@@ -170,6 +170,10 @@ take-stage r v d = let m = setting-of r in
 abbrev pub figures-of : Float → ℕ → ℕ → Float → Figures
 figures-of norm s k radius = record { norm = norm; stages = s; passes = k; «scaled_radius» = radius }
 
+-- of an answer that carries none
+abbrev pub no-figures : Figures
+no-figures = figures-of nought 0 0 nought
+
 unfoldable pub take-candidate : Record → Vectors → List Float → Step
 take-candidate r v d = let m = setting-of r in
     let s = r .staging .stages in

@@ -7,12 +7,11 @@ use lib.Ieee.{Float, nan}
 use Rattle.ieee.specs.Double.{nought}
 use Rattle.driver.specs.declared.Staging.{Staging}
 use Rattle.driver.specs.declared.Staged.the-variants.{On, OnByTheta, Ended, NotFinite}
-use Rattle.driver.specs.Answers.{case-number, case-values}
-use Rattle.driver.specs.Calls.{in-phase, at-stage}
+use Rattle.driver.specs.Calls.{no-figures, in-phase, at-stage}
 use Rattle.driver.specs.Promises.{outcome-of}
 use Rattle.lent.specs.declared.Answer.{Answer}
 use Rattle.lent.specs.Lent.{wholes-long, doubles-long, lent, left-with, staged-outcome}
-use Rattle.lent.specs.Numbers.{brought, meaning, written, first-or, coded, in-numbers, stands, handed-back}
+use Rattle.lent.specs.Numbers.{Answered, brought, meaning, written, told, in-numbers, stands, handed-back}
 
 -- ---- a list by its elements
 
@@ -36,7 +35,11 @@ spelled-out P w x e f p =
 
 -- evaluate this vector at this time
 abbrev asked : ℕ → Float → Answer
-asked vector t = record { code = 1; number = vector; value = t }
+asked vector t = told 1 vector t no-figures
+
+-- with an answer that is this one
+answered : {a b : Answer} (w : List ℕ) (x : List Float) {y : Answered} → a ≡ b → left-with b w x ≡ y → left-with a w x ≡ y
+answered w x e f = ap (λ (a : Answer). left-with a w x) e ∙ f
 
 -- ---- the position of the next stage, and its evaluation at this time
 
@@ -57,12 +60,12 @@ module _ (t : Float) (g : Staging) where
   Placed w x = left-with (asked 4 t) (wholes-on w) (doubles-on x) ≡ staged-outcome (lent w x) (On t g)
 
   placed-in-cells : (f : ℕ → ℕ) (h : ℕ → Float) → Placed (cells f wholes-long) (cells h doubles-long)
-  unfolding outcome-of handed-back stands coded first-or case-number case-values written at-stage meaning brought
+  unfolding outcome-of handed-back stands in-numbers written at-stage meaning brought
   placed-in-cells f h = refl
 
-  pub placed : (w : List ℕ) (x : List Float) → length w ≡ wholes-long → length x ≡ doubles-long
-      → left-with (asked 4 t) (wholes-on w) (doubles-on x) ≡ staged-outcome (lent w x) (On t g)
-  placed w x e f = spelled-out Placed w x e f placed-in-cells
+  pub placed : {a : Answer} → a ≡ asked 4 t → (w : List ℕ) (x : List Float) → length w ≡ wholes-long → length x ≡ doubles-long
+      → left-with a (wholes-on w) (doubles-on x) ≡ staged-outcome (lent w x) (On t g)
+  placed is w x e f = answered (wholes-on w) (doubles-on x) is (spelled-out Placed w x e f placed-in-cells)
 
 -- ---- the same where only the stage and theta move
 
@@ -77,19 +80,19 @@ module _ (t : Float) (j : ℕ) (theta : Float) where
   Moved w x = left-with (asked 4 t) (wholes-moved w) (doubles-moved x) ≡ staged-outcome (lent w x) (OnByTheta t j theta)
 
   moved-in-cells : (f : ℕ → ℕ) (h : ℕ → Float) → Moved (cells f wholes-long) (cells h doubles-long)
-  unfolding outcome-of handed-back stands coded first-or case-number case-values written at-stage meaning brought
+  unfolding outcome-of handed-back stands in-numbers written at-stage meaning brought
   moved-in-cells f h = refl
 
-  pub moved : (w : List ℕ) (x : List Float) → length w ≡ wholes-long → length x ≡ doubles-long
-      → left-with (asked 4 t) (wholes-moved w) (doubles-moved x) ≡ staged-outcome (lent w x) (OnByTheta t j theta)
-  moved w x e f = spelled-out Moved w x e f moved-in-cells
+  pub moved : {a : Answer} → a ≡ asked 4 t → (w : List ℕ) (x : List Float) → length w ≡ wholes-long → length x ≡ doubles-long
+      → left-with a (wholes-moved w) (doubles-moved x) ≡ staged-outcome (lent w x) (OnByTheta t j theta)
+  moved is w x e f = answered (wholes-moved w) (doubles-moved x) is (spelled-out Moved w x e f moved-in-cells)
 
 -- ---- only the phase
 
-pub ended : (t : Float) (w : List ℕ) (x : List Float) → length w ≡ wholes-long
-    → left-with (asked 10 t) (set w 2 5) x ≡ staged-outcome (lent w x) (Ended t)
-unfolding outcome-of handed-back stands coded first-or case-number case-values written in-phase meaning brought
-ended t w x e = subst Ends (in-cells 0 w wholes-long e) (ends-in-cells (λ i. getD w i 0))
+pub ended : (t : Float) {a : Answer} → a ≡ asked 10 t → (w : List ℕ) (x : List Float) → length w ≡ wholes-long
+    → left-with a (set w 2 5) x ≡ staged-outcome (lent w x) (Ended t)
+unfolding outcome-of handed-back stands in-numbers written in-phase meaning brought
+ended t is w x e = answered (set w 2 5) x is (subst Ends (in-cells 0 w wholes-long e) (ends-in-cells (λ i. getD w i 0)))
   where
     Ends : List ℕ → Type 0
     Ends u = left-with (asked 10 t) (set u 2 5) x ≡ staged-outcome (lent u x) (Ended t)
@@ -97,13 +100,13 @@ ended t w x e = subst Ends (in-cells 0 w wholes-long e) (ends-in-cells (λ i. ge
     ends-in-cells : (f : ℕ → ℕ) → Ends (cells f wholes-long)
     ends-in-cells f = refl
 
-pub emptied : (w : List ℕ) (x : List Float) → length w ≡ wholes-long
-    → left-with (record { code = 4; number = 10; value = nought }) (set w 2 0) x ≡ staged-outcome (lent w x) NotFinite
-unfolding outcome-of handed-back stands coded first-or case-number case-values written in-phase meaning brought
-emptied w x e = subst Empties (in-cells 0 w wholes-long e) (empties-in-cells (λ i. getD w i 0))
+pub emptied : {a : Answer} → a ≡ told 4 10 nought no-figures → (w : List ℕ) (x : List Float) → length w ≡ wholes-long
+    → left-with a (set w 2 0) x ≡ staged-outcome (lent w x) NotFinite
+unfolding outcome-of handed-back stands in-numbers written in-phase meaning brought
+emptied is w x e = answered (set w 2 0) x is (subst Empties (in-cells 0 w wholes-long e) (empties-in-cells (λ i. getD w i 0)))
   where
     Empties : List ℕ → Type 0
-    Empties u = left-with (record { code = 4; number = 10; value = nought }) (set u 2 0) x ≡ staged-outcome (lent u x) NotFinite
+    Empties u = left-with (told 4 10 nought no-figures) (set u 2 0) x ≡ staged-outcome (lent u x) NotFinite
 
     empties-in-cells : (f : ℕ → ℕ) → Empties (cells f wholes-long)
     empties-in-cells f = refl

@@ -1,7 +1,7 @@
--- Records and answers in plain numbers: what they mean, and how they are written. An answer is its case's number and what it carries, as document 01 has it.
+-- Records and answers in plain numbers: what they mean, and how they are written. An answer is its case's number and what it carries, as documents 01 and 02
+-- (CR 2) have it.
 use Prim.Native.Nat.{ℕ}
 use mathlib.Core.Bool.{Bool, cond, not, _&&_}
-use mathlib.Core.List.{List, [], _∷_}
 use lib.Dec.{eqb}
 use lib.Ieee.{Float}
 use Rattle.ieee.specs.Double.{nought}
@@ -11,9 +11,10 @@ use Rattle.driver.specs.declared.Phase.the-variants as P
 use Rattle.driver.specs.declared.Iteration.{Iteration}
 use Rattle.driver.specs.declared.Staging.{Staging}
 use Rattle.driver.specs.declared.Record.{Record as Kept}
+use Rattle.driver.specs.declared.Figures.{Figures}
 use Rattle.driver.specs.declared.Answer.{Answer as Case}
-use Rattle.driver.specs.Calls.{phase-number}
-use Rattle.driver.specs.Answers.{Values, case-number, case-values}
+use Rattle.driver.specs.declared.Answer.the-variants.{Evaluate, Finished, Ready, Refused, Empty}
+use Rattle.driver.specs.Calls.{phase-number, no-figures}
 use Rattle.driver.specs.Numbers.{one-of, standing-numbers}
 use Rattle.lent.specs.declared.Answer.{Answer}
 
@@ -79,15 +80,25 @@ written adaptive r =
 
 -- ---- answers
 
-unfoldable pub first-or : {A : Type 0} → A → List A → A
-first-or none [] = none
-first-or none (x ∷ xs) = x
+-- the case's number; the vector's number or the refusal's; the time; the figures
+abbrev pub told : ℕ → ℕ → Float → Figures → Answer
+told code number t f = record {
+  code = code;
+  number = number;
+  time = t;
+  norm = f .norm;
+  stages = f .stages;
+  passes = f .passes;
+  «scaled_radius» = f .«scaled_radius»;
+}
 
-unfoldable pub coded : ℕ → Values → Answer
-coded code carried = record { code = code; number = first-or 0 (carried .numbers); value = first-or nought (carried .doubles) }
-
-abbrev pub in-numbers : Case → Answer
-in-numbers a = coded (case-number a) (case-values a)
+-- what a case does not carry is 0
+unfoldable pub in-numbers : Case → Answer
+in-numbers (Evaluate t vector) = told 1 vector t no-figures
+in-numbers (Finished figures) = told 2 0 nought figures
+in-numbers Ready = told 3 0 nought no-figures
+in-numbers (Refused number) = told 4 number nought no-figures
+in-numbers Empty = told 5 0 nought no-figures
 
 -- turned away with a number at which everything stands: the record stands, whatever its numbers
 unfoldable pub stands : Answer → Bool

@@ -2,6 +2,7 @@
 ghost use mathlib.Core.Path.{_≡_};
 ghost use lib.ListN.{length};
 ghost use Rattle.driver.specs.declared.Staged.the-variants.{On, OnByTheta, Ended, NotFinite};
+ghost use Rattle.driver.specs.Calls.{no-figures};
 ghost use Rattle.lent.specs.Numbers as numbers;
 ghost use Rattle.lent.specs.Lent.{wholes-long, doubles-long, arguments-in, iteration-in, polynomials-in, staging-in, lent, place-of, left-with};
 ghost use Rattle.lent.specs.Lent.{staged-outcome};
@@ -20,13 +21,17 @@ pub const WHOLES: usize = 7;
 
 pub const DOUBLES: usize = 19;
 
-// Evaluate (code 1) vector `number` at time `value`; finished (2) with the error norm `value`; ready (3);
+// Evaluate (code 1) vector `number` at `time`; finished (2) with `norm`, `stages`, `passes` and `scaled_radius`; ready (3);
 // refused (4) with `number`; empty (5). What an answer does not carry is 0.
 #[repr(C)]
 pub struct Answer {
     pub code: u64,
     pub number: u64,
-    pub value: f64,
+    pub time: f64,
+    pub norm: f64,
+    pub stages: u64,
+    pub passes: u64,
+    pub scaled_radius: f64,
 }
 
 // By driver's numbers. A number above 7 is a phase in which only start is allowed.
@@ -66,35 +71,37 @@ pub fn brought(
 
 // ---- the answer
 
+fn without_figures(code: u64, number: u64, time: f64) -> Answer
+    ensures { λ r. ⌜ r ≡ numbers.told code number time no-figures ⌝ }
+{
+    Answer {
+        code,
+        number,
+        time,
+        norm: 0.0,
+        stages: 0,
+        passes: 0,
+        scaled_radius: 0.0,
+    }
+}
+
 fn in_numbers(answer: driver::Answer) -> Answer
     ensures { λ r. ⌜ r ≡ numbers.in-numbers answer ⌝ }
 {
     match answer {
-        driver::Answer::Evaluate { time, vector } => Answer {
-            code: 1,
-            number: vector as u64,
-            value: time,
-        },
+        driver::Answer::Evaluate { time, vector } => without_figures(1, vector as u64, time),
         driver::Answer::Finished(figures) => Answer {
             code: 2,
             number: 0,
-            value: figures.norm,
+            time: 0.0,
+            norm: figures.norm,
+            stages: figures.stages,
+            passes: figures.passes,
+            scaled_radius: figures.scaled_radius,
         },
-        driver::Answer::Ready => Answer {
-            code: 3,
-            number: 0,
-            value: 0.0,
-        },
-        driver::Answer::Refused(number) => Answer {
-            code: 4,
-            number,
-            value: 0.0,
-        },
-        driver::Answer::Empty => Answer {
-            code: 5,
-            number: 0,
-            value: 0.0,
-        },
+        driver::Answer::Ready => without_figures(3, 0, 0.0),
+        driver::Answer::Refused(number) => without_figures(4, number, 0.0),
+        driver::Answer::Empty => without_figures(5, 0, 0.0),
     }
 }
 
@@ -257,13 +264,13 @@ pub fn leave_with(
         (numbers.in-numbers (next .answer)) (next .«record») ⌝ }
 {
     let answer = next.answer;
-    let told = in_numbers(answer);
-    if stands(told) {
-        return told;
+    let given = in_numbers(answer);
+    if stands(given) {
+        return given;
     }
     let after = next.record;
     write(wholes, doubles, adaptive, after);
-    told
+    given
 }
 
 // The same, with the number for `adaptive` that was found.
@@ -282,6 +289,7 @@ fn ask_stage(wholes: &mut [u64], doubles: &mut [f64], time: f64, staging: Stagin
     ensures { λ r. ⌜ left-with r (now (wholes .exit)) (now (doubles .exit)) ≡ staged-outcome (lent (now (wholes .entry)) (now (doubles .entry)))
         (On time staging) ⌝ }
 {
+    let answer = without_figures(1, workspace::PREVIOUS_ONE as u64, time);
     let c = staging.recurrence;
     let p = c.polynomials;
     wholes[2] = 4;
@@ -299,11 +307,7 @@ fn ask_stage(wholes: &mut [u64], doubles: &mut [f64], time: f64, staging: Stagin
     doubles[16] = p.b_previous_two;
     doubles[17] = c.theta_previous_two;
     doubles[18] = p.omega_zero;
-    Answer {
-        code: 1,
-        number: workspace::PREVIOUS_ONE as u64,
-        value: time,
-    }
+    answer
 }
 
 // The same where of the position only the stage and theta move.
@@ -319,15 +323,12 @@ fn ask_stage_by_theta(
     ensures { λ r. ⌜ left-with r (now (wholes .exit)) (now (doubles .exit)) ≡ staged-outcome (lent (now (wholes .entry)) (now (doubles .entry)))
         (OnByTheta time stage theta) ⌝ }
 {
+    let answer = without_figures(1, workspace::PREVIOUS_ONE as u64, time);
     wholes[2] = 4;
     wholes[6] = stage;
     doubles[17] = doubles[15];
     doubles[15] = theta;
-    Answer {
-        code: 1,
-        number: workspace::PREVIOUS_ONE as u64,
-        value: time,
-    }
+    answer
 }
 
 // The candidate's evaluation at this time. Only the phase is written.
@@ -336,12 +337,9 @@ fn ask_candidate(wholes: &mut [u64], doubles: &[f64; DOUBLES], time: f64) -> Ans
     ensures { λ r. ⌜ left-with r (now (wholes .exit)) (now (doubles .entry))
         ≡ staged-outcome (lent (now (wholes .entry)) (now (doubles .entry))) (Ended time) ⌝ }
 {
+    let answer = without_figures(1, workspace::CANDIDATE as u64, time);
     wholes[2] = 5;
-    Answer {
-        code: 1,
-        number: workspace::CANDIDATE as u64,
-        value: time,
-    }
+    answer
 }
 
 // A candidate that is not finite: the phase is emptied.
@@ -349,12 +347,9 @@ fn refuse_candidate(wholes: &mut [u64], doubles: &[f64; DOUBLES]) -> Answer
     requires { ⌜ length (now wholes) ≡ wholes-long ⌝ }
     ensures { λ r. ⌜ left-with r (now (wholes .exit)) (now (doubles .entry)) ≡ staged-outcome (lent (now (wholes .entry)) (now (doubles .entry))) NotFinite ⌝ }
 {
+    let answer = without_figures(4, 10, 0.0);
     wholes[2] = 0;
-    Answer {
-        code: 4,
-        number: 10,
-        value: 0.0,
-    }
+    answer
 }
 
 // Leaves what a reply to a stage's evaluation comes to, and answers.

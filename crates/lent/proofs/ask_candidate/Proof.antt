@@ -4,6 +4,9 @@ use borrow.Author.Needs.{needs}
 use Rattle.lent.proofs.ask_candidate.Statement.{statement}
 use Rattle.lent.proofs.ask_candidate.Tie as tie
 
+without-figures-requires : tie.Need-without-figures-requires
+without-figures-requires c κs = search needs
+
 slice-write-wholes : tie.Need-slice-write-wholes
 slice-write-wholes c = search needs
 
@@ -11,7 +14,8 @@ same-length : tie.Need-same-length
 same-length c = search needs
 
 returns : tie.Need-returns
-returns c = ended (c .args .time) (c .args .wholes .now) (c .args .doubles .now) (c .pre)
+returns c = let a = c .before .before .args in
+    ended (a .time) (c .without-figures .ensures) (a .wholes .now) (a .doubles .now) (c .before .before .pre)
 
 pub ask-candidate-spec : {M : Type 1} → statement M
-ask-candidate-spec = tie.close (tie.spec slice-write-wholes same-length returns)
+ask-candidate-spec = tie.close (tie.spec without-figures-requires slice-write-wholes same-length returns)

@@ -6,6 +6,9 @@ use borrow.Author.Needs.{needs}
 use Rattle.lent.proofs.ask_stage.Statement.{statement}
 use Rattle.lent.proofs.ask_stage.Tie as tie
 
+without-figures-requires : tie.Need-without-figures-requires
+without-figures-requires c κs = search needs
+
 slice-write-wholes : tie.Need-slice-write-wholes
 slice-write-wholes c = search needs
 
@@ -58,13 +61,16 @@ same-length-2 : tie.Need-same-length-2
 same-length-2 c = simp length-set
 
 returns : tie.Need-returns
-returns c = placed (c .before .before .args .time) (c .before .before .args .staging) (c .before .before .args .wholes .now)
-    (c .before .before .args .doubles .now) (c .before .before .pre .0) (c .before .before .pre .1)
+returns c =
+    let e = c .before .before .before .before .before in
+    let a = e .args in
+    placed (a .time) (a .staging) (c .before .before .without-figures .ensures) (a .wholes .now) (a .doubles .now) (e .pre .0) (e .pre .1)
 
 pub ask-stage-spec : {M : Type 1} → statement M
 ask-stage-spec =
     tie.close
     (tie.spec
+    without-figures-requires
     slice-write-wholes
     slice-write-wholes-2
     slice-write-wholes-3

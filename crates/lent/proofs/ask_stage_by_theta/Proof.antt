@@ -4,6 +4,9 @@ use borrow.Author.Needs.{needs}
 use Rattle.lent.proofs.ask_stage_by_theta.Statement.{statement}
 use Rattle.lent.proofs.ask_stage_by_theta.Tie as tie
 
+without-figures-requires : tie.Need-without-figures-requires
+without-figures-requires c κs = search needs
+
 slice-write-wholes : tie.Need-slice-write-wholes
 slice-write-wholes c = search needs
 
@@ -27,13 +30,15 @@ same-length-2 c = search needs
 
 returns : tie.Need-returns
 returns c =
-    let a = c .before .args in
-    moved (a .time) (a .stage) (a .theta) (a .wholes .now) (a .doubles .now) (c .before .pre .0) (c .before .pre .1)
+    let e = c .before .before .before .before in
+    let a = e .args in
+    moved (a .time) (a .stage) (a .theta) (c .before .without-figures .ensures) (a .wholes .now) (a .doubles .now) (e .pre .0) (e .pre .1)
 
 pub ask-stage-by-theta-spec : {M : Type 1} → statement M
 ask-stage-by-theta-spec =
     tie.close
     (tie.spec
+    without-figures-requires
     slice-write-wholes
     slice-write-wholes-2
     slice-read-doubles
