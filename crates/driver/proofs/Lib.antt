@@ -5,3 +5,4 @@ pub mod Ranges
 pub mod Steps
 pub mod Counting
 pub mod Going
+pub mod Kept

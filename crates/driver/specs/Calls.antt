@@ -170,9 +170,16 @@ take-stage r v d = let m = setting-of r in
 abbrev pub figures-of : Float → ℕ → ℕ → Float → Figures
 figures-of norm s k radius = record { norm = norm; stages = s; passes = k; «scaled_radius» = radius }
 
--- of an answer that carries none
+-- of an answer that carries none: what a case does not carry is 0
 abbrev pub no-figures : Figures
 no-figures = figures-of nought 0 0 nought
+
+unfoldable pub figures-in : Answer → Figures
+figures-in (Evaluate t b) = no-figures
+figures-in (Finished figures) = figures
+figures-in Ready = no-figures
+figures-in (Refused i) = no-figures
+figures-in Empty = no-figures
 
 unfoldable pub take-candidate : Record → Vectors → List Float → Step
 take-candidate r v d = let m = setting-of r in
@@ -435,6 +442,14 @@ made h (Reply d) = reply h d
 made h Accept = accept h
 made h (Accept-with-callback y t) = accept-with-callback h y t
 made h Abandon = abandon h
+
+unfoldable pub is-attempt : Call → Bool
+is-attempt (Start f n y t) = false
+is-attempt (Attempt a) = true
+is-attempt (Reply d) = false
+is-attempt Accept = false
+is-attempt (Accept-with-callback y t) = false
+is-attempt Abandon = false
 
 -- whether a call is taken: not turned away with a number on which everything stands. (A reply that is turned away with another is taken: it is counted, and
 -- the phase is then empty.)

@@ -86,7 +86,7 @@ finish-shown : (h : Held) (a : Arguments) (o : Finished-attempt) (replies : ℕ)
 unfolding answer-shown
 finish-shown h a o replies x f =
     let back = unpack-pack (its-family (h .kept)) (h .kept .n) (o .vectors) (f .vectors-long) in
-    rw (f .answer-is, f .stages-are, f .passes-are, f .radius-is, f .n-is, f .area-is, back) refl
+    rw (f .answer-is, f .n-is, f .area-is, back) refl
 
 module _ (h : Held) (a : Arguments) (d : ℕ → List Float) (o : Finished-attempt) (p : Allowed h a) (long : (i : ℕ)
     → length (d i) ≡ h .kept .n) (fits : Fits h a d) (e : end (in-one-piece h a) d 0 ≡ reached o) (cs : List Call)

@@ -1,5 +1,5 @@
 -- The theorems over sequences: in any calls from a start that is taken, an answer "finished" is that of an attempt that was taken, by the s + k-th reply
--- since, and the record holds its s, k and r (`concluded`); and a stage's record carries what the recurrence comes to (`carries`). By an invariant over the
+-- since, with k from 1 to 12 and s the stage count of r, over the s, k and r that it tells (`concluded`); and a stage's record carries what the recurrence comes to (`carries`). By an invariant over the
 -- calls, one after another (Latest, Trails), and the laws of family and coefficients.
 use mathlib.Core.Path.{_≡_, refl, sym, ap, _∙_, subst}
 use mathlib.Core.Bool.{true, false}
@@ -24,15 +24,18 @@ use Rattle.coefficients.proofs.CloseTable.{zero-taken, entry-taken, close-taken
 use Rattle.coefficients.proofs.Carried.{rkmc2-zero-taken, rkmc2-one-taken, zero-from-one, one-above-zero}
 use Rattle.coefficients.proofs.CloseRows.{close-row, close-first}
 use Rattle.coefficients.proofs.Stable.{stable}
+use Rattle.workspace.specs.Vectors.{unpack}
 use Rattle.driver.specs.declared.Phase.{Phase}
 use Rattle.driver.specs.declared.Phase.the-variants as P
+use Rattle.driver.specs.declared.Figures.{Figures}
+use Rattle.driver.specs.declared.Answer.the-variants.{Finished}
 use Rattle.driver.specs.Answers.{case-number}
-use Rattle.driver.specs.Calls.{Held, Called, first-at, start, Call, Start, made, taken}
+use Rattle.driver.specs.Calls.{Held, Called, first-at, figures-in, start, Call, Start, made, taken}
 use Rattle.session.specs.Session.{held-after}
-use Rattle.session.specs.Concluded.{found, stages-of, scaled-radius-of, Demand-three, Concluded, Carries}
+use Rattle.session.specs.Concluded.{found, stages-of, scaled-radius-of, Demand-three, Concluded, Under-way, Carries}
 use Rattle.session.proofs.Truth.{differ}
 use Rattle.session.proofs.Later.{held-append}
-use Rattle.session.proofs.Outcomes.{Outcome, away, starts, outcome}
+use Rattle.session.proofs.Outcomes.{figures-after, Outcome, away, starts, outcome}
 use Rattle.session.proofs.Underway.{active, In-stages, Position, Left-finished, leaves-finished}
 use Rattle.session.proofs.Latest.{Started, starts-now, started-on}
 use Rattle.session.proofs.Trails.{cases-at, Trail, trail-on}
@@ -77,7 +80,12 @@ demanded g r s positive e =
       stable = stable g s permits;
     }
 
-concludes : (h : Held) (calls : List Call) (x : Called) → Started h calls (x .held) → Trail h calls (x .held) → Left-finished x → Concluded h calls x
+-- the figures of such an answer, by what it left
+abbrev figures-left : Held → Figures
+figures-left x = figures-after (x .kept) (unpack (x .kept .n) (x .area))
+
+concludes : (h : Held) (calls : List Call) (x : Called) → Started h calls (x .held) → Trail h calls (x .held) → Left-finished x
+    → Concluded h calls (figures-left (x .held)) (x .held)
 unfolding cases-at
 concludes h calls x s t z =
     let m = length (t .replies) in
@@ -97,7 +105,7 @@ concludes h calls x s t z =
       only-replies = t .only-replies;
       replies-are = (let e = p .replies-are in omega arith);
       answers-are = t .answers-are ∙ ap (λ (φ : Phase). cases-at φ m) (z .phase-is);
-      figures-are = z .figures-are ∙ rw (s .family-is, s .n-is, t .underway .arguments-are) refl;
+      norm-is = rw (s .family-is, s .n-is, t .underway .arguments-are) refl;
       one-pass = p .suits .one-pass;
       twelve-passes = p .suits .twelve-passes;
       evaluations-are = (let e = t .underway .evaluations-are in let e′ = p .replies-are in omega arith);
@@ -106,21 +114,43 @@ concludes h calls x s t z =
       not-negative = p .suits .not-negative;
       largest-at-infinity = λ e. stages ∙ ap (stage-count f) e ∙ infinite-count f;
       demand-three = λ g is. demanded g r (stages-of (x .held)) (p .suits .not-negative) (stages ∙ ap (λ (f : Family). stage-count f r) is);
+      record-holds = record { stages-kept = refl; passes-kept = refl; radius-kept = refl };
     }
 
--- From any record, area and counters: a start that is taken, then any calls at all. Whenever the next call is answered "finished", `Concluded` holds of the
--- calls up to and with it.
-pub concluded : (h : Held) (f n : ℕ) (y : List Float) (t : Float) (cs : List Call) (c : Call)
+-- From any record, area and counters: a start that is taken, then any calls at all. Whenever the next call is answered "finished" with figures, `Concluded`
+-- holds of them and of the calls up to and with it.
+pub concluded : (h : Held) (f n : ℕ) (y : List Float) (t : Float) (cs : List Call) (c : Call) (told : Figures)
     → taken (start h f n y t .answer) ≡ true
-    → case-number (made (held-after h (Start f n y t ∷ cs)) c .answer) ≡ 2
-    → Concluded h (Start f n y t ∷ cs ++ c ∷ []) (made (held-after h (Start f n y t ∷ cs)) c)
-unfolding active
-concluded h f n y t cs c q e =
+    → made (held-after h (Start f n y t ∷ cs)) c .answer ≡ Finished told
+    → Concluded h (Start f n y t ∷ cs ++ c ∷ []) told (made (held-after h (Start f n y t ∷ cs)) c .held)
+unfolding active case-number figures-in
+concluded h f n y t cs c told q e =
     let calls = Start f n y t ∷ cs in
     let g = held-after h calls in
-    let z = leaves-finished g c (made g c) (outcome g c) e in
+    let x = made g c in
+    let z = leaves-finished g c x (outcome g c) (ap case-number e) in
     let i = holds-on h calls c (holds h f n y t cs q) in
-    concludes h (calls ++ c ∷ []) (made g c) (i .started) (i .trail (ap active (z .phase-is))) z
+    subst (λ (figures : Figures). Concluded h (calls ++ c ∷ []) figures (x .held)) (ap figures-in (sym (z .figures-are) ∙ e))
+    (concludes h (calls ++ c ∷ []) x (i .started) (i .trail (ap active (z .phase-is))) z)
+
+-- And while an attempt is under way s, k and r are as `Under-way` says.
+pub under-way : (h : Held) (f n : ℕ) (y : List Float) (t : Float) (cs : List Call) → taken (start h f n y t .answer) ≡ true
+    → Under-way (held-after h (Start f n y t ∷ cs))
+unfolding active
+under-way h f n y t cs q = record {
+  pass-awaited = λ e. let is = at P.Pass refl e .2 .pass-is in omega arith;
+  no-radius-yet = λ e. at P.Pass refl e .2 .no-radius-yet;
+  own-in-stages = λ e. at P.Stage refl e .2 .suits;
+  own-at-candidate = λ e. at P.Candidate refl e .2 .suits;
+}
+  where
+    x : Held
+    x = held-after h (Start f n y t ∷ cs)
+
+    -- with the attempt and the replies since
+    at : (φ : Phase) → active φ ≡ true → x .kept .phase ≡ φ → (g : Held) × (m : ℕ) × Position g m x φ
+    at φ on e = let trail = holds h f n y t cs q .trail (ap active e ∙ on) in
+        (found (trail .attempt), length (trail .replies), subst (Position (found (trail .attempt)) (length (trail .replies)) x) e (trail .underway .position))
 
 -- And wherever a stage awaits its derivative, `Carries` holds of what the calls left.
 pub carries : (h : Held) (f n : ℕ) (y : List Float) (t : Float) (cs : List Call) → taken (start h f n y t .answer) ≡ true

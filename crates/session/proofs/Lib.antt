@@ -24,9 +24,12 @@ pub mod Among
 pub mod Refused
 -- What a call that is turned away leaves: `leaves`.
 pub mod Leaves
--- In any calls from a start that is taken, a finished answer is that of a taken attempt and its s + k replies: `concluded`; what a stage's record carries:
--- `carries`.
+-- In any calls from a start that is taken, a finished answer that tells s, k and r is that of a taken attempt and its s + k replies: `concluded`; what
+-- the record holds of them while an attempt is under way: `under-way`; what a stage's record carries: `carries`.
 pub mod Concluded
+-- From a finished answer on, whatever calls follow that are no attempt that is taken, the record's s, k and r are those of the answer: `kept`. Whatever
+-- the record, that k is from 1 to 12 and that s permitted: `told-in-range`. A call that is turned away, with any number, leaves the three: `refusal-keeps`.
+pub mod Kept
 -- Families 2 to 5: demand 3 of the s that a finished attempt ran, for its own r where that is finite: `served`; where it is infinite: `served-infinite`.
 pub mod Served
 -- Families 2 to 5: demand 3 of the rows of the stages that are run, and of a finished attempt's multiplier: `stage-close`, `first-close`, `rows-close`,

@@ -28,7 +28,7 @@ use Rattle.driver.specs.declared.Answer.{Answer}
 use Rattle.driver.specs.declared.Answer.the-variants.{Evaluate, Finished, Ready, Refused, Empty}
 use Rattle.driver.specs.Calls.{Held, Called, step-to, in-phase, first-at, at-pass, with-radius, at-stage, taken, setting-of, permits, figures-of}
 use Rattle.driver.specs.Calls.{take-first, take-callback, ask-pass, ask-stage, by-need, begin-stages, take-pass, ask-candidate, take-stage, take-candidate}
-use Rattle.driver.specs.Calls.{replied, whole-area, as-long, pending, in-range, awaiting, good-stage, one-more, counted, spoiled, settled, going-on}
+use Rattle.driver.specs.Calls.{replied, whole-area, as-long, pending, in-range, awaiting, good-stage, good-end, one-more, counted, spoiled, settled, going-on}
 use Rattle.driver.specs.Calls.{start, attempted, attempt, reply, accepted, accept, called-back, accept-with-callback, abandon, made}
 use Rattle.driver.specs.Calls.{Test, guarded, start-tests, attempt-tests, reply-tests, accept-tests, callback-tests, abandon-tests}
 use Rattle.driver.specs.Calls.{Call, Start, Attempt, Reply, Accept, Accept-with-callback, Abandon}
@@ -57,7 +57,9 @@ carried-on f s j c = next (setting f) c (coefficients (setting f) s j c)
 
 -- what a finished attempt that left the vectors w tells
 abbrev pub figures-after : Record → Vectors → Figures
-figures-after r w = figures-of (error-norm (setting-of r) (r .n) (r .staging .stages) (r .arguments) w)
+figures-after r w = let s = r .staging .stages in
+    let i = r .iteration in
+    figures-of (error-norm (setting-of r) (r .n) s (r .arguments) w) s (i .pass) (i .«scaled_radius»)
 
 -- an evaluation more, and a finished attempt
 abbrev pub one-more-each : Counters → Counters
@@ -92,7 +94,7 @@ module _ (h : Held) where
         → Outcome (Reply d) (leaving (Evaluate t b) (at-stage s (j + 1) (carried-on (r .family) s j (r .staging .recurrence)) r) (one-more c) area)
     asks-candidate : {d : List Float} (t : Float) (b : ℕ) (area : List Float) → r .phase ≡ P.Stage → j ≡ s
         → Outcome (Reply d) (leaving (Evaluate t b) (in-phase P.Candidate r) (one-more c) area)
-    finishes : {d : List Float} (w : Vectors) → r .phase ≡ P.Candidate → Long-in r w
+    finishes : {d : List Float} (w : Vectors) → r .phase ≡ P.Candidate → good-end (setting-of r) (r .iteration .pass) s ≡ true → Long-in r w
         → Outcome (Reply d) (leaving (Finished (figures-after r w)) (in-phase P.Finished r) (one-more-each c) (pack w))
     accepts : (area : List Float) → Outcome Accept (leaving Ready (in-phase P.Ready r) c area)
     calls-back : {y : List Float} {t : Float} (area : List Float)
@@ -169,7 +171,7 @@ module _ (h : Held) where
         (leb-true (i .pass) 12 (and-right (leb 1 (i .pass)) (leb (i .pass) 12) good))
     by-phase P.Stage v p good lv ld = on-stage v p good
     by-phase P.Candidate v p good lv ld = let f = setting-of r in
-        finishes (with-last f (r .n) (r .arguments) v d) p (long-last (its-family r) (r .n) f (r .arguments) v d lv ld)
+        finishes (with-last f (r .n) (r .arguments) v d) p good (long-last (its-family r) (r .n) f (r .arguments) v d lv ld)
     by-phase P.Finished v p good lv ld = readies _
     by-phase P.Callback v p good lv ld = readies _
 

@@ -144,7 +144,7 @@ module _ (h : Held) (a : Arguments) (ok : Allowed h a) where
       → Follows h a e b m x → Alike (Same-attempt history) m m′ → Goes e (on m′) x
   unfolding Follows Shows _>>=_ answer-shown doing-shown finished-by counts-on in-phase
   goes η left (done o) (done o′) e b x f s = record {
-    shown-is = rw (f .answer-is, f .stages-are, f .passes-are, f .radius-is, f .n-is, f .area-is)
+    shown-is = rw (f .answer-is, f .n-is, f .area-is)
         (rw (back, s .norm-same, s .stages-same, s .passes-same, s .radius-same)
         (ap (finished-with (o′ .norm) (o′ .stages) (o′ .passes) (o′ .scaled-radius)) (s .vectors-same candidate refl)));
     counts-are = λ c w. same-counters (x .held .counters) _ (let q = f .evaluations-are in let q′ = w .evaluations-were in

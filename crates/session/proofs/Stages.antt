@@ -27,7 +27,7 @@ use Rattle.driver.specs.declared.Staging.{Staging}
 use Rattle.driver.specs.declared.Need.the-variants.{Met}
 use Rattle.driver.specs.declared.Counters.{Counters}
 use Rattle.driver.specs.declared.Answer.the-variants.{Evaluate, Refused}
-use Rattle.driver.specs.Calls.{Held, step-to, in-phase, setting-of, permits, at-stage, ask-stage, stage-need, ask-candidate, take-stage, take-candidate}
+use Rattle.driver.specs.Calls.{good-end, Held, step-to, in-phase, setting-of, permits, at-stage, ask-stage, stage-need, ask-candidate, take-stage, take-candidate}
 use Rattle.driver.specs.Calls.{replied, sized, pending, in-range, awaiting, finishes, going-on, counted, settled}
 use Rattle.session.specs.Attempt.{for-candidate, closes, Asking, done, stopped, _>>=_, evaluate, Finished-attempt, stage-row, stage-loop}
 use Rattle.session.specs.Attempt.{finished-attempt, close, evaluated}
@@ -52,6 +52,9 @@ module _ (h : Held) (a : Arguments) (hk : known (h .kept .family) ≡ true) (hs 
     I = iteration-at k π ρ r
 
     -- ---- after stage s
+
+    ended-well : good-end F k s ≡ true
+    ended-well = rw (le-leb 1 k 1≤k, le-leb k 12 k≤) hs′
 
     -- how RKMC2's candidate is made of the vectors
     abbrev combination : Recurrence → Vectors → List Float
@@ -97,7 +100,7 @@ module _ (h : Held) (a : Arguments) (hk : known (h .kept .family) ≡ true) (hs 
             asked h a hk hs P.Candidate I (staging-at s j rc) w (one-more h c) (suc e) _ (a .time ⊕ a .step) candidate
             (pending-at h a hk hs P.Stage I (staging-at s j rc) v c)
             (λ m. m >>= λ d. done (finished-attempt F (h .kept .n) a s k r (with-last F (h .kept .n) a w d)))
-            hw (counted-on h hc) hs′ refl refl (λ c d s j. refl)
+            hw (counted-on h hc) ended-well refl refl (λ c d s j. refl)
             (λ d hd fin. record {
               answer-is = refl;
               area-is = refl;

@@ -132,7 +132,7 @@ module _ (h : Held) (calls : List Call) where
   trail-on t (Reply d) x is (begins w s b area p twelve) on = from-phase P.Pass refl t p d x is (begins w s b area p twelve) refl on
   trail-on t (Reply d) x is (goes-on s b area p below) on = from-phase P.Stage refl t p d x is (goes-on s b area p below) refl on
   trail-on t (Reply d) x is (asks-candidate s b area p at) on = from-phase P.Stage refl t p d x is (asks-candidate s b area p at) refl on
-  trail-on t (Reply d) x is (finishes w p long) on = from-phase P.Candidate refl t p d x is (finishes w p long) refl on
+  trail-on t (Reply d) x is (finishes w p good long) on = from-phase P.Candidate refl t p d x is (finishes w p good long) refl on
   trail-on t c x is (accepts area) on = absurd (differ on)
   trail-on t c x is (calls-back area) on = absurd (differ on)
   trail-on t c x is abandons on = absurd (differ on)

@@ -5,7 +5,7 @@ use mathlib.Core.Bool.{Bool, true, false}
 use mathlib.Core.List.{List}
 use Prim.Native.Nat.{ℕ, suc, _+_, _-_, _≤_}
 use native.Mathlib.Omega.{arith}
-use lib.Ieee.{Float, lt}
+use lib.Ieee.{Float}
 use Rattle.ieee.specs.Double.{nought}
 use Rattle.family.specs.Family.{family-of, stage-count, setting}
 use Rattle.family.proofs.Range.{permitted-range}
@@ -21,8 +21,8 @@ use Rattle.driver.specs.declared.Phase.{Phase}
 use Rattle.driver.specs.declared.Phase.the-variants as P
 use Rattle.driver.specs.declared.Answer.the-variants.{Finished}
 use Rattle.driver.specs.Answers.{case-number}
-use Rattle.driver.specs.Calls.{Held, Called, in-phase, first-at, at-pass, with-radius, at-stage, pending, Call, Attempt, Reply, taken, setting-of}
-use Rattle.session.specs.Concluded.{stages-of, passes-of, scaled-radius-of, is-start}
+use Rattle.driver.specs.Calls.{Held, Called, in-phase, first-at, at-pass, with-radius, at-stage, pending, good-end, Call, Attempt, Reply, taken, setting-of}
+use Rattle.session.specs.Concluded.{stages-of, passes-of, scaled-radius-of, Suits, is-start}
 use Rattle.session.proofs.Truth.{differ}
 use Rattle.session.proofs.Lengths.{its-family}
 use Rattle.session.proofs.Signs.{Plus, not-below, perturbation-plus, radius-plus, scaled-plus}
@@ -52,18 +52,12 @@ case-at P.Candidate = 1
 case-at P.Finished = 2
 case-at P.Callback = 1
 
--- what holds of k, s and r once they are known
-pub record Suits (family k s : ℕ) (r : Float) : Type 0 where
-  pub one-pass : 1 ≤ k
-  pub twelve-passes : k ≤ 12
-  pub not-negative : lt r nought ≡ false
-  pub stages-are : s ≡ stage-count (family-of family) r
-
 -- Below, the attempt found g, its arguments are a, m replies are taken since, and x is what is held.
 
 -- before they are known
 pub record In-passes (g : Held) (m : ℕ) (x : Held) : Type 0 where
   pub pass-is : passes-of x ≡ m + 1
+  pub no-radius-yet : scaled-radius-of x ≡ nought
   pub unsigned : Plus (x .kept .iteration .perturbation)
   pub attempts-are : x .counters .«finished_attempts» ≡ g .counters .«finished_attempts»
 
@@ -110,7 +104,7 @@ attempt-begins g a y (attempts v t b area) q = (
   record {
     arguments-are = refl;
     evaluations-are = omega arith;
-    position = record { pass-is = refl; unsigned = perturbation-plus v; attempts-are = refl };
+    position = record { pass-is = refl; no-radius-yet = refl; unsigned = perturbation-plus v; attempts-are = refl };
   },
   refl,
 )
@@ -128,7 +122,7 @@ module _ (g : Held) (a : Arguments) (m : ℕ) (x : Held) (u : Underway g a m x) 
     underway = record {
       arguments-are = u .arguments-are;
       evaluations-are = omega arith;
-      position = record { pass-is = omega arith; unsigned = i .unsigned; attempts-are = i .attempts-are };
+      position = record { pass-is = omega arith; no-radius-yet = refl; unsigned = i .unsigned; attempts-are = i .attempts-are };
     };
     answered = refl;
   }
@@ -185,7 +179,7 @@ module _ (g : Held) (a : Arguments) (m : ℕ) (x : Held) (u : Underway g a m x) 
     };
     answered = refl;
   }
-  reply-goes d y (finishes w p long) q on = let i = at-phase P.Candidate p in record {
+  reply-goes d y (finishes w p good long) q on = let i = at-phase P.Candidate p in record {
     underway = record {
       arguments-are = u .arguments-are;
       evaluations-are = omega arith;
@@ -216,14 +210,15 @@ stays x c y (iterates t radius b area p) other = (refl, refl)
 stays x c y (begins w t b area p twelve) other = (refl, refl)
 stays x c y (goes-on t b area p below) other = (refl, refl)
 stays x c y (asks-candidate t b area p at) other = (refl, refl)
-stays x c y (finishes w p long) other = (refl, refl)
+stays x c y (finishes w p good long) other = (refl, refl)
 stays x c y (accepts area) other = (refl, refl)
 stays x c y (calls-back area) other = (refl, refl)
 stays x c y abandons other = (refl, refl)
 
--- an answer "finished" leaves that phase, and has the norm of the vectors left
+-- an answer "finished" leaves that phase, has the norm of the vectors left, and k and s of the record, in their ranges
 pub record Left-finished (x : Called) : Type 0 where
   pub phase-is : x .held .kept .phase ≡ P.Finished
+  pub in-range : good-end (setting-of (x .held .kept)) (passes-of (x .held)) (stages-of (x .held)) ≡ true
   pub figures-are : x .answer ≡ Finished (figures-after (x .held .kept) (unpack (x .held .kept .n) (x .held .area)))
 
 pub leaves-finished : (x : Held) (c : Call) (y : Called) → Outcome x c y → case-number (y .answer) ≡ 2 → Left-finished y
@@ -237,8 +232,9 @@ leaves-finished x c y (iterates t radius b area p) two = absurd (omega arith)
 leaves-finished x c y (begins w t b area p twelve) two = absurd (omega arith)
 leaves-finished x c y (goes-on t b area p below) two = absurd (omega arith)
 leaves-finished x c y (asks-candidate t b area p at) two = absurd (omega arith)
-leaves-finished x c y (finishes w p long) two = record {
+leaves-finished x c y (finishes w p good long) two = record {
   phase-is = refl;
+  in-range = good;
   figures-are = ap (λ (v : Vectors). Finished (figures-after (x .kept) v)) (sym (unpack-pack (its-family (x .kept)) (x .kept .n) w long));
 }
 leaves-finished x c y (accepts area) two = absurd (omega arith)

@@ -15,6 +15,7 @@ use Rattle.workspace.specs.Vectors.{last-derivative}
 use Rattle.workspace.specs.Kernel.{combined-entry}
 use Rattle.driver.specs.declared.Phase.the-variants as P
 use Rattle.driver.specs.declared.Need.the-variants.{Met}
+use Rattle.driver.specs.declared.Figures.{Figures}
 use Rattle.driver.specs.declared.Answer.{Answer}
 use Rattle.driver.specs.declared.Answer.the-variants.{Evaluate, Finished, Ready, Refused, Empty}
 use Rattle.driver.specs.Answers.{case-number, Same-answer}
@@ -57,6 +58,10 @@ last-found (suc m) d i h x = last-found m d (suc i) (x .held) (reply (x .held) (
 
 -- ---- the statement
 
+-- what its finished answer tells
+abbrev pub figures-told : Finished-attempt → Figures
+figures-told o = figures-of (o .norm) (o .stages) (o .passes) (o .scaled-radius)
+
 -- the attempt is not turned away
 pub record Allowed (h : Held) (a : Arguments) : Type 0 where
   pub family-known : known (h .kept .family) ≡ true
@@ -84,7 +89,7 @@ pub record Waits (h : Held) (replies : ℕ) (x : Called) : Type 0 where
 
 -- finished after this many replies, from h with the arguments a; the candidate is the last stage, and RKMC2's the combination of the vectors that are left
 pub record Finishes (h : Held) (a : Arguments) (o : Finished-attempt) (replies : ℕ) (x : Called) : Type 0 where
-  pub answer-is : x .answer ≡ Finished (figures-of (o .norm))
+  pub answer-is : x .answer ≡ Finished (figures-told o)
   pub area-is : x .held .area ≡ pack (o .vectors)
   pub vectors-long : (b : Vector) → length (o .vectors b) ≡ width (family-of (h .kept .family)) (h .kept .n) b
   pub state-stands : o .vectors state ≡ unpack (h .kept .n) (h .area) state
@@ -151,14 +156,14 @@ pub record Runs (h : Held) (a : Arguments) (d : ℕ → List Float) : Type 0 whe
       (last-found (replies-to h a d) d 0 h (attempt h a)) (after (replies-to h a d) d 0 (attempt h a))
 
 -- What a finished attempt took, in the order's words: s + k replies with k from 1 to 12, each but the last answered by a further evaluation and the last by
--- finished with its norm; the counters rose by s + k and by 1.
+-- finished with its norm, s, k and r; the counters rose by s + k and by 1.
 pub record Took (h : Held) (a : Arguments) (d : ℕ → List Float) (o : Finished-attempt) (x : Called) : Type 0 where
   pub replies-are : replies-to h a d ≡ o .stages + o .passes
   pub one-pass : 1 ≤ o .passes
   pub twelve-passes : o .passes ≤ 12
   pub stages-are : o .stages ≡ stage-count (family-of (h .kept .family)) (o .scaled-radius)
   pub each-evaluates : (j : ℕ) → j < o .stages + o .passes → case-number (after j d 0 (attempt h a) .answer) ≡ 1
-  pub answer-is : Same-answer (x .answer) (Finished (figures-of (o .norm)))
+  pub answer-is : Same-answer (x .answer) (Finished (figures-told o))
   pub evaluations-are : x .held .counters .evaluations ≡ h .counters .evaluations + (o .stages + o .passes)
   pub attempts-are : x .held .counters .«finished_attempts» ≡ h .counters .«finished_attempts» + 1
 

@@ -1,8 +1,9 @@
--- What an answer "finished" stands for, wherever it comes in a sequence of calls: the attempt, the replies since it, the counters, and s, k and r of the
--- record (`Concluded`). And what the record carries wherever a stage awaits its derivative (`Carries`).
+-- What an answer "finished" stands for, wherever it comes in a sequence of calls: the attempt, the replies since it, the counters, and the s, k and r that it
+-- tells (`Concluded`), which the record keeps (`Kept`). And what the record carries wherever a stage awaits its derivative (`Carries`).
 -- Document 01: demand 2's domain is "every call that the last table does not turn away, in a sequence from a start that it does not turn away either";
 -- "The evaluations of one finished attempt are s + k, with k from 1 to 12, each one reply"; demand 3 "holds also of the s that a finished attempt ran, for
--- its own r where that is finite".
+-- its own r where that is finite". Document 02, CR 2: the finished answer carries "s, k and the scaled radius beside the norm, and the record keeps them until
+-- the next attempt"; "Evaluations of the attempt still equal s + k, now over the written values".
 use Prim.Native.Nat.{ℕ, _+_, _-_, _≤_}
 use mathlib.Core.Path.{_≡_}
 use mathlib.Core.Bool.{Bool, true, false, cond, not, _&&_}
@@ -28,9 +29,9 @@ use Rattle.workspace.specs.declared.Arguments.{Arguments}
 use Rattle.workspace.specs.Vectors.{unpack}
 use Rattle.workspace.specs.Kernel.{error-norm}
 use Rattle.driver.specs.declared.Phase.the-variants as P
-use Rattle.driver.specs.declared.Answer.the-variants.{Finished}
+use Rattle.driver.specs.declared.Figures.{Figures}
 use Rattle.driver.specs.Answers.{case-number}
-use Rattle.driver.specs.Calls.{Held, Called, setting-of, figures-of, Call, Start, Attempt, Reply, Accept, Accept-with-callback, Abandon, made, taken}
+use Rattle.driver.specs.Calls.{Held, setting-of, Call, Start, Attempt, Reply, Accept, Accept-with-callback, Abandon, made, is-attempt, taken}
 use Rattle.session.specs.Session.{taken-of, held-after}
 
 -- ---- one call of a list
@@ -93,6 +94,13 @@ passes-of x = x .kept .iteration .pass
 abbrev pub scaled-radius-of : Held → Float
 scaled-radius-of x = x .kept .iteration .«scaled_radius»
 
+-- what holds of k, s and r once an attempt has them
+pub record Suits (family k s : ℕ) (r : Float) : Type 0 where
+  pub one-pass : 1 ≤ k
+  pub twelve-passes : k ≤ 12
+  pub not-negative : lt r nought ≡ false
+  pub stages-are : s ≡ stage-count (family-of family) r
+
 -- demand 3 of an attempt of s stages for the scaled radius r: RKL1, RKL2, RKG1, RKG2
 pub record Demand-three (g : Orthogonal) (r : Float) (s : ℕ) : Type 0 where
   pub serves : T (finite r) → Serves g r s
@@ -100,30 +108,62 @@ pub record Demand-three (g : Orthogonal) (r : Float) (s : ℕ) : Type 0 where
   pub rows-close : (j : ℕ) → 2 ≤ j → j ≤ s → (c : Recurrence) → Close-row g s j (coefficients-of (made-of g) s j c)
   pub stable : Stable g s
 
--- The last of these calls from h on is answered "finished"; x is its answer and what it leaves. An attempt was taken, and the calls taken since are s + k
--- replies and no other call, answered by evaluations and at last by finished, with the norm of the vectors that are left.
-pub record Concluded (h : Held) (calls : List Call) (x : Called) : Type 0 where
+-- the record holds s, k and r of a finished answer
+pub record Kept (told : Figures) (x : Held) : Type 0 where
+  pub stages-kept : stages-of x ≡ told .stages
+  pub passes-kept : passes-of x ≡ told .passes
+  pub radius-kept : scaled-radius-of x ≡ told .«scaled_radius»
+
+-- The last of these calls from h on is answered "finished", and told are its norm, s, k and r; x is what it leaves. An attempt was taken, and the calls taken
+-- since are s + k replies and no other call, answered by evaluations and at last by finished, with the norm of the vectors that are left.
+pub record Concluded (h : Held) (calls : List Call) (told : Figures) (x : Held) : Type 0 where
   pub start : Latest-start h calls
-  pub family-is : x .held .kept .family ≡ start .family
-  pub n-is : x .held .kept .n ≡ start .n
+  pub family-is : x .kept .family ≡ start .family
+  pub n-is : x .kept .n ≡ start .n
   pub arguments : Arguments
   pub attempt : Taken-among h calls (Attempt arguments)
-  pub arguments-are : x .held .kept .arguments ≡ arguments
-  pub phase-is : x .held .kept .phase ≡ P.Finished
+  pub arguments-are : x .kept .arguments ≡ arguments
+  pub phase-is : x .kept .phase ≡ P.Finished
   pub replies : List (List Float)
   pub only-replies : taken-since attempt ≡ map Reply replies
-  pub replies-are : length replies ≡ stages-of (x .held) + passes-of (x .held)
+  pub replies-are : length replies ≡ told .stages + told .passes
   pub answers-are : cases-since attempt ≡ replicate (length replies - 1) 1 ++ 2 ∷ []
-  pub figures-are :
-      x .answer ≡ Finished (figures-of (error-norm (setting (start .family)) (start .n) (stages-of (x .held)) arguments (unpack (start .n) (x .held .area))))
-  pub one-pass : 1 ≤ passes-of (x .held)
-  pub twelve-passes : passes-of (x .held) ≤ 12
-  pub evaluations-are : x .held .counters .evaluations ≡ found attempt .counters .evaluations + (stages-of (x .held) + passes-of (x .held))
-  pub attempts-are : x .held .counters .«finished_attempts» ≡ found attempt .counters .«finished_attempts» + 1
-  pub stages-are : stages-of (x .held) ≡ stage-count (family-of (start .family)) (scaled-radius-of (x .held))
-  pub not-negative : lt (scaled-radius-of (x .held)) nought ≡ false
-  pub largest-at-infinity : scaled-radius-of (x .held) ≡ inf false → stages-of (x .held) ≡ largest-count (family-of (start .family))
-  pub demand-three : (g : Orthogonal) → family-of (start .family) ≡ made-of g → Demand-three g (scaled-radius-of (x .held)) (stages-of (x .held))
+  pub norm-is : told .norm ≡ error-norm (setting (start .family)) (start .n) (told .stages) arguments (unpack (start .n) (x .area))
+  pub one-pass : 1 ≤ told .passes
+  pub twelve-passes : told .passes ≤ 12
+  pub evaluations-are : x .counters .evaluations ≡ found attempt .counters .evaluations + (told .stages + told .passes)
+  pub attempts-are : x .counters .«finished_attempts» ≡ found attempt .counters .«finished_attempts» + 1
+  pub stages-are : told .stages ≡ stage-count (family-of (start .family)) (told .«scaled_radius»)
+  pub not-negative : lt (told .«scaled_radius») nought ≡ false
+  pub largest-at-infinity : told .«scaled_radius» ≡ inf false → told .stages ≡ largest-count (family-of (start .family))
+  pub demand-three : (g : Orthogonal) → family-of (start .family) ≡ made-of g → Demand-three g (told .«scaled_radius») (told .stages)
+  pub record-holds : Kept told x
+
+-- whatever record was handed in: k is from 1 to 12, and s permitted to the record's family
+pub record In-range (told : Figures) (x : Held) : Type 0 where
+  pub one-pass : 1 ≤ told .passes
+  pub twelve-passes : told .passes ≤ 12
+  pub stages-permitted : T (permitted (family-of (x .kept .family)) (told .stages))
+
+-- ---- until the next attempt
+
+-- s, k and r of the record stand
+pub record Three-stand (h x : Held) : Type 0 where
+  pub stages-stand : stages-of x ≡ stages-of h
+  pub passes-stand : passes-of x ≡ passes-of h
+  pub radius-stands : scaled-radius-of x ≡ scaled-radius-of h
+
+unfoldable pub no-attempt : List Call → Bool
+no-attempt [] = true
+no-attempt (c ∷ cs) = not (is-attempt c) && no-attempt cs
+
+-- s, k and r of the record while an attempt is under way, in a sequence. Among the passes k is the one that awaits its derivative and r is 0, s being still that
+-- of the attempt before. From the first stage on they are the attempt's own.
+pub record Under-way (x : Held) : Type 0 where
+  pub pass-awaited : x .kept .phase ≡ P.Pass → 1 ≤ passes-of x
+  pub no-radius-yet : x .kept .phase ≡ P.Pass → scaled-radius-of x ≡ nought
+  pub own-in-stages : x .kept .phase ≡ P.Stage → Suits (x .kept .family) (passes-of x) (stages-of x) (scaled-radius-of x)
+  pub own-at-candidate : x .kept .phase ≡ P.Candidate → Suits (x .kept .family) (passes-of x) (stages-of x) (scaled-radius-of x)
 
 -- ---- a stage that awaits its derivative, in a sequence
 

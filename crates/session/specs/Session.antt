@@ -43,8 +43,8 @@ finished-shown o = finished-with (o .norm) (o .stages) (o .passes) (o .scaled-ra
 
 unfoldable pub answer-shown : Answer → Held → Shown
 answer-shown (Evaluate t b) h = evaluates t (unpack (h .kept .n) (h .area) (named b))
-answer-shown (Finished figures) h = let i = h .kept .iteration in
-    finished-with (figures .norm) (h .kept .staging .stages) (i .pass) (i .«scaled_radius») (unpack (h .kept .n) (h .area) candidate)
+answer-shown (Finished told) h =
+    finished-with (told .norm) (told .stages) (told .passes) (told .«scaled_radius») (unpack (h .kept .n) (h .area) candidate)
 answer-shown Ready h = ready-at (unpack (h .kept .n) (h .area) state) (unpack (h .kept .n) (h .area) first-derivative)
 answer-shown (Refused i) h = stops i (fixed-at i (unpack (h .kept .n) (h .area)))
 answer-shown Empty h = nothing
