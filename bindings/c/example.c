@@ -1,4 +1,4 @@
-/* Ten steps of a cooling rod of eight cells. Build and run:
+/* Ten steps of a cooling rod of eight cells, each with its error norm, stages s, passes k and scaled radius r. Build and run:
  *   rt staticlib capi
  *   cc -std=c11 bindings/c/example.c target/staticlib/libcapi.a -o target/example && target/example
  */
@@ -51,7 +51,9 @@ int main(void) {
     answer = stabilized_attempt(wholes, doubles, e.area, STABILIZED_VECTORS * N, time, step, 1e-3, 1e-3, 1);
     answer = run(&e, answer);
     if (answer.code != STABILIZED_FINISHED) break;
-    printf("t = %.4f  middle %9.5f  norm %.4f\n", time + step, e.area[STABILIZED_CANDIDATE * N + N / 2], answer.value);
+    printf("t = %.4f  middle %9.5f  norm %.4f  s %llu  k %llu  r %.4f\n", time + step,
+           e.area[STABILIZED_CANDIDATE * N + N / 2], answer.norm, (unsigned long long)answer.stages,
+           (unsigned long long)answer.passes, answer.scaled_radius);
     time += step;
     answer = stabilized_accept(wholes, doubles, e.area, STABILIZED_VECTORS * N);
   }

@@ -1,7 +1,7 @@
 /* Stabilized Runge-Kutta steps (RKC, RKL1, RKL2, RKG1, RKG2, RKMC2) by a proved engine, libcapi.a.
  *
  * Every call is lent the record, in two parts that it reads and writes in place, and answers. While the answer is
- * STABILIZED_EVALUATE, work out the derivative of vector `number` of the area at time `value` and bring it with
+ * STABILIZED_EVALUATE, work out the derivative of vector `number` of the area at `time` and bring it with
  * stabilized_reply. No call has a precondition beyond these two: pointers are valid for the counts beside them, those to a
  * part of the record and to a counter for one each; and what a call writes overlaps nothing else that it is handed, so the
  * two parts of the record, the two counters and the area overlap neither each other nor the state nor the derivative. (The
@@ -64,8 +64,8 @@ enum {
 
 /* The answers' codes. */
 enum {
-  STABILIZED_EVALUATE = 1, /* number: the vector, value: the time */
-  STABILIZED_FINISHED = 2, /* value: the error norm */
+  STABILIZED_EVALUATE = 1, /* number: the vector, time */
+  STABILIZED_FINISHED = 2, /* norm, stages, passes, scaled_radius */
   STABILIZED_READY = 3,
   STABILIZED_REFUSED = 4,  /* number: the cause, below */
   STABILIZED_EMPTY = 5
@@ -95,14 +95,18 @@ enum {
  * call that is turned away with 1 to 8 leaves it as it was. The doubles are the attempt's arguments, the power iteration's
  * (perturbation, previous_radius, scaled_radius) and what the stages carry on: theta; for RKC and RKMC2 also omega, b and
  * value; for RKC alone first and second, which RKMC2 sets to 0 and carries along. They stand in the order in which the
- * engine reads them fastest. */
+ * engine reads them fastest.
+ *
+ * stages, pass and scaled_radius are s, k and r of a finished answer from that answer until the next attempt that is taken:
+ * accept, a callback and its reply, start, abandon and every call that is turned away keep them. Such an attempt sets pass to 1
+ * and scaled_radius to 0; stages stands until its own stages begin. */
 typedef struct {
   uint64_t family;
   uint64_t n;
   uint64_t phase;
   uint64_t adaptive; /* 0 is a no, all else a yes */
-  uint64_t pass;     /* of the power iteration */
-  uint64_t stages;
+  uint64_t pass;     /* of the power iteration; k after it */
+  uint64_t stages;   /* s */
   uint64_t stage;
 } stabilized_wholes;
 
@@ -133,10 +137,16 @@ typedef struct {
   stabilized_doubles doubles;
 } stabilized_record;
 
+/* An answer: its code, and what that code names above. All else is 0. The evaluations of a finished attempt are s + k; s was
+ * chosen for r, the step's size times the radius that the passes came to. */
 typedef struct {
   uint64_t code;
-  uint64_t number;
-  double value;
+  uint64_t number;      /* of the vector to evaluate, or of the cause */
+  double time;          /* to evaluate it at */
+  double norm;          /* of the error; 0 without adaptive */
+  uint64_t stages;      /* s */
+  uint64_t passes;      /* k, those of the power iteration, 1 to 12 */
+  double scaled_radius; /* r, which may be infinite, or a NaN, for which s is chosen as for 0 */
 } stabilized_answer;
 
 /* Begins anew, in any phase: keeps the state and asks for the first derivative. */

@@ -1,11 +1,14 @@
 //! differential quick | long [seed]: compares the tables, runs the scenarios and the random calls, and prints what was
 //! reached.
-//! differential scenario SEED, differential call SEED: one of them again.
+//! differential scenario SEED LARGEST, differential call SEED: one of them again, as a difference names it; LARGEST is the
+//! largest n that a scenario was drawn with. Of a scenario every finished attempt is told.
 use differential::build::{self, Departure};
 use differential::pair::SHORT;
 use differential::random::mixed;
 use differential::random_calls::{self, Answers};
-use differential::scenarios::{self, Counted, Coverage, DIMENSIONS, EARLY, ENDINGS};
+use differential::scenarios::{
+    self, Counted, Coverage, DIMENSIONS, EARLY, ENDINGS, Keeping, Unbounded,
+};
 use oracle::thresholds::{self, Disagreement, UNITS};
 use std::ops::RangeInclusive;
 use std::process::ExitCode;
@@ -51,17 +54,17 @@ impl Size {
 
 fn main() -> ExitCode {
     let words: Vec<String> = std::env::args().skip(1).collect();
-    let seed = words
-        .get(1)
-        .map_or(1, |word| word.parse().expect("a number"));
+    let number = |at: usize| -> Option<u64> {
+        let word = words.get(at)?;
+        Some(word.parse().expect("a number"))
+    };
+    let seed = number(1).unwrap_or(1);
     let result = match words.first().map(String::as_str) {
         Some("quick") => all(&QUICK, seed),
         Some("long") => all(&LONG, seed),
-        Some("scenario") => {
-            scenarios::session(seed, 512, &oracle::FAMILIES, &mut Coverage::default())
-        }
+        Some("scenario") => scenario(seed, number(2).unwrap_or(512) as usize),
         Some("call") => random_calls::call(seed, &mut Answers::default()),
-        _ => Err("differential quick | long [seed], scenario SEED, call SEED".to_string()),
+        _ => Err("differential quick | long [seed], scenario SEED LARGEST, call SEED".to_string()),
     };
     match result {
         Ok(()) => ExitCode::SUCCESS,
@@ -70,6 +73,16 @@ fn main() -> ExitCode {
             ExitCode::FAILURE
         }
     }
+}
+
+/// A random session again, of the families that sessions are drawn with.
+fn scenario(seed: u64, largest: usize) -> Result<(), String> {
+    let mut coverage = Coverage {
+        told: true,
+        ..Coverage::default()
+    };
+    let families = as_stored(&build::departures());
+    scenarios::session(seed, largest, &families, &mut coverage)
 }
 
 fn all(size: &Size, seed: u64) -> Result<(), String> {
@@ -135,18 +148,24 @@ fn run_scenarios(size: &Size, seed: u64, departures: &[Departure]) -> Result<(),
     let mut coverage = Coverage::default();
     every_count(size, seed, departures, &mut coverage)?;
     every_early_ending(seed, departures, &mut coverage)?;
-    let as_stored = |family: &u64| departures.iter().all(|found| found.family != *family);
-    let families: Vec<u64> = oracle::FAMILIES.into_iter().filter(as_stored).collect();
+    let families = as_stored(departures);
+    every_unbounded_radius(size, seed, &families, &mut coverage)?;
     let mut index = 0;
     while coverage.attempts < size.attempts {
         let seed = mixed(seed ^ mixed(index));
         let largest = if index % 16 == 0 { 512 } else { 64 };
         scenarios::session(seed, largest, &families, &mut coverage)
-            .map_err(|difference| format!("scenario {seed}: {difference}"))?;
+            .map_err(|difference| format!("scenario {seed} {largest}: {difference}"))?;
         index += 1;
     }
     report(&coverage);
     reached(coverage.missing(&families))
+}
+
+/// The families whose tables are those of the named build.
+fn as_stored(departures: &[Departure]) -> Vec<u64> {
+    let stored = |family: &u64| departures.iter().all(|found| found.family != *family);
+    oracle::FAMILIES.into_iter().filter(stored).collect()
 }
 
 fn run_calls(size: &Size, seed: u64) -> Result<(), String> {
@@ -225,11 +244,31 @@ fn every_early_ending(
     Ok(())
 }
 
+/// Radii that are no finite numbers, in every family; infinite ones not in RKC, where the Rust's count overflows.
+fn every_unbounded_radius(
+    size: &Size,
+    seed: u64,
+    families: &[u64],
+    coverage: &mut Coverage,
+) -> Result<(), String> {
+    for &family in families {
+        for &n in size.dimensions.iter().filter(|n| **n <= 8) {
+            for radius in [Unbounded::Nan, Unbounded::Infinite] {
+                if (family, radius) != (1, Unbounded::Infinite) {
+                    Keeping { family, radius, n }.run(seed, coverage)?;
+                }
+            }
+        }
+    }
+    Ok(())
+}
+
 fn report(coverage: &Coverage) {
     println!(
         "{} scenarios, {} attempts, {} evaluations; {} calls between them turned away",
         coverage.scenarios, coverage.attempts, coverage.evaluations, coverage.turned_away
     );
+    report_figures(coverage);
     for family in oracle::FAMILIES {
         report_family(coverage, family);
     }
@@ -239,6 +278,26 @@ fn report(coverage: &Coverage) {
     for (kind, count) in &coverage.kinds {
         println!("{kind}: {count}");
     }
+}
+
+/// Finished attempts whose norm, s, k and r were compared, and what their records kept the three through.
+fn report_figures(coverage: &Coverage) {
+    println!(
+        "norm, s, k and r of {} finished attempts compared with the Rust's: r NaN in {}, infinite in {}, zero in {}",
+        coverage.finished(),
+        coverage.radius("NaN"),
+        coverage.radius("infinite"),
+        coverage.radius("zero")
+    );
+    let kept = coverage
+        .kept
+        .iter()
+        .map(|((name, number), count)| match number {
+            0 => format!("{count} {name}"),
+            number => format!("{count} {name} turned away with {number}"),
+        });
+    let kept: Vec<String> = kept.collect();
+    println!("s, k and r kept through: {}", kept.join(", "));
 }
 
 fn report_family(coverage: &Coverage, family: u64) {

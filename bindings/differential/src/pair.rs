@@ -1,5 +1,6 @@
-//! The engine and the Rust side by side: each call goes to both, and time, point, answer, counts, norm and all eleven
-//! vectors are compared, bit for bit with NaN matching NaN.
+//! The engine and the Rust side by side: each call goes to both, and time, point, answer, counts, norm, s, k, r and all eleven
+//! vectors are compared, bit for bit with NaN matching NaN. s, k and r of the Rust are its own: the evaluations of its power
+//! iteration and of the rest of the attempt, and what that iteration comes to.
 //!
 //! The Rust evaluates inside a call. To see its vectors at an evaluation, it is run again from a copy up to there, where
 //! the right-hand side stops it before a derivative is written. That is done at each evaluation of an attempt with up to 200
@@ -8,11 +9,15 @@
 //! each evaluation.
 use crate::model::Replies;
 use crate::random::{Random, all_same, same};
-use crate::refusals::{Arguments, Call, Given, Held, Outcome, Start, check, number, stands};
+use crate::refusals::{
+    Arguments, Call, Given, Held, Kept, Outcome, Start, check, evaluate, finished, name, number,
+    refused, same_answer, stands, without_values,
+};
 use crate::trace::Trace;
-use oracle::{Oracle, SolveError};
+use oracle::{Figures, Iteration, Oracle, SolveError};
 use stabilized::calls::{self, Answer, Counters, Record, VECTORS, Wholes, code, phase, vector};
 use std::cell::{Cell, RefCell};
+use std::collections::BTreeMap;
 
 /// From this r on the Rust's stage count of RKC overflows: a listed difference.
 pub const RKC_OVERFLOW: f64 = f64::from_bits(0x47E4_C77B_0353_1DEC);
@@ -24,18 +29,13 @@ pub const SHORT: usize = 200;
 #[derive(Clone, Copy, Debug, PartialEq)]
 pub enum Ending {
     Ready,
-    Finished {
-        stages: u64,
-        passes: u64,
-        scaled_radius: f64,
-        norm: f64,
-    },
+    Finished(Figures),
     BadDerivative,
     BadCandidate,
     Abandoned,
     /// Left with an evaluation pending, for a start in the middle.
     Pending,
-    /// RKC with an r at which the Rust overflows: only the engine was run.
+    /// RKC with an r at which the Rust's count overflows: of the Rust only the power iteration was run.
     LeftOut,
 }
 
@@ -61,6 +61,10 @@ pub struct Pair {
     /// False while the oracle's vectors began as zeros and the engine's did not: then only what an attempt reads is
     /// compared at an evaluation.
     strict: bool,
+    /// Of the latest finished answer, until an attempt is taken: what the record keeps.
+    told: Option<Kept>,
+    /// How many calls it was kept through, by name and the number that the call was turned away with, or 0.
+    pub kept: BTreeMap<(&'static str, u64), u64>,
     /// For calls that are turned away, made between the others.
     random: Random,
     pub turned_away: u64,
@@ -91,6 +95,8 @@ impl Pair {
             counted: 0,
             finished: 0,
             strict,
+            told: None,
+            kept: BTreeMap::new(),
             random: Random::new(seed),
             turned_away: 0,
             trace: None,
@@ -145,7 +151,7 @@ impl Pair {
         });
         let outcome = self.engine(&call)?;
         self.follow(outcome, replies, stop, |oracle, rhs| {
-            oracle.initialize(state, time, rhs).map(|()| 0.0)
+            oracle.initialize(state, time, rhs).map(|()| None)
         })
     }
 
@@ -155,32 +161,23 @@ impl Pair {
         replies: &Replies,
         stop: Option<(usize, Stop)>,
     ) -> Compared {
-        let radius = self.scaled_radius(arguments, replies);
+        let iteration = self.iteration(arguments, replies);
         let outcome = self.engine(&Call::Attempt(arguments_of(arguments)))?;
-        if self.overflows(radius) {
-            return self.left_out(outcome, replies);
+        match iteration {
+            Ok(iteration) if self.overflows(iteration) => {
+                self.left_out(outcome, replies, iteration)
+            }
+            _ => self.follow(outcome, replies, stop, |oracle, rhs| {
+                oracle.figures(iteration, arguments, rhs).map(Some)
+            }),
         }
-        let ending = self.follow(outcome, replies, stop, |oracle, rhs| {
-            oracle.attempt(arguments, rhs)
-        })?;
-        if let Ending::Finished { scaled_radius, .. } = ending
-            && !same(
-                scaled_radius,
-                radius.expect("a finished attempt has a radius"),
-            )
-        {
-            return Err(format!(
-                "scaled radius {scaled_radius}, the Rust's {radius:?}"
-            ));
-        }
-        Ok(ending)
     }
 
     pub fn accept(&mut self) -> Result<(), String> {
         let kept = self.record.doubles;
         let outcome = self.engine(&Call::Accept)?;
         self.oracle.accept(kept.time, kept.step);
-        expect(&outcome.answer, code::READY, 0, 0.0)?;
+        expect(&outcome.answer, &without_values(code::READY))?;
         self.compare(&self.oracle, true, "accept")
     }
 
@@ -196,32 +193,33 @@ impl Pair {
         self.follow(outcome, replies, stop, |oracle, rhs| {
             oracle
                 .accept_with_callback(state, time, step, rhs)
-                .map(|()| 0.0)
+                .map(|()| None)
         })
     }
 
     /// How many evaluations the Rust makes in an attempt; 1 where its count overflows, since it is not run there.
     pub fn evaluations(&self, arguments: oracle::Arguments, replies: &Replies) -> usize {
-        if self.overflows(self.scaled_radius(arguments, replies)) {
+        let iteration = self.iteration(arguments, replies);
+        if iteration.is_ok_and(|iteration| self.overflows(iteration)) {
             return 1;
         }
-        let run = |oracle: &mut Oracle, rhs: &Rhs| oracle.attempt(arguments, rhs);
+        let run = |oracle: &mut Oracle, rhs: &Rhs| oracle.attempt(arguments, rhs).map(|_| None);
         Whole::of(&self.oracle, replies, &run).evaluated.len()
     }
 
-    /// Whether the Rust's stage count overflows at this scaled radius.
-    fn overflows(&self, radius: Result<f64, SolveError>) -> bool {
-        self.record.wholes.family == 1 && radius.is_ok_and(|r| r >= RKC_OVERFLOW)
+    /// Whether the Rust's stage count overflows after this iteration.
+    fn overflows(&self, iteration: Iteration) -> bool {
+        self.record.wholes.family == 1 && iteration.scaled_radius >= RKC_OVERFLOW
     }
 
-    /// |step| × 1.2 × radius as the Rust works it out.
-    fn scaled_radius(
+    /// The Rust's power iteration in the attempt that follows.
+    fn iteration(
         &self,
         arguments: oracle::Arguments,
         replies: &Replies,
-    ) -> Result<f64, SolveError> {
+    ) -> Result<Iteration, SolveError> {
         let place = Cell::new(0);
-        self.oracle.scaled_radius(
+        self.oracle.iteration(
             arguments,
             &|derivative: &mut [f64], point: &[f64], time: f64| {
                 replies.evaluate(place.get(), derivative, point, time);
@@ -249,8 +247,44 @@ impl Pair {
         if let Some(trace) = &mut self.trace {
             trace.call(&held, call, &given);
         }
+        self.keeps(call, &held.record, &outcome)?;
         self.record = outcome.record;
         Ok(outcome)
+    }
+
+    /// s, k and r, after every call: a finished answer tells what the record holds, and the record keeps that until an attempt
+    /// is taken, which sets k to 1 and r to 0. ([`check`] says how they move within an attempt.)
+    fn keeps(&mut self, call: &Call, before: &Record, outcome: &Outcome) -> Result<(), String> {
+        let (answer, held) = (&outcome.answer, Kept::in_record(&outcome.record));
+        let mut expected = self.told;
+        match (call, answer.code) {
+            (Call::Attempt(_), code::EVALUATE) => {
+                self.told = None;
+                expected = Some(Kept {
+                    stages: before.wholes.stages,
+                    passes: 1,
+                    scaled_radius: 0.0,
+                });
+            }
+            (_, code::FINISHED) => {
+                self.told = Some(Kept::in_answer(answer));
+                expected = self.told;
+            }
+            _ if self.told.is_some() => {
+                let through = (named(call, before), answer_number(answer));
+                *self.kept.entry(through).or_default() += 1;
+            }
+            _ => {}
+        }
+        match expected {
+            Some(expected) if !expected.is(&held) => {
+                let call = named(call, before);
+                Err(format!(
+                    "after {call} the record holds {held:?}, expected {expected:?}"
+                ))
+            }
+            _ => Ok(()),
+        }
     }
 
     /// Drives the engine through all evaluations of one call of the Rust.
@@ -259,7 +293,7 @@ impl Pair {
         first: Outcome,
         replies: &Replies,
         stop: Option<(usize, Stop)>,
-        run: impl Fn(&mut Oracle, &Rhs) -> Result<f64, SolveError>,
+        run: impl Fn(&mut Oracle, &Rhs) -> End,
     ) -> Compared {
         let whole = Whole::of(&self.oracle, replies, &run);
         let (mut outcome, mut passes) = (first, 0);
@@ -268,7 +302,7 @@ impl Pair {
         for (place, (time, point)) in whole.evaluated.iter().enumerate() {
             self.evaluated = self.record.wholes;
             let number = asked(self.evaluated.phase);
-            expect(&outcome.answer, code::EVALUATE, number as u64, *time)?;
+            expect(&outcome.answer, &evaluate(number, *time))?;
             if !all_same(self.vector(number), point) {
                 return Err(format!("another point at evaluation {place}"));
             }
@@ -284,7 +318,7 @@ impl Pair {
                 return self.stopped(stop);
             }
             let point = self.vector(number).to_vec();
-            replies.evaluate(place, &mut derivative, &point, outcome.answer.value);
+            replies.evaluate(place, &mut derivative, &point, outcome.answer.time);
             outcome = self.engine(&Call::Reply {
                 derivative: &derivative,
             })?;
@@ -318,68 +352,66 @@ impl Pair {
             whole
         };
         self.counted = counted - self.oracle.evaluations();
-        self.strict |= matches!(ending, Ending::Finished { .. });
+        self.strict |= matches!(ending, Ending::Finished(_));
         self.compare(&self.oracle, self.strict, "the end")
     }
 
     fn ending(&mut self, outcome: &Outcome, whole: &Whole, last: &[f64], passes: u64) -> Compared {
         let answer = &outcome.answer;
-        let evaluations = whole.evaluated.len() as u64;
         match whole.end {
-            Ok(_) if passes == 0 => {
-                expect(answer, code::READY, 0, 0.0)?;
+            Ok(None) => {
+                expect(answer, &without_values(code::READY))?;
                 Ok(Ending::Ready)
             }
-            Ok(norm) => {
-                expect(answer, code::FINISHED, 0, norm)?;
-                self.finished += 1;
-                let stages = self.record.wholes.stages;
-                if evaluations != stages + passes || self.record.wholes.pass != passes {
-                    return Err(format!(
-                        "{stages} stages and {passes} passes in {evaluations} evaluations"
-                    ));
-                }
-                if self.counters.finished_attempts != self.finished {
-                    return Err("another count of finished attempts".to_string());
-                }
-                let scaled_radius = self.record.doubles.scaled_radius;
-                Ok(Ending::Finished {
-                    stages,
-                    passes,
-                    scaled_radius,
-                    norm,
-                })
-            }
+            Ok(Some(figures)) => self.finished(answer, figures, passes),
             Err(SolveError::NonFiniteDerivative) if last.iter().all(|value| value.is_finite()) => {
-                expect(answer, code::REFUSED, 10, 0.0)?;
+                expect(answer, &refused(10))?;
                 Ok(Ending::BadCandidate)
             }
             Err(SolveError::NonFiniteDerivative) => {
-                expect(answer, code::REFUSED, 9, 0.0)?;
+                expect(answer, &refused(9))?;
                 Ok(Ending::BadDerivative)
             }
             Err(error) => Err(format!("the Rust ended with {error:?}")),
         }
     }
 
-    /// RKC where the Rust's count overflows: the engine alone, which runs 200 stages.
-    fn left_out(&mut self, first: Outcome, replies: &Replies) -> Compared {
+    /// A finished answer beside what the Rust's attempt comes to, and beside the passes that the engine asked for.
+    fn finished(&mut self, answer: &Answer, figures: Figures, passes: u64) -> Compared {
+        expect(answer, &finished(figures.norm, &kept_of(&figures)))?;
+        if passes != figures.passes {
+            return Err(format!(
+                "asked for {passes} passes, finished with {figures}"
+            ));
+        }
+        self.finished += 1;
+        if self.counters.finished_attempts != self.finished {
+            return Err("another count of finished attempts".to_string());
+        }
+        Ok(Ending::Finished(figures))
+    }
+
+    /// RKC where the Rust's count overflows: the engine alone, which runs 200 stages. k and r are still the Rust's.
+    fn left_out(&mut self, first: Outcome, replies: &Replies, iteration: Iteration) -> Compared {
         let mut outcome = first;
         let mut derivative = vec![0.0; self.n()];
+        let expected = Kept {
+            stages: 200,
+            passes: iteration.passes,
+            scaled_radius: iteration.scaled_radius,
+        };
         for place in 0.. {
             if outcome.answer.code != code::EVALUATE {
                 break;
             }
             let point = self.vector(outcome.answer.number as usize).to_vec();
-            replies.evaluate(place, &mut derivative, &point, outcome.answer.value);
+            replies.evaluate(place, &mut derivative, &point, outcome.answer.time);
             outcome = self.engine(&Call::Reply {
                 derivative: &derivative,
             })?;
-            if self.record.wholes.phase == phase::STAGE && self.record.wholes.stages != 200 {
-                return Err(format!(
-                    "{} stages at an overflow",
-                    self.record.wholes.stages
-                ));
+            let held = Kept::in_record(&self.record);
+            if self.record.wholes.phase == phase::STAGE && !held.is(&expected) {
+                return Err(format!("at an overflow {held:?}, expected {expected:?}"));
             }
         }
         Ok(Ending::LeftOut)
@@ -411,10 +443,20 @@ impl Pair {
         if !self.random.chance(3) {
             return Ok(());
         }
+        let which = self.random.below(BAD_CALLS);
+        self.turn_away(which)
+    }
+
+    /// Every such call that is turned away here.
+    pub fn all_turned_away(&mut self) -> Result<(), String> {
+        (0..BAD_CALLS).try_for_each(|which| self.turn_away(which))
+    }
+
+    /// One of the calls that are turned away in most phases, if it is in this one.
+    fn turn_away(&mut self, which: usize) -> Result<(), String> {
         let n = self.n();
         let (one_too_long, infinite) = (vec![0.0; n + 1], vec![f64::INFINITY; n]);
-        let calls = bad_calls(&one_too_long, &infinite);
-        let call = calls[self.random.below(calls.len())];
+        let call = bad_calls(&one_too_long, &infinite)[which];
         let held = Held {
             record: self.record,
             counters: self.counters,
@@ -428,8 +470,10 @@ impl Pair {
     }
 }
 
+const BAD_CALLS: usize = 10;
+
 /// Calls that are turned away, in every phase or in most: each brings something bad, or comes out of turn.
-fn bad_calls<'a>(one_too_long: &'a [f64], infinite: &'a [f64]) -> [Call<'a>; 10] {
+fn bad_calls<'a>(one_too_long: &'a [f64], infinite: &'a [f64]) -> [Call<'a>; BAD_CALLS] {
     let n = infinite.len();
     let good = Start {
         family: 1,
@@ -464,19 +508,18 @@ fn bad_calls<'a>(one_too_long: &'a [f64], infinite: &'a [f64]) -> [Call<'a>; 10]
 
 type Rhs<'a> = dyn Fn(&mut [f64], &[f64], f64) -> Result<(), SolveError> + 'a;
 
+/// What a call of the Rust gives: of an attempt its figures.
+type End = Result<Option<Figures>, SolveError>;
+
 /// One whole call of the Rust: its kernel afterwards, what it gave, and where it evaluated.
 struct Whole {
     oracle: Oracle,
-    end: Result<f64, SolveError>,
+    end: End,
     evaluated: Vec<(f64, Vec<f64>)>,
 }
 
 impl Whole {
-    fn of(
-        oracle: &Oracle,
-        replies: &Replies,
-        run: &impl Fn(&mut Oracle, &Rhs) -> Result<f64, SolveError>,
-    ) -> Self {
+    fn of(oracle: &Oracle, replies: &Replies, run: &impl Fn(&mut Oracle, &Rhs) -> End) -> Self {
         let evaluated = RefCell::new(Vec::new());
         let mut oracle = oracle.clone();
         let end = run(&mut oracle, &|derivative, point, time| {
@@ -518,7 +561,7 @@ fn stopped_at(
     place: usize,
     oracle: &Oracle,
     replies: &Replies,
-    run: &impl Fn(&mut Oracle, &Rhs) -> Result<f64, SolveError>,
+    run: &impl Fn(&mut Oracle, &Rhs) -> End,
 ) -> Oracle {
     let mut oracle = oracle.clone();
     let reached = Cell::new(0);
@@ -544,14 +587,35 @@ fn asked(at: u64) -> usize {
     }
 }
 
-fn expect(answer: &Answer, code: u64, number: u64, value: f64) -> Result<(), String> {
-    let good = answer.code == code && answer.number == number && same(answer.value, value);
-    good.then_some(()).ok_or_else(|| {
-        format!(
-            "answered {answer:?}, the Rust's {code} {number} {value} ({:016X})",
-            value.to_bits()
-        )
-    })
+fn expect(answer: &Answer, rusts: &Answer) -> Result<(), String> {
+    same_answer(answer, rusts)
+        .then_some(())
+        .ok_or_else(|| format!("answered {answer:?}, the Rust's {rusts:?}"))
+}
+
+/// A call's name; of a reply outside an attempt with what it replies to.
+fn named(call: &Call, before: &Record) -> &'static str {
+    match (call, before.wholes.phase) {
+        (Call::Reply { .. }, phase::FIRST) => "reply to start",
+        (Call::Reply { .. }, phase::CALLBACK) => "reply to callback",
+        _ => name(call),
+    }
+}
+
+/// The number that a call was turned away with, or 0.
+pub fn answer_number(answer: &Answer) -> u64 {
+    match answer.code {
+        code::REFUSED => answer.number,
+        _ => 0,
+    }
+}
+
+fn kept_of(figures: &Figures) -> Kept {
+    Kept {
+        stages: figures.stages,
+        passes: figures.passes,
+        scaled_radius: figures.scaled_radius,
+    }
 }
 
 /// One call of the engine, lent a copy of the record.

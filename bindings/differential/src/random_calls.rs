@@ -1,8 +1,10 @@
 //! Calls with any record, lengths, counters and doubles, each held against document 01's table.
-use crate::pair::make;
+use crate::pair::{answer_number, make};
 use crate::random::Random;
-use crate::refusals::{Arguments, Call, Given, Held, Start, check, numbers};
-use stabilized::calls::{Answer, Counters, Doubles, Record, VECTORS, Wholes, code, phase};
+use crate::refusals::{
+    Arguments, Call, Given, Held, Start, check, good_pass, name, numbers, permitted,
+};
+use stabilized::calls::{Answer, Counters, Doubles, Record, VECTORS, Wholes, phase};
 use std::collections::{BTreeMap, BTreeSet};
 
 /// How often each call gave each answer: 0 for a call that was not turned away, else the number.
@@ -14,9 +16,15 @@ pub struct Answers {
     pub lists: BTreeMap<&'static str, &'static [u64]>,
     /// Families that were turned away with 1.
     families: BTreeSet<u64>,
-    /// Family and stage count of records that were turned away with 4 although the phase allowed a reply.
+    /// Family and stage count of records in the candidate's phase whose reply was turned away with 4 for that count.
     stages: BTreeSet<(u64, u64)>,
+    /// The pass of records in that phase for which alone a call was turned away with 4, or was not, by name, pass and
+    /// whether it was.
+    passes: BTreeSet<(&'static str, u64, bool)>,
 }
+
+/// The passes that a record in the candidate's phase has in every run.
+const PASSES: [u64; 5] = [0, 1, 12, 13, u64::MAX];
 
 /// One less than the least permitted count of stages, and one more than the largest.
 fn outside(family: u64) -> [u64; 2] {
@@ -43,27 +51,46 @@ impl Answers {
             .map(|(family, stages)| {
                 format!("family {family} with {stages} stages, turned away with 4")
             });
-        numbers.chain(families).chain(counts).collect()
+        let passes = ["reply", "abandon"]
+            .into_iter()
+            .flat_map(|name| PASSES.map(|pass| (name, pass, !good_pass(pass))))
+            .filter(|record| !self.passes.contains(record))
+            .map(|(name, pass, bad)| {
+                format!("{name} in the candidate's phase with pass {pass}, turned away: {bad}")
+            });
+        numbers
+            .chain(families)
+            .chain(counts)
+            .chain(passes)
+            .collect()
     }
 
     /// Counts a call by its answer.
-    fn count(&mut self, name: &'static str, call: &Call, record: &Record, answer: &Answer) {
-        let number = match answer.code {
-            code::REFUSED => answer.number,
-            _ => 0,
-        };
+    fn count(&mut self, call: &Call, record: &Record, answer: &Answer) {
+        let (name, number) = (name(call), answer_number(answer));
         self.calls += 1;
         *self.given.entry((name, number)).or_default() += 1;
         self.lists.insert(name, numbers(call));
-        let kept = record.wholes;
         match (call, number) {
             (Call::Start(start), 1) => {
                 self.families.insert(start.family);
             }
-            (Call::Reply { .. }, 4) if kept.phase == phase::CANDIDATE => {
-                self.stages.insert((kept.family, kept.stages));
+            (Call::Reply { .. } | Call::Abandon, 0 | 4)
+                if record.wholes.phase == phase::CANDIDATE =>
+            {
+                self.count_candidate(name, record, number == 4);
             }
             _ => {}
+        }
+    }
+
+    /// A reply or abandon in the candidate's phase, where at most one of the pass and the count of stages is bad.
+    fn count_candidate(&mut self, name: &'static str, record: &Record, turned_away: bool) {
+        let kept = record.wholes;
+        if permitted(kept.family, kept.stages) {
+            self.passes.insert((name, kept.pass, turned_away));
+        } else if good_pass(kept.pass) && turned_away {
+            self.stages.insert((kept.family, kept.stages));
         }
     }
 }
@@ -119,6 +146,15 @@ fn stages(random: &mut Random, family: u64) -> u64 {
     }
 }
 
+/// A pass: below 15, next to the permitted ones or the largest number, and now and then anything.
+fn pass(random: &mut Random) -> u64 {
+    if random.chance(20) {
+        random.pick(&PASSES)
+    } else {
+        usually_below(random, 15, 20)
+    }
+}
+
 fn record(random: &mut Random, family: u64, n: u64) -> Record {
     let stages = stages(random, family);
     let stage = random.draw() % (stages + 3);
@@ -128,7 +164,7 @@ fn record(random: &mut Random, family: u64, n: u64) -> Record {
         n: number(random, n, 16),
         phase: usually_below(random, 8, 12),
         adaptive: usually_below(random, 2, 4),
-        pass: usually_below(random, 15, 20),
+        pass: pass(random),
         stages: number(random, stages, 2000),
         stage: number(random, stage, 2000),
     };
@@ -187,35 +223,25 @@ fn dimension(random: &mut Random) -> usize {
     }
 }
 
-/// A call and its name. A reply comes more often than the others, since it has the most phases.
-fn any_call<'a>(
-    random: &mut Random,
-    family: u64,
-    n: u64,
-    brought: &'a [f64],
-) -> (&'static str, Call<'a>) {
+/// A call. A reply comes more often than the others, since it has the most phases.
+fn any_call<'a>(random: &mut Random, family: u64, n: u64, brought: &'a [f64]) -> Call<'a> {
     match random.below(8) {
-        0 => {
-            let start = Start {
-                family: number(random, family, 9),
-                n: number(random, n, 16),
-                state: brought,
-                time: double(random),
-            };
-            ("start", Call::Start(start))
-        }
-        1 => ("attempt", Call::Attempt(any_arguments(random))),
-        2 => ("accept", Call::Accept),
-        3 => {
-            let (state, time) = (brought, double(random));
-            let call = Call::AcceptWithCallback { state, time };
-            ("accept with callback", call)
-        }
-        4 => ("abandon", Call::Abandon),
-        _ => {
-            let derivative = brought;
-            ("reply", Call::Reply { derivative })
-        }
+        0 => Call::Start(Start {
+            family: number(random, family, 9),
+            n: number(random, n, 16),
+            state: brought,
+            time: double(random),
+        }),
+        1 => Call::Attempt(any_arguments(random)),
+        2 => Call::Accept,
+        3 => Call::AcceptWithCallback {
+            state: brought,
+            time: double(random),
+        },
+        4 => Call::Abandon,
+        _ => Call::Reply {
+            derivative: brought,
+        },
     }
 }
 
@@ -240,10 +266,10 @@ pub fn call(seed: u64, answers: &mut Answers) -> Result<(), String> {
     let before = doubles(random, size);
     let size = length(random, n);
     let brought = doubles(random, size);
-    let (name, call) = any_call(random, family, n as u64, &brought);
+    let call = any_call(random, family, n as u64, &brought);
     let (mut area, mut left) = (before.clone(), counters);
     let outcome = make(record, &mut left, &mut area, &call);
-    answers.count(name, &call, &record, &outcome.answer);
+    answers.count(&call, &record, &outcome.answer);
     let held = Held {
         record,
         counters,

@@ -1,8 +1,9 @@
 //! Document 01, "When a call is turned away", stated anew from the document alone, with what each call leaves; families 1
-//! to 6 by document 02, CR 1.
+//! to 6 by document 02, CR 1, and by CR 2 what a finished answer carries and the record keeps.
 //!
 //! [`number`] gives the number of the first test from 1 to 9 that a call fails. [`check`] compares what an engine answered
 //! and left with what the document settles, number 10 included: whether a candidate is finite is seen in the area.
+use crate::pair::RKC_OVERFLOW;
 use crate::random::{all_same, same};
 use oracle::RKMC2;
 use stabilized::calls::{Answer, Counters, Doubles, Record, code, phase, vector};
@@ -45,6 +46,18 @@ pub struct Held<'a> {
     pub area: &'a [f64],
 }
 
+/// A call's name.
+pub fn name(call: &Call) -> &'static str {
+    match call {
+        Call::Start(_) => "start",
+        Call::Attempt(_) => "attempt",
+        Call::Reply { .. } => "reply",
+        Call::Accept => "accept",
+        Call::AcceptWithCallback { .. } => "accept with callback",
+        Call::Abandon => "abandon",
+    }
+}
+
 /// The numbers that a call can answer. "Every call has 1 to 4 (start: no phase); start and accept with a callback 5 and time
 /// in 6; attempt 6 and 7; every reply 8 and 9; the reply that ends stage s also 10."
 pub fn numbers(call: &Call) -> &'static [u64] {
@@ -69,7 +82,7 @@ fn finite(values: &[f64]) -> bool {
     values.iter().all(|value| value.is_finite())
 }
 
-fn permitted(family: u64, stages: u64) -> bool {
+pub fn permitted(family: u64, stages: u64) -> bool {
     match family {
         1 | 4 => (2..=200).contains(&stages),
         2 | 3 => (3..=199).contains(&stages) && stages % 2 == 1,
@@ -79,14 +92,20 @@ fn permitted(family: u64, stages: u64) -> bool {
     }
 }
 
-/// The phase waits for a derivative, and what it uses is in range.
+/// A pass that the power iteration has.
+pub fn good_pass(pass: u64) -> bool {
+    (1..=12).contains(&pass)
+}
+
+/// The phase waits for a derivative, and what it uses is in range: at the candidate also the pass, which the finished answer
+/// tells as k.
 fn pending(record: &Record) -> bool {
     let at = &record.wholes;
     match at.phase {
         phase::FIRST | phase::CALLBACK => true,
-        phase::PASS => (1..=12).contains(&at.pass),
+        phase::PASS => good_pass(at.pass),
         phase::STAGE => permitted(at.family, at.stages) && (2..=at.stages).contains(&at.stage),
-        phase::CANDIDATE => permitted(at.family, at.stages),
+        phase::CANDIDATE => good_pass(at.pass) && permitted(at.family, at.stages),
         _ => false,
     }
 }
@@ -160,6 +179,38 @@ pub fn number(held: &Held, call: &Call) -> Option<u64> {
         .or_else(|| contents(held, call))
 }
 
+/// s, k and r, as a finished answer tells them and the record keeps them.
+#[derive(Clone, Copy, Debug)]
+pub struct Kept {
+    pub stages: u64,
+    pub passes: u64,
+    pub scaled_radius: f64,
+}
+
+impl Kept {
+    pub fn in_record(record: &Record) -> Self {
+        Self {
+            stages: record.wholes.stages,
+            passes: record.wholes.pass,
+            scaled_radius: record.doubles.scaled_radius,
+        }
+    }
+
+    pub fn in_answer(answer: &Answer) -> Self {
+        Self {
+            stages: answer.stages,
+            passes: answer.passes,
+            scaled_radius: answer.scaled_radius,
+        }
+    }
+
+    /// NaN matching NaN.
+    pub fn is(&self, other: &Self) -> bool {
+        (self.stages, self.passes) == (other.stages, other.passes)
+            && same(self.scaled_radius, other.scaled_radius)
+    }
+}
+
 /// An answer, and the record as it was left.
 #[derive(Clone, Copy, Debug)]
 pub struct Outcome {
@@ -226,40 +277,56 @@ pub fn same_record(a: &Record, b: &Record) -> bool {
     a.wholes == b.wholes && all_same(&listed(&a.doubles), &listed(&b.doubles))
 }
 
-fn same_answer(a: &Answer, b: &Answer) -> bool {
-    a.code == b.code && a.number == b.number && same(a.value, b.value)
+pub fn same_answer(a: &Answer, b: &Answer) -> bool {
+    (a.code, a.number) == (b.code, b.number)
+        && same(a.time, b.time)
+        && same(a.norm, b.norm)
+        && Kept::in_answer(a).is(&Kept::in_answer(b))
 }
 
-fn refused(number: u64) -> Answer {
+pub fn refused(number: u64) -> Answer {
     Answer {
-        code: code::REFUSED,
         number,
-        value: 0.0,
+        ..without_values(code::REFUSED)
     }
 }
 
-fn evaluate(vector: usize, time: f64) -> Answer {
+pub fn evaluate(vector: usize, time: f64) -> Answer {
     Answer {
-        code: code::EVALUATE,
         number: vector as u64,
-        value: time,
+        time,
+        ..without_values(code::EVALUATE)
     }
 }
 
-/// An answer that carries nothing: ready or empty.
-fn without_values(code: u64) -> Answer {
+pub fn finished(norm: f64, kept: &Kept) -> Answer {
+    Answer {
+        norm,
+        stages: kept.stages,
+        passes: kept.passes,
+        scaled_radius: kept.scaled_radius,
+        ..without_values(code::FINISHED)
+    }
+}
+
+/// An answer that carries nothing, as ready and empty: what an answer does not carry is 0.
+pub fn without_values(code: u64) -> Answer {
     Answer {
         code,
         number: 0,
-        value: 0.0,
+        time: 0.0,
+        norm: 0.0,
+        stages: 0,
+        passes: 0,
+        scaled_radius: 0.0,
     }
 }
 
-/// What the document settles of a call: the answer and the record where they are settled, the counters, and the area with
-/// the vectors that are settled apart.
+/// What the document settles of a call: the answer, the record, the counters, and the area with the vectors that are settled
+/// apart.
 struct Settled {
     answer: Option<Answer>,
-    record: Option<Record>,
+    record: Record,
     counters: Counters,
     area: Vec<f64>,
     /// Vectors whose new contents are left to the differential run.
@@ -278,28 +345,55 @@ fn at_time(record: Record, phase: u64, time: f64) -> Record {
     after
 }
 
-/// With the power iteration's position of another record.
-fn with_iteration(record: Record, other: &Record) -> Record {
+/// At a pass of the power iteration: r is known once the passes end, and 0 before.
+fn at_pass(record: Record, pass: u64, perturbation: f64, previous_radius: f64) -> Record {
     let mut after = record;
-    after.wholes.pass = other.wholes.pass;
-    after.doubles.perturbation = other.doubles.perturbation;
-    after.doubles.previous_radius = other.doubles.previous_radius;
-    after.doubles.scaled_radius = other.doubles.scaled_radius;
+    after.wholes.pass = pass;
+    after.doubles.perturbation = perturbation;
+    after.doubles.previous_radius = previous_radius;
+    after.doubles.scaled_radius = 0.0;
     after
+}
+
+/// "Perturbation is 2^-26 × max(norm of state, 1)."
+const PERTURBATION: f64 = 1.0 / (1 << 26) as f64;
+
+fn norm(values: &[f64]) -> f64 {
+    values.iter().map(|value| value * value).sum::<f64>().sqrt()
+}
+
+/// "It ends at radius 0, after the second or a later pass when the change is at most 0.01 × max(radius, 1), and always after
+/// 12 passes."
+fn last_pass(record: &Record, radius: f64) -> bool {
+    let change = (radius - record.doubles.previous_radius).abs();
+    let pass = record.wholes.pass;
+    radius == 0.0 || (pass >= 2 && change <= 0.01 * radius.max(1.0)) || pass == 12
+}
+
+/// The Rust's count for r, and 200 where that overflows in RKC.
+fn stages_for(family: u64, scaled_radius: f64) -> u64 {
+    if family == 1 && scaled_radius >= RKC_OVERFLOW {
+        return 200;
+    }
+    oracle::stages(family, scaled_radius) as u64
 }
 
 /// With the position among the stages of another record, and what they carry on.
 fn with_stages(record: Record, other: &Record) -> Record {
     let (wholes, doubles) = (record.wholes, record.doubles);
-    let mut after = with_iteration(*other, &record);
+    let mut after = *other;
     after.wholes.family = wholes.family;
     after.wholes.n = wholes.n;
     after.wholes.phase = wholes.phase;
     after.wholes.adaptive = wholes.adaptive;
+    after.wholes.pass = wholes.pass;
     after.doubles.time = doubles.time;
     after.doubles.step = doubles.step;
     after.doubles.absolute_tolerance = doubles.absolute_tolerance;
     after.doubles.relative_tolerance = doubles.relative_tolerance;
+    after.doubles.perturbation = doubles.perturbation;
+    after.doubles.previous_radius = doubles.previous_radius;
+    after.doubles.scaled_radius = doubles.scaled_radius;
     after
 }
 
@@ -308,11 +402,15 @@ impl Settled {
     fn standing(held: &Held) -> Self {
         Self {
             answer: None,
-            record: Some(held.record),
+            record: held.record,
             counters: held.counters,
             area: held.area.to_vec(),
             open: &[],
         }
+    }
+
+    fn vector(&self, vector: usize, n: usize) -> &[f64] {
+        &self.area[vector * n..(vector + 1) * n]
     }
 
     fn put(&mut self, vector: usize, values: &[f64]) {
@@ -336,50 +434,50 @@ fn settled(held: &Held, call: &Call, given: &Given) -> Settled {
             let mut after = at_time(record, phase::FIRST, start.time);
             after.wholes.family = start.family;
             after.wholes.n = start.n;
-            s.record = Some(after);
+            s.record = after;
             s.put(vector::STATE, start.state);
             s.put(vector::EIGENVECTOR, &vec![0.0; start.n as usize]);
         }
-        Call::Attempt(arguments) => {
-            s.answer = Some(evaluate(vector::PERTURBED_STATE, arguments.time));
-            let mut after = at_time(record, phase::PASS, arguments.time);
-            after.doubles.step = arguments.step;
-            after.doubles.absolute_tolerance = arguments.absolute_tolerance;
-            after.doubles.relative_tolerance = arguments.relative_tolerance;
-            after.wholes.adaptive = arguments.adaptive;
-            after = with_iteration(after, &given.outcome.record);
-            after.wholes.pass = 1;
-            s.record = Some(after);
-            s.open = &[vector::EIGENVECTOR, vector::PERTURBED_STATE];
-        }
+        Call::Attempt(arguments) => settle_attempt(&mut s, record, arguments),
         Call::Accept => {
             s.answer = Some(without_values(code::READY));
-            s.record = Some(with_phase(record, phase::READY));
+            s.record = with_phase(record, phase::READY);
             s.copy(vector::LAST_DERIVATIVE, vector::FIRST_DERIVATIVE, n);
             s.copy(vector::CANDIDATE, vector::STATE, n);
         }
         Call::AcceptWithCallback { state, time } => {
             s.answer = Some(evaluate(vector::STATE, time));
-            s.record = Some(at_time(record, phase::CALLBACK, time));
+            s.record = at_time(record, phase::CALLBACK, time);
             s.put(vector::STATE, state);
         }
         Call::Abandon => {
             s.answer = Some(without_values(code::EMPTY));
-            s.record = Some(with_phase(record, phase::EMPTY));
+            s.record = with_phase(record, phase::EMPTY);
         }
         Call::Reply { derivative } => settle_reply(&mut s, record, derivative, given),
     }
     s
 }
 
+fn settle_attempt(s: &mut Settled, record: Record, arguments: Arguments) {
+    s.answer = Some(evaluate(vector::PERTURBED_STATE, arguments.time));
+    let mut after = at_time(record, phase::PASS, arguments.time);
+    after.doubles.step = arguments.step;
+    after.doubles.absolute_tolerance = arguments.absolute_tolerance;
+    after.doubles.relative_tolerance = arguments.relative_tolerance;
+    after.wholes.adaptive = arguments.adaptive;
+    let state = norm(s.vector(vector::STATE, record.wholes.n as usize));
+    s.record = at_pass(after, 1, PERTURBATION * state.max(1.0), 0.0);
+    s.open = &[vector::EIGENVECTOR, vector::PERTURBED_STATE];
+}
+
 fn settle_reply(s: &mut Settled, record: Record, derivative: &[f64], given: &Given) {
     let n = derivative.len();
-    let adaptive = record.wholes.adaptive;
     s.counters.evaluations += 1;
     match record.wholes.phase {
         phase::FIRST | phase::CALLBACK => {
             s.answer = Some(without_values(code::READY));
-            s.record = Some(with_phase(record, phase::READY));
+            s.record = with_phase(record, phase::READY);
             s.put(vector::FIRST_DERIVATIVE, derivative);
             if record.wholes.phase == phase::CALLBACK {
                 s.put(vector::EIGENVECTOR, &vec![0.0; n]);
@@ -399,53 +497,50 @@ fn settle_reply(s: &mut Settled, record: Record, derivative: &[f64], given: &Giv
             s.put(vector::DERIVATIVE, derivative);
             settle_stage(s, record, given, n);
         }
-        _ => {
-            let norm = given.outcome.answer.value;
-            let norm = if adaptive == 0 { 0.0 } else { norm };
-            s.answer = Some(Answer {
-                code: code::FINISHED,
-                number: 0,
-                value: norm,
-            });
-            s.record = Some(with_phase(record, phase::FINISHED));
-            s.counters.finished_attempts += 1;
-            s.put(vector::LAST_DERIVATIVE, derivative);
-            s.open = if adaptive == 0 {
-                &[]
-            } else {
-                &[vector::DERIVATIVE]
-            };
-        }
+        _ => settle_candidate(s, record, derivative, given),
     }
 }
 
-/// On to the next pass, or to stage 2; never a pass after the twelfth.
-fn settle_pass(s: &mut Settled, record: Record, given: &Given) {
-    let after = given.outcome.record;
-    let (time, step) = (record.doubles.time, record.doubles.step);
-    let mut expected = with_iteration(record, &after);
-    expected.wholes.phase = after.wholes.phase;
-    if after.wholes.phase == phase::PASS && record.wholes.pass < 12 {
-        expected.wholes.pass = record.wholes.pass + 1;
-        s.answer = Some(evaluate(vector::PERTURBED_STATE, time));
-        s.open = &[vector::PERTURBED_STATE];
+/// The attempt is finished. The norm is left to the differential run, with the error that it is of.
+fn settle_candidate(s: &mut Settled, record: Record, derivative: &[f64], given: &Given) {
+    let adaptive = record.wholes.adaptive != 0;
+    let norm = if adaptive {
+        given.outcome.answer.norm
     } else {
-        expected.wholes.phase = phase::STAGE;
-        expected = with_stages(expected, &after);
-        expected.wholes.stage = 2;
-        expected.wholes.pass = record.wholes.pass;
-        let theta = after.doubles.theta_previous;
-        s.answer = Some(evaluate(vector::PREVIOUS_ONE, time + step * theta));
-        s.copy(
-            vector::STATE,
-            vector::PREVIOUS_TWO,
-            record.wholes.n as usize,
-        );
-        s.open = &[vector::PREVIOUS_ONE];
+        0.0
+    };
+    s.answer = Some(finished(norm, &Kept::in_record(&record)));
+    s.record = with_phase(record, phase::FINISHED);
+    s.counters.finished_attempts += 1;
+    s.put(vector::LAST_DERIVATIVE, derivative);
+    if adaptive {
+        s.open = &[vector::DERIVATIVE];
     }
-    s.record = permitted(record.wholes.family, after.wholes.stages)
-        .then_some(expected)
-        .or((expected.wholes.phase == phase::PASS).then_some(expected));
+}
+
+/// On to the next pass, or to stage 2.
+fn settle_pass(s: &mut Settled, record: Record, given: &Given) {
+    let n = record.wholes.n as usize;
+    let perturbation = record.doubles.perturbation;
+    let radius = norm(s.vector(vector::EIGENVECTOR, n)) / perturbation;
+    let (time, step) = (record.doubles.time, record.doubles.step);
+    if !last_pass(&record, radius) {
+        s.answer = Some(evaluate(vector::PERTURBED_STATE, time));
+        s.record = at_pass(record, record.wholes.pass + 1, perturbation, radius);
+        s.open = &[vector::PERTURBED_STATE];
+        return;
+    }
+    let scaled_radius = step.abs() * (1.2 * radius);
+    let mut begun = with_stages(record, &given.outcome.record);
+    begun.wholes.phase = phase::STAGE;
+    begun.wholes.stages = stages_for(record.wholes.family, scaled_radius);
+    begun.wholes.stage = 2;
+    begun.doubles.scaled_radius = scaled_radius;
+    s.record = begun;
+    let theta = begun.doubles.theta_previous;
+    s.answer = Some(evaluate(vector::PREVIOUS_ONE, time + step * theta));
+    s.copy(vector::STATE, vector::PREVIOUS_TWO, n);
+    s.open = &[vector::PREVIOUS_ONE];
 }
 
 /// On to the next stage with the exchange, or to the candidate, which is turned away with 10 where it is not finite. It is
@@ -458,9 +553,8 @@ fn settle_stage(s: &mut Settled, record: Record, given: &Given, n: usize) {
         expected.wholes.stage = record.wholes.stage + 1;
         let theta = expected.doubles.theta_previous;
         s.answer = Some(evaluate(vector::PREVIOUS_ONE, time + step * theta));
-        s.record = Some(expected);
-        let previous_two =
-            s.area[vector::PREVIOUS_TWO * n..(vector::PREVIOUS_TWO + 1) * n].to_vec();
+        s.record = expected;
+        let previous_two = s.vector(vector::PREVIOUS_TWO, n).to_vec();
         s.copy(vector::PREVIOUS_ONE, vector::PREVIOUS_TWO, n);
         s.put(vector::NEXT_STAGE, &previous_two);
         s.open = &[vector::PREVIOUS_ONE];
@@ -475,10 +569,10 @@ fn settle_stage(s: &mut Settled, record: Record, given: &Given, n: usize) {
     s.put(vector::CANDIDATE, &candidate);
     if finite(&candidate) {
         s.answer = Some(evaluate(vector::CANDIDATE, time + step));
-        s.record = Some(with_phase(record, phase::CANDIDATE));
+        s.record = with_phase(record, phase::CANDIDATE);
     } else {
         s.answer = Some(refused(10));
-        s.record = Some(with_phase(record, phase::EMPTY));
+        s.record = with_phase(record, phase::EMPTY);
     }
 }
 
@@ -505,7 +599,7 @@ fn turned_away(held: &Held, number: u64) -> Settled {
     let mut s = Settled::standing(held);
     s.answer = Some(refused(number));
     if !stands(number) {
-        s.record = Some(with_phase(held.record, phase::EMPTY));
+        s.record = with_phase(held.record, phase::EMPTY);
         s.counters.evaluations += 1;
     }
     s
@@ -525,14 +619,9 @@ pub fn check(held: &Held, call: &Call, given: &Given) -> Result<(), String> {
     if !same_answer(&answer, &outcome.answer) {
         return Err(format!("answer {:?}, expected {answer:?}", outcome.answer));
     }
-    match &s.record {
-        Some(record) if same_record(record, &outcome.record) => {}
-        expected => {
-            return Err(format!(
-                "record {:?}, expected {expected:?}",
-                outcome.record
-            ));
-        }
+    if !same_record(&s.record, &outcome.record) {
+        let (record, expected) = (&outcome.record, &s.record);
+        return Err(format!("record {record:?}, expected {expected:?}"));
     }
     if s.counters != given.counters {
         return Err(format!(

@@ -1,10 +1,10 @@
-//! Seeded scenarios: the stage counts and pass counts one by one, and random sessions of starts, attempts, rejections,
-//! accepts, callbacks and failures.
+//! Seeded scenarios: the stage counts and pass counts one by one, radii that are no finite numbers, and random sessions of
+//! starts, attempts, rejections, accepts, callbacks and failures.
 use crate::model::{Bad, Model, Replies};
 use crate::pair::{Ending, Pair, SHORT, Stop};
 use crate::random::{Random, mixed};
 use crate::trace::Trace;
-use oracle::Arguments;
+use oracle::{Arguments, Figures};
 use stabilized::calls::{VECTORS, Wholes, phase, vector};
 use std::collections::BTreeMap;
 use std::fmt::{Display, Formatter};
@@ -36,6 +36,30 @@ const WANTED: [&str; 23] = [
     "starts not brought to an end",
     "subnormal states",
     "tiny steps",
+];
+
+/// The calls that a record keeps s, k and r through in every run, by name and number: those that are taken (0), those that are
+/// turned away and leave everything, and a reply that is turned away with 9.
+const KEPT_THROUGH: [(&str, u64); 19] = [
+    ("accept", 0),
+    ("accept with callback", 0),
+    ("reply to callback", 0),
+    ("start", 0),
+    ("reply to start", 0),
+    ("abandon", 0),
+    ("start", 1),
+    ("start", 2),
+    ("start", 3),
+    ("start", 5),
+    ("start", 6),
+    ("attempt", 4),
+    ("attempt", 6),
+    ("attempt", 7),
+    ("reply", 3),
+    ("accept", 4),
+    ("accept with callback", 3),
+    ("reply to callback", 9),
+    ("reply to start", 9),
 ];
 
 /// How attempts of every family end in every run.
@@ -94,8 +118,12 @@ pub struct Coverage {
     pub early: BTreeMap<(u64, &'static str, &'static str), u64>,
     /// By dimension.
     pub dimensions: BTreeMap<usize, u64>,
+    /// Calls that a record kept s, k and r of a finished attempt through, by name and number.
+    pub kept: BTreeMap<(&'static str, u64), u64>,
     /// Everything else that is counted, by name.
     pub kinds: BTreeMap<&'static str, u64>,
+    /// Whether every finished attempt is told on standard error.
+    pub told: bool,
     /// Where a scenario is written down: taken by the first, and left to be read after it.
     pub trace: Option<Trace>,
 }
@@ -112,7 +140,34 @@ impl Coverage {
             .into_iter()
             .filter(|n| !self.dimensions.contains_key(n))
             .map(|n| format!("n = {n}"));
-        of_families.chain(kinds).chain(dimensions).collect()
+        let kept = self.kept_missing();
+        of_families
+            .chain(kinds)
+            .chain(dimensions)
+            .chain(kept)
+            .collect()
+    }
+
+    /// What s, k and r were kept through in no scenario.
+    pub fn kept_missing(&self) -> impl Iterator<Item = String> {
+        KEPT_THROUGH
+            .into_iter()
+            .filter(|through| !self.kept.contains_key(through))
+            .map(|(name, number)| format!("s, k and r kept through {name}, {number}"))
+    }
+
+    /// How many finished attempts there were.
+    pub fn finished(&self) -> u64 {
+        self.kinds.get("finished attempts").copied().unwrap_or(0)
+    }
+
+    /// How many of them had a radius of this kind.
+    pub fn radius(&self, kind: &str) -> u64 {
+        let found = self
+            .kinds
+            .iter()
+            .find(|(name, _)| **name == format!("radius {kind}"));
+        found.map_or(0, |(_, count)| *count)
     }
 
     fn missing_of(&self, family: u64) -> Vec<String> {
@@ -143,6 +198,9 @@ impl Coverage {
         self.scenarios += 1;
         self.evaluations += pair.counters.evaluations;
         self.turned_away += pair.turned_away;
+        for (through, count) in &pair.kept {
+            *self.kept.entry(*through).or_default() += count;
+        }
         self.trace = pair.written();
     }
 
@@ -164,20 +222,21 @@ impl Coverage {
         if let Some(name) = named(ending) {
             self.ended(pair, name);
         }
-        if let Ending::Finished {
-            stages,
-            passes,
-            scaled_radius,
-            norm,
-        } = *ending
-        {
-            let family = pair.record.wholes.family;
-            if arguments.adaptive {
-                *self.norms.entry((family, stages)).or_default() += 1;
-            }
-            *self.passes.entry((family, passes)).or_default() += 1;
-            self.values(scaled_radius, norm);
+        if let Ending::Finished(figures) = *ending {
+            self.finish(pair, arguments, figures);
         }
+    }
+
+    fn finish(&mut self, pair: &Pair, arguments: &Arguments, figures: Figures) {
+        let family = pair.record.wholes.family;
+        if self.told {
+            eprintln!("{}, n {}: {figures}", oracle::name(family), pair.n());
+        }
+        if arguments.adaptive {
+            *self.norms.entry((family, figures.stages)).or_default() += 1;
+        }
+        *self.passes.entry((family, figures.passes)).or_default() += 1;
+        self.values(figures.scaled_radius, figures.norm);
     }
 
     fn ended(&mut self, pair: &Pair, name: &'static str) {
@@ -208,7 +267,7 @@ impl Coverage {
 /// What an ending of an attempt is counted as.
 fn named(ending: &Ending) -> Option<&'static str> {
     match ending {
-        Ending::Finished { .. } => Some("finished attempts"),
+        Ending::Finished(_) => Some("finished attempts"),
         Ending::BadDerivative => Some("ended with 9"),
         Ending::BadCandidate => Some("ended with 10"),
         Ending::Abandoned => Some("abandoned"),
@@ -354,7 +413,7 @@ pub fn counted_attempt(
         .map_err(|difference| format!("{counted}: {difference}"))?;
     let meant = (counted.stages as u64, counted.passes as u64);
     match ending {
-        Ending::Finished { stages, passes, .. } if (stages, passes) == meant => Ok(()),
+        Ending::Finished(figures) if (figures.stages, figures.passes) == meant => Ok(()),
         other => Err(format!("{counted}: got {other:?}")),
     }
 }
@@ -372,12 +431,138 @@ pub fn early_attempts(counted: &Counted, seed: u64, coverage: &mut Coverage) -> 
             let ending = counted
                 .run(seed, bad, stop, coverage)
                 .map_err(|difference| format!("{counted}, {meant:?} at {place}: {difference}"))?;
-            if ending != meant {
-                return Err(format!("{counted}, {meant:?} at {place}: got {ending:?}"));
-            }
+            ended(ending, meant).map_err(|other| format!("{counted} at {place}: {other}"))?;
         }
     }
     Ok(())
+}
+
+fn ended(ending: Ending, meant: Ending) -> Result<(), String> {
+    if ending == meant {
+        return Ok(());
+    }
+    Err(format!("got {ending:?}, and not {meant:?}"))
+}
+
+/// A scaled radius that is no finite number.
+#[derive(Clone, Copy, Debug, PartialEq)]
+pub enum Unbounded {
+    /// The norms of the direction and of the state overflow, and with it the perturbation.
+    Nan,
+    /// The direction's alone.
+    Infinite,
+}
+
+impl Unbounded {
+    fn is(self, radius: f64) -> bool {
+        match self {
+            Self::Nan => radius.is_nan(),
+            Self::Infinite => radius == f64::INFINITY,
+        }
+    }
+}
+
+/// Attempts with such a radius, and after each what keeps its s, k and r: every call that is turned away, accept, a callback
+/// and its reply, good and bad, a start abandoned and a start.
+pub struct Keeping {
+    pub family: u64,
+    pub radius: Unbounded,
+    pub n: usize,
+}
+
+impl Keeping {
+    /// The replies are drawn for each place and no function of the point. So the passes never agree, and end with the twelfth,
+    /// if the first derivative is of another seed.
+    fn replies(&self, seed: u64) -> Replies {
+        Replies::of(&Model::Noise {
+            seed,
+            least: 600.0,
+            most: 604.0,
+        })
+    }
+
+    fn state(&self, random: &mut Random) -> Vec<f64> {
+        let scale = match self.radius {
+            Unbounded::Nan => 1e200,
+            Unbounded::Infinite => 1.0,
+        };
+        (0..self.n)
+            .map(|_| random.sign() * random.between(0.5, 1.0) * scale)
+            .collect()
+    }
+
+    /// An attempt whose step is so short that the stages stay finite.
+    fn attempt(
+        &self,
+        pair: &mut Pair,
+        replies: &Replies,
+        coverage: &mut Coverage,
+    ) -> Result<(), String> {
+        let arguments = Arguments {
+            time: 0.5,
+            step: 1e-190,
+            absolute_tolerance: 1e-6,
+            relative_tolerance: 1e-3,
+            adaptive: true,
+        };
+        let ending = pair.attempt(arguments, replies, None)?;
+        coverage.attempt(pair, &arguments, &ending);
+        match ending {
+            Ending::Finished(figures) if self.radius.is(figures.scaled_radius) => {
+                pair.all_turned_away()
+            }
+            other => Err(format!("got {other:?}")),
+        }
+    }
+
+    fn follow(
+        &self,
+        pair: &mut Pair,
+        random: &mut Random,
+        coverage: &mut Coverage,
+    ) -> Result<(), String> {
+        let state = self.state(random);
+        let (good, drawn) = (self.replies(random.draw()), self.replies(random.draw()));
+        let bad = Replies {
+            bad: Some((0, 0, f64::NAN)),
+            ..good.clone()
+        };
+        let start = |pair: &mut Pair, replies: &Replies, stop| {
+            pair.start(self.family, &state, 0.5, replies, stop)
+        };
+        let callback = |pair: &mut Pair, replies: &Replies| {
+            pair.accept_with_callback(&state, 0.25, replies, None)
+        };
+        ended(start(pair, &good, None)?, Ending::Ready)?;
+        self.attempt(pair, &drawn, coverage)?;
+        pair.accept()?;
+        pair.all_turned_away()?;
+        self.attempt(pair, &drawn, coverage)?;
+        ended(callback(pair, &good)?, Ending::Ready)?;
+        let abandoned = Some((0, Stop::Abandon));
+        ended(start(pair, &good, abandoned)?, Ending::Abandoned)?;
+        pair.all_turned_away()?;
+        ended(start(pair, &good, None)?, Ending::Ready)?;
+        self.attempt(pair, &drawn, coverage)?;
+        ended(callback(pair, &bad)?, Ending::BadDerivative)?;
+        ended(start(pair, &bad, None)?, Ending::BadDerivative)
+    }
+
+    pub fn run(&self, seed: u64, coverage: &mut Coverage) -> Result<(), String> {
+        let Self { family, radius, n } = *self;
+        let random = &mut Random::new(mixed(seed ^ mixed(family)));
+        let mut pair = Pair::new(n, vec![0.0; VECTORS * n], true, random.draw());
+        pair.write_down(&mut coverage.trace);
+        self.follow(&mut pair, random, coverage)
+            .map_err(|difference| {
+                format!(
+                    "{}, radius {radius:?}, n {n}: {difference}",
+                    oracle::name(family)
+                )
+            })?;
+        coverage.scenario(pair);
+        Ok(())
+    }
 }
 
 fn model(random: &mut Random, wild: bool) -> Model {
@@ -587,7 +772,7 @@ fn attempts(
         let (bad, stop) = (bad(random, place), stop(random, place));
         let ending = pair.attempt(arguments, &Replies { bad, ..replies }, stop)?;
         coverage.attempt(pair, &arguments, &ending);
-        if !matches!(ending, Ending::Finished { .. }) {
+        if !matches!(ending, Ending::Finished(_)) {
             return Ok(ending);
         }
         pair.something_turned_away()?;

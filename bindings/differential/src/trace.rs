@@ -1,6 +1,6 @@
 //! Calls and what they left, written down as words for the program `replay`, whose src/trace.rt has the layout.
-use crate::refusals::{Call, Given, Held};
-use stabilized::calls::{Counters, VECTORS, code};
+use crate::refusals::{Call, Given, Held, Kept};
+use stabilized::calls::{Answer, Counters, VECTORS, code};
 
 /// What is written so far.
 #[derive(Default)]
@@ -17,6 +17,23 @@ fn bits(value: f64) -> u64 {
     }
 }
 
+/// s, k and r.
+fn three(kept: &Kept) -> [u64; 3] {
+    [kept.stages, kept.passes, bits(kept.scaled_radius)]
+}
+
+/// The time of an evaluation, or the norm of a finished attempt.
+fn time_or_norm(answer: &Answer) -> f64 {
+    match answer.code {
+        code::EVALUATE => answer.time,
+        code::FINISHED => answer.norm,
+        _ => 0.0,
+    }
+}
+
+/// Stands beside the bits of the vectors, where the record's s, k and r are not as before.
+const KEPT: u64 = 1 << 16;
+
 impl Trace {
     fn doubles(&mut self, values: &[f64]) {
         self.words.extend(values.iter().map(|value| bits(*value)));
@@ -27,8 +44,8 @@ impl Trace {
         self.doubles(values);
     }
 
-    /// The vectors that are not as before.
-    fn area(&mut self, before: &[f64], after: &[f64]) {
+    /// The vectors that are not as before, and the record's s, k and r if they are not.
+    fn left(&mut self, before: &[f64], after: &[f64], kept: Option<[u64; 3]>) {
         let n = after.len() / VECTORS;
         let changed: Vec<usize> = (0..VECTORS)
             .filter(|vector| {
@@ -38,14 +55,15 @@ impl Trace {
                     .any(|i| bits(before[i]) != bits(after[i]))
             })
             .collect();
-        self.words
-            .push(changed.iter().map(|vector| 1 << vector).sum());
+        let vectors: u64 = changed.iter().map(|vector| 1 << vector).sum();
+        self.words.push(vectors + kept.map_or(0, |_| KEPT));
         for vector in changed {
             self.doubles(&after[vector * n..(vector + 1) * n]);
         }
+        self.words.extend(kept.into_iter().flatten());
     }
 
-    /// A session begins.
+    /// A session begins, with a record that holds zeros.
     pub fn begin(&mut self, counters: &Counters, area: &[f64]) {
         let n = area.len() / VECTORS;
         self.words.extend([
@@ -54,13 +72,13 @@ impl Trace {
             counters.evaluations,
             counters.finished_attempts,
         ]);
-        self.area(&vec![0.0; area.len()], area);
+        self.left(&vec![0.0; area.len()], area, None);
     }
 
     /// A call, and what it answered and left.
     pub fn call(&mut self, held: &Held, call: &Call, given: &Given) {
         self.brought(call);
-        let (answer, record) = (given.outcome.answer, given.outcome.record);
+        let answer = &given.outcome.answer;
         let Counters {
             evaluations,
             finished_attempts,
@@ -68,16 +86,16 @@ impl Trace {
         self.words.extend([
             answer.code,
             answer.number,
-            bits(answer.value),
+            bits(time_or_norm(answer)),
             evaluations,
             finished_attempts,
         ]);
         if answer.code == code::FINISHED {
-            let radius = bits(record.doubles.scaled_radius);
-            self.words
-                .extend([record.wholes.stages, record.wholes.pass, radius]);
+            self.words.extend(three(&Kept::in_answer(answer)));
         }
-        self.area(held.area, given.area);
+        let [before, after] =
+            [held.record, given.outcome.record].map(|record| three(&Kept::in_record(&record)));
+        self.left(held.area, given.area, (after != before).then_some(after));
     }
 
     fn brought(&mut self, call: &Call) {

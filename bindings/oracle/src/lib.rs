@@ -1,7 +1,8 @@
 //! The Rust that the engine is held against: family.rs, orthogonal.rs, chebyshev.rs, workspace.rs and driver.rs of a
 //! checkout, compiled unchanged, behind stand-ins for what they lean on.
 //!
-//! [`Oracle`] runs `initialize`, `attempt_step` and `accept_step` and shows all eleven vectors. [`rows`] reads the
+//! [`Oracle`] runs `initialize`, `attempt_step` and `accept_step` and shows all eleven vectors, and s, k and r of an attempt.
+//! [`rows`] reads the
 //! coefficients of a stage, which are locals of the Rust, from a copy with added lines. [`thresholds`] holds RKMC2's stage
 //! rule as the engine has it.
 mod shim;
@@ -13,7 +14,7 @@ mod recorded;
 pub use recorded::{Row, Rows, rows};
 pub use shim::SolveError;
 pub(crate) use shim::{OdeFunction, OdeProblem, SolveOptions, SolverStats, integrator};
-pub use unchanged::{Arguments, Oracle, RightHandSide, stages};
+pub use unchanged::{Arguments, Figures, Iteration, Oracle, RightHandSide, stages};
 
 /// The number of RKMC2.
 pub const RKMC2: u64 = 6;

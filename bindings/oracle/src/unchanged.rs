@@ -4,6 +4,7 @@
 use crate::integrator::StepKernel;
 use crate::{OdeFunction, OdeProblem, SolveError, SolveOptions, SolverStats};
 use family::StabilizedFamily;
+use std::fmt::{Display, Formatter};
 use workspace::StabilizedKernel;
 
 include!(concat!(env!("OUT_DIR"), "/unchanged.rs"));
@@ -19,6 +20,40 @@ pub struct Arguments {
     pub absolute_tolerance: f64,
     pub relative_tolerance: f64,
     pub adaptive: bool,
+}
+
+/// What the power iteration of an attempt comes to.
+#[derive(Clone, Copy, Debug, PartialEq)]
+pub struct Iteration {
+    /// k.
+    pub passes: u64,
+    /// r, |step| × 1.2 × radius.
+    pub scaled_radius: f64,
+}
+
+/// What a finished attempt comes to: its error norm, s, k and r.
+#[derive(Clone, Copy, Debug, PartialEq)]
+pub struct Figures {
+    pub norm: f64,
+    pub stages: u64,
+    pub passes: u64,
+    pub scaled_radius: f64,
+}
+
+impl Display for Figures {
+    fn fmt(&self, formatter: &mut Formatter<'_>) -> std::fmt::Result {
+        let Self {
+            norm,
+            stages,
+            passes,
+            scaled_radius: r,
+        } = *self;
+        let (norm_bits, r_bits) = (norm.to_bits(), r.to_bits());
+        write!(
+            formatter,
+            "s {stages}, k {passes}, r {r:e} ({r_bits:016X}), norm {norm:e} ({norm_bits:016X})"
+        )
+    }
 }
 
 /// A right-hand side: writes the derivative at a point and time, or stops the attempt with an error.
@@ -148,12 +183,12 @@ impl Oracle {
         )
     }
 
-    /// |step| × 1.2 × radius, by `spectral_radius` on a copy of this kernel.
-    pub fn scaled_radius<F: RightHandSide + ?Sized>(
+    /// The power iteration of an attempt, by `spectral_radius` on a copy of this kernel. What it evaluates are its passes.
+    pub fn iteration<F: RightHandSide + ?Sized>(
         &self,
         arguments: Arguments,
         rhs: &F,
-    ) -> Result<f64, SolveError> {
+    ) -> Result<Iteration, SolveError> {
         let mut copy = self.clone();
         let radius = copy.kernel.spectral_radius(
             &problem(rhs),
@@ -161,7 +196,35 @@ impl Oracle {
             arguments.time,
             &mut copy.stats,
         )?;
-        Ok(arguments.step.abs() * radius)
+        Ok(Iteration {
+            passes: copy.evaluations() - self.evaluations(),
+            scaled_radius: arguments.step.abs() * radius,
+        })
+    }
+
+    /// `attempt` after `iteration` on the same replies. What it evaluates beside the passes are its stages, stages 2 to s and
+    /// the candidate; that these are as many as the Rust's rule gives for r shows that both ran the same iteration.
+    pub fn figures<F: RightHandSide + ?Sized>(
+        &mut self,
+        iteration: Result<Iteration, SolveError>,
+        arguments: Arguments,
+        rhs: &F,
+    ) -> Result<Figures, SolveError> {
+        let before = self.evaluations();
+        let norm = self.attempt(arguments, rhs)?;
+        let Iteration {
+            passes,
+            scaled_radius,
+        } = iteration.expect("a finished attempt has ended its iteration");
+        let stages = self.evaluations() - before - passes;
+        let by_rule = self.kernel.family.stages(scaled_radius);
+        assert_eq!(by_rule, Some(stages as usize), "stages for {scaled_radius}");
+        Ok(Figures {
+            norm,
+            stages,
+            passes,
+            scaled_radius,
+        })
     }
 
     /// Evaluations so far, as the Rust counts them.

@@ -16,7 +16,8 @@ pub struct Counters {
     pub finished_attempts: u64,
 }
 
-/// What the engine keeps in whole numbers. `adaptive` is a no at 0, else a yes; `pass` is the power iteration's.
+/// What the engine keeps in whole numbers. `adaptive` is a no at 0, else a yes; `pass` is the power iteration's, and after it
+/// k; `stages` is s.
 #[repr(C)]
 #[derive(Clone, Copy, Debug, Default, Eq, PartialEq)]
 pub struct Wholes {
@@ -57,6 +58,10 @@ pub struct Doubles {
 }
 
 /// All that the engine keeps beside the area. The default one is in the empty phase.
+///
+/// `stages`, `pass` and `scaled_radius` are s, k and r of a finished answer from that answer until the next attempt that is
+/// taken: accept, a callback and its reply, start, abandon and every call that is turned away keep them. Such an attempt sets
+/// `pass` to 1 and `scaled_radius` to 0; `stages` stands until its own stages begin.
 #[repr(C)]
 #[derive(Clone, Copy, Debug, Default, PartialEq)]
 pub struct Record {
@@ -100,14 +105,18 @@ pub mod vector {
     pub const CANDIDATE: usize = 10;
 }
 
-/// An answer: evaluate (vector `number` at time `value`), finished (`value` is the error norm), ready, refused (`number`),
-/// empty.
+/// An answer: evaluate (vector `number` at `time`), finished (with `norm`, `stages`, `passes` and `scaled_radius`, which are
+/// those of [`crate::Figures`]), ready, refused (`number`), empty. What an answer does not carry is 0.
 #[repr(C)]
 #[derive(Clone, Copy, Debug, Default, PartialEq)]
 pub struct Answer {
     pub code: u64,
     pub number: u64,
-    pub value: f64,
+    pub time: f64,
+    pub norm: f64,
+    pub stages: u64,
+    pub passes: u64,
+    pub scaled_radius: f64,
 }
 
 mod library {

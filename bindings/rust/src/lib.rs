@@ -19,10 +19,12 @@
 //!     }
 //! };
 //! let mut stepper = Stepper::start(Family::Rkl2, &[20.0; 8], 0.0, rod)?;
-//! let norm = stepper.attempt(Attempt::new(0.0, 0.01))?;
-//! if norm <= 1.0 {
+//! let figures = stepper.attempt(Attempt::new(0.0, 0.01))?;
+//! if figures.norm <= 1.0 {
 //!     stepper.accept()?;
 //! }
+//! // The first derivative, and then the attempt's passes and stages.
+//! assert_eq!(stepper.counters().evaluations, 1 + figures.passes + figures.stages);
 //! # Ok::<(), stabilized::Error>(())
 //! ```
 pub mod calls;
@@ -35,4 +37,4 @@ pub use calls::Counters;
 pub use environment::{WrongEnvironment, check_environment};
 pub use error::Error;
 pub use refusal::Refusal;
-pub use stepper::{Attempt, Family, Stepper};
+pub use stepper::{Attempt, Family, Figures, Stepper};

@@ -42,6 +42,32 @@ impl Attempt {
     }
 }
 
+/// What a finished attempt tells. Its evaluations are `stages` + `passes`.
+#[derive(Clone, Copy, Debug, PartialEq)]
+pub struct Figures {
+    /// The error norm; 0 without `adaptive`.
+    pub norm: f64,
+    /// s, the stage count that was chosen for the scaled radius.
+    pub stages: u64,
+    /// k, the passes of the power iteration, 1 to 12.
+    pub passes: u64,
+    /// r, the step's size times the radius that the passes came to. It may be infinite, or a NaN, for which s is chosen as
+    /// for 0.
+    pub scaled_radius: f64,
+}
+
+impl Figures {
+    /// Those of a finished answer.
+    fn of_answer(answer: &Answer) -> Self {
+        Self {
+            norm: answer.norm,
+            stages: answer.stages,
+            passes: answer.passes,
+            scaled_radius: answer.scaled_radius,
+        }
+    }
+}
+
 /// The engine with its area, its counters and a right-hand side `f(derivative, state, time)`.
 pub struct Stepper<F> {
     rhs: F,
@@ -78,9 +104,9 @@ impl<F: FnMut(&mut [f64], &[f64], f64)> Stepper<F> {
         Ok(())
     }
 
-    /// Steps from the kept state; the error norm. The step is good when the norm is at most 1. A step that is not wanted
-    /// needs no call: attempt again.
-    pub fn attempt(&mut self, attempt: Attempt) -> Result<f64, Refusal> {
+    /// Steps from the kept state. The step is good when the norm is at most 1. A step that is not wanted needs no call:
+    /// attempt again.
+    pub fn attempt(&mut self, attempt: Attempt) -> Result<Figures, Refusal> {
         let answer = calls::attempt(
             &mut self.record,
             &mut self.area,
@@ -90,7 +116,8 @@ impl<F: FnMut(&mut [f64], &[f64], f64)> Stepper<F> {
             attempt.relative_tolerance,
             u64::from(attempt.adaptive),
         );
-        self.run(answer)
+        let finished = self.run(answer)?;
+        Ok(Figures::of_answer(&finished))
     }
 
     /// Takes the candidate of a finished attempt as the kept state.
@@ -107,11 +134,11 @@ impl<F: FnMut(&mut [f64], &[f64], f64)> Stepper<F> {
         Ok(())
     }
 
-    /// Evaluates as long as the engine asks for it. The value of the last answer.
-    fn run(&mut self, first: Answer) -> Result<f64, Refusal> {
+    /// Evaluates as long as the engine asks for it. The last answer, if it is no refusal.
+    fn run(&mut self, first: Answer) -> Result<Answer, Refusal> {
         let mut answer = first;
         while answer.code == code::EVALUATE {
-            self.evaluate(answer.number as usize, answer.value);
+            self.evaluate(answer.number as usize, answer.time);
             answer = calls::reply(
                 &mut self.record,
                 &mut self.counters,
@@ -121,7 +148,7 @@ impl<F: FnMut(&mut [f64], &[f64], f64)> Stepper<F> {
         }
         match answer.code {
             code::REFUSED => Err(Refusal::of_number(answer.number).expect("a number of the list")),
-            _ => Ok(answer.value),
+            _ => Ok(answer),
         }
     }
 
@@ -159,7 +186,8 @@ impl<F> Stepper<F> {
         self.counters
     }
 
-    /// What the engine keeps beside the area: after a finished attempt also its stages, passes and scaled radius.
+    /// What the engine keeps beside the area. From a finished attempt until the next one that is taken, `stages`, `pass` and
+    /// `scaled_radius` are those of its [`Figures`].
     pub fn record(&self) -> Record {
         self.record
     }

@@ -7,7 +7,15 @@ pub struct Comparison {
     pub doubles: u64,
     pub answers: u64,
     pub counts: u64,
+    pub records: u64,
     pub entries: u64,
+}
+
+// What is right of a call: its answer, the counts, and s, k and r in the record.
+pub struct Right {
+    pub answer: bool,
+    pub counts: bool,
+    pub record: bool,
 }
 
 pub fn none() -> Comparison {
@@ -17,6 +25,7 @@ pub fn none() -> Comparison {
         doubles: 0,
         answers: 0,
         counts: 0,
+        records: 0,
         entries: 0,
     }
 }
@@ -35,25 +44,21 @@ pub fn with_session(comparison: Comparison) -> Comparison {
     more
 }
 
-// With a call whose answer and counts are right or not, and whose area has so many doubles, of which so many differ.
-pub fn with_call(
-    comparison: Comparison,
-    answer: bool,
-    counts: bool,
-    differ: u64,
-    doubles: usize,
-) -> Comparison {
+// With a call of which so much is right, and whose area has so many doubles, of which so many differ.
+pub fn with_call(comparison: Comparison, right: Right, differ: u64, doubles: usize) -> Comparison {
     Comparison {
         sessions: comparison.sessions,
         calls: one_more(comparison.calls, true),
         doubles: std::num::wrapping_add_u64(comparison.doubles, doubles as u64),
-        answers: one_more(comparison.answers, !answer),
-        counts: one_more(comparison.counts, !counts),
+        answers: one_more(comparison.answers, !right.answer),
+        counts: one_more(comparison.counts, !right.counts),
+        records: one_more(comparison.records, !right.record),
         entries: std::num::wrapping_add_u64(comparison.entries, differ),
     }
 }
 
-// The places of a call's answers: 0 to 31 for the numbers that it is turned away with, and 32 and its code for any other answer.
+// The places of a call's answers: 0 to 31 for the numbers that it is turned away with, and 32 and its code for any other answer
+// but two that have places of their own.
 pub const EVALUATE: u64 = 33;
 
 pub const FINISHED: u64 = 34;
@@ -61,6 +66,11 @@ pub const FINISHED: u64 = 34;
 pub const READY: u64 = 35;
 
 pub const EMPTY: u64 = 37;
+
+// Finished with a scaled radius that is no finite number.
+pub const FINISHED_NAN: u64 = 38;
+
+pub const FINISHED_INFINITE: u64 = 39;
 
 // A number above 31 has no place of its own.
 pub fn refused(number: u64) -> u64 {
@@ -102,10 +112,12 @@ fn call_name(call: usize) {
 fn answer_name(answer: usize) {
     match answer {
         33 => say(b", evaluate: "),
-        34 => say(b", finished: "),
+        34 => say(b", finished with a finite scaled radius: "),
         35 => say(b", ready: "),
         36 => say(b", turned away with a number above 31: "),
         37 => say(b", empty: "),
+        38 => say(b", finished with the scaled radius NaN: "),
+        39 => say(b", finished with an infinite scaled radius: "),
         refused => {
             say(b", turned away with ");
             number(refused as u64);
@@ -139,6 +151,8 @@ pub fn print(comparison: Comparison, seen: &[u64; 280]) {
     say(b" answers, ");
     number(comparison.counts);
     say(b" counts, ");
+    number(comparison.records);
+    say(b" records, ");
     number(comparison.entries);
     say(b" doubles differ\n");
 }

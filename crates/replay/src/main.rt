@@ -1,22 +1,28 @@
 // Sessions with the engine, made again call by call from traces of the Rust: every answer, count, point and vector is to be the
-// Rust's, bit for bit. data/traces was written by bindings/differential/src/bin/sample.rs.
+// Rust's, bit for bit, and so are s, k and the scaled radius in every finished answer, and in the record after every call.
+// data/traces was written by bindings/differential/src/bin/sample.rs.
 ghost use Prim.Native.Nat.{_≤_};
+use calls::Made;
 use comparison::Comparison;
+use comparison::Right;
 use driver::Answer;
 use driver::Counters;
 use driver::Record;
+use kept::Kept;
 
 mod calls;
 mod comparison;
+mod kept;
 mod trace;
 mod vectors;
 
-// Where a session stands: the next word, n, and what the engine is handed.
+// Where a session stands: the next word, n, what the engine is handed, and what its record is to hold of s, k and r.
 pub struct Session {
     pub at: usize,
     pub n: usize,
     pub record: Record,
     pub counters: Counters,
+    pub kept: Kept,
     pub comparison: Comparison,
 }
 
@@ -38,7 +44,10 @@ fn right_answer(s: &[u8], at: usize, answer: Answer) -> bool {
             if code != 2 {
                 return false;
             }
-            stored::same(figures.norm, value)
+            if !stored::same(figures.norm, value) {
+                return false;
+            }
+            kept::same(kept::of_figures(figures), kept::read(s, trace::on(at, 5)))
         }
         Answer::Ready => code == 3,
         Answer::Refused(cause) => {
@@ -51,10 +60,20 @@ fn right_answer(s: &[u8], at: usize, answer: Answer) -> bool {
     }
 }
 
+fn finished_kind(scaled_radius: f64) -> u64 {
+    if scaled_radius != scaled_radius {
+        return comparison::FINISHED_NAN;
+    }
+    if !ieee::is_finite(scaled_radius) {
+        return comparison::FINISHED_INFINITE;
+    }
+    comparison::FINISHED
+}
+
 fn kind(answer: Answer) -> u64 {
     match answer {
         Answer::Evaluate { time: _, vector: _ } => comparison::EVALUATE,
-        Answer::Finished(_) => comparison::FINISHED,
+        Answer::Finished(figures) => finished_kind(figures.scaled_radius),
         Answer::Ready => comparison::READY,
         Answer::Refused(cause) => comparison::refused(cause),
         Answer::Empty => comparison::EMPTY,
@@ -66,18 +85,6 @@ fn right_counters(s: &[u8], at: usize, counters: Counters) -> bool {
         return false;
     }
     stored::word(s, trace::on(at, 1)) == counters.finished_attempts
-}
-
-// s, k and the scaled radius.
-fn right_finish(s: &[u8], at: usize, record: Record) -> bool {
-    if stored::word(s, at) != record.staging.stages {
-        return false;
-    }
-    if stored::word(s, trace::on(at, 1)) != record.iteration.pass {
-        return false;
-    }
-    let radius = trace::double(s, trace::on(at, 2));
-    stored::same(radius, record.iteration.scaled_radius)
 }
 
 fn begun(
@@ -104,19 +111,9 @@ fn begun(
         n: size,
         record: driver::new_record(),
         counters,
+        kept: kept::zeros(),
         comparison: comparison::with_session(comparison),
     }
-}
-
-// The answer is right, and where it is finished so are s, k and the scaled radius.
-fn right_all(s: &[u8], at: usize, answer: Answer, record: Record) -> bool {
-    if !right_answer(s, at, answer) {
-        return false;
-    }
-    if stored::word(s, at) == 2 {
-        return right_finish(s, trace::on(at, 5), record);
-    }
-    true
 }
 
 // The place of the area that a call left, after what it answered at this place.
@@ -125,6 +122,45 @@ fn area_at(s: &[u8], at: usize) -> usize {
         return trace::on(at, 8);
     }
     trace::on(at, 5)
+}
+
+// Held against what stands after the call, and what the record is to hold of s, k and r.
+fn right_of(s: &[u8], made: Made, kept: Kept) -> Right {
+    let answer = made.answer;
+    Right {
+        answer: right_answer(s, made.at, answer),
+        counts: right_counters(s, trace::on(made.at, 3), made.counters),
+        record: kept::same(kept::of_record(made.record), kept),
+    }
+}
+
+// A call that was made: what it answered and left beside what it is to.
+fn compared(
+    s: &[u8],
+    call: u64,
+    session: Session,
+    made: Made,
+    area: &[f64],
+    expected: &mut [f64],
+    seen: &mut [u64; 280],
+) -> Session {
+    let answer = made.answer;
+    let record = made.record;
+    let counters = made.counters;
+    let left = area_at(s, made.at);
+    let next = vectors::follow(s, left, session.n, expected);
+    let kept = kept::left(s, left, next, session.kept);
+    let right = right_of(s, made, kept);
+    let differ = vectors::differing(area, expected);
+    comparison::count(seen, call, kind(answer));
+    Session {
+        at: kept::after(s, left, next),
+        n: session.n,
+        record,
+        counters,
+        kept,
+        comparison: comparison::with_call(session.comparison, right, differ, area.len()),
+    }
 }
 
 fn called(
@@ -136,24 +172,10 @@ fn called(
     brought: &mut [f64],
     seen: &mut [u64; 280],
 ) -> Session {
-    let before = session.record;
-    let held = session.counters;
-    let out = calls::make(s, call, session.at, before, held, area, brought);
-    let record = out.record;
-    let counters = out.counters;
-    let answer = out.answer;
-    let right = right_all(s, out.at, answer, record);
-    let counts = right_counters(s, trace::on(out.at, 3), counters);
-    let next = vectors::follow(s, area_at(s, out.at), session.n, expected);
-    let differ = vectors::differing(area, expected);
-    comparison::count(seen, call, kind(answer));
-    Session {
-        at: next,
-        n: session.n,
-        record,
-        counters,
-        comparison: comparison::with_call(session.comparison, right, counts, differ, area.len()),
-    }
+    let record = session.record;
+    let counters = session.counters;
+    let made = calls::make(s, call, session.at, record, counters, area, brought);
+    compared(s, call, session, made, area, expected, seen)
 }
 
 fn least(a: usize, b: usize) -> usize
@@ -212,6 +234,7 @@ fn sessions(
             evaluations: 0,
             finished_attempts: 0,
         },
+        kept: kept::zeros(),
         comparison: comparison::none(),
     };
     let mut left = s.len() / 8;

@@ -65,7 +65,7 @@ fn from_c(family: Family, state: &[f64], rate: f64, attempt: Attempt) -> impl Fn
         ..
     } = attempt;
     // SAFETY: as before.
-    move || unsafe { rod_attempt(&mut rod, black_box(step), absolute, relative) }.value
+    move || unsafe { rod_attempt(&mut rod, black_box(step), absolute, relative) }.norm
 }
 
 /// The same by the Rust.
@@ -117,7 +117,7 @@ fn times(family: Family, n: usize, rate: f64, step: f64) -> Times {
     let mut c = from_c(family, &state, rate, attempt);
     let once = timed(BEFORE, || {
         let ours = engine.attempt(attempt).expect("a finished attempt");
-        assert_eq!([ours, c()].map(f64::to_bits), [rust().to_bits(); 2]);
+        assert_eq!([ours.norm, c()].map(f64::to_bits), [rust().to_bits(); 2]);
     });
     let turns = (3.0 * ROUND.as_nanos() as f64 / once).max(1.0) as u32;
     let mut least = [f64::INFINITY; 4];

@@ -3,9 +3,10 @@
 //! Each session is run on both sides at once, and what is written was compared with the Rust's at every call: a difference
 //! ends the program. Sessions are drawn one after another for each family, and one is kept if it holds a kind of call, ending
 //! or number that no session of that family before it held, and is short. To them come the least and the largest count of
-//! stages of every family, and one attempt at n = 64 and at n = 512.
+//! stages of every family, attempts whose scaled radius is NaN with all that keeps s, k and r after them, and one attempt at
+//! n = 64 and at n = 512.
 use differential::random::mixed;
-use differential::scenarios::{self, Counted, Coverage};
+use differential::scenarios::{self, Counted, Coverage, Keeping, Unbounded};
 use differential::trace::Trace;
 use std::collections::BTreeSet;
 use std::io::Write;
@@ -16,7 +17,17 @@ const LONGEST: usize = 3000;
 /// How many sessions of a family are drawn.
 const DRAWN: u64 = 4000;
 
+/// The room that `replay` has for the traces, in words.
+const ROOM: usize = 1_048_576 / 8;
+
 const LEFT_OUT: &str = "left out: the overflow in RKC";
+
+/// What is written, and what it reaches.
+#[derive(Default)]
+struct Sample {
+    words: Vec<u64>,
+    reached: Coverage,
+}
 
 fn fresh() -> Coverage {
     Coverage {
@@ -25,68 +36,111 @@ fn fresh() -> Coverage {
     }
 }
 
-fn words(coverage: &mut Coverage) -> Vec<u64> {
-    coverage
-        .trace
-        .take()
-        .map_or(Vec::new(), |trace| trace.words)
-}
-
-/// Sessions of one family.
-fn sessions(family: u64, all: &mut Vec<u64>) -> Result<(), String> {
-    let mut held = BTreeSet::new();
-    for index in 0..DRAWN {
-        let seed = mixed(family ^ mixed(index));
-        let mut coverage = fresh();
-        scenarios::session(seed, 8, &[family], &mut coverage)
-            .map_err(|difference| format!("scenario {seed}: {difference}"))?;
-        let words = words(&mut coverage);
-        let usable =
-            !words.is_empty() && words.len() <= LONGEST && !coverage.kinds.contains_key(LEFT_OUT);
-        let kinds: Vec<&str> = coverage.kinds.keys().copied().collect();
-        if usable && kinds.iter().any(|kind| !held.contains(kind)) {
-            held.extend(kinds);
-            all.extend(words);
+impl Sample {
+    /// With one session more.
+    fn add(&mut self, mut session: Coverage) {
+        let trace = session.trace.take();
+        self.words
+            .extend(trace.map_or(Vec::new(), |trace| trace.words));
+        for (kind, count) in session.kinds {
+            *self.reached.kinds.entry(kind).or_default() += count;
+        }
+        for (through, count) in session.kept {
+            *self.reached.kept.entry(through).or_default() += count;
         }
     }
-    Ok(())
-}
 
-fn attempt(
-    family: u64,
-    stages: usize,
-    passes: usize,
-    n: usize,
-    all: &mut Vec<u64>,
-) -> Result<(), String> {
-    let mut coverage = fresh();
-    let counted = Counted {
-        family,
-        stages,
-        passes,
-        n,
-    };
-    scenarios::counted_attempt(&counted, 1, &mut coverage)?;
-    all.extend(words(&mut coverage));
-    Ok(())
-}
-
-fn sample() -> Result<Vec<u64>, String> {
-    let mut all = Vec::new();
-    for family in oracle::FAMILIES {
-        sessions(family, &mut all)?;
-        let (least, largest) = oracle::ends(family);
-        attempt(family, least, 1, 2, &mut all)?;
-        attempt(family, largest, 12, 1, &mut all)?;
-        attempt(family, least + 2, 2, 64, &mut all)?;
+    /// Sessions of one family.
+    fn sessions(&mut self, family: u64) -> Result<(), String> {
+        let mut held = BTreeSet::new();
+        for index in 0..DRAWN {
+            let seed = mixed(family ^ mixed(index));
+            let mut coverage = fresh();
+            scenarios::session(seed, 8, &[family], &mut coverage)
+                .map_err(|difference| format!("scenario {seed} 8: {difference}"))?;
+            let length = coverage.trace.as_ref().map_or(0, |trace| trace.words.len());
+            let usable = (1..=LONGEST).contains(&length) && !coverage.kinds.contains_key(LEFT_OUT);
+            if usable && coverage.kinds.keys().any(|kind| !held.contains(kind)) {
+                held.extend(coverage.kinds.keys().copied());
+                self.add(coverage);
+            }
+        }
+        Ok(())
     }
-    attempt(3, 3, 2, 512, &mut all)?;
-    Ok(all)
+
+    fn attempt(
+        &mut self,
+        family: u64,
+        stages: usize,
+        passes: usize,
+        n: usize,
+    ) -> Result<(), String> {
+        let mut coverage = fresh();
+        let counted = Counted {
+            family,
+            stages,
+            passes,
+            n,
+        };
+        scenarios::counted_attempt(&counted, 1, &mut coverage)?;
+        self.add(coverage);
+        Ok(())
+    }
+
+    fn keeping(&mut self, family: u64) -> Result<(), String> {
+        let mut coverage = fresh();
+        let (radius, n) = (Unbounded::Nan, 1);
+        Keeping { family, radius, n }.run(1, &mut coverage)?;
+        self.add(coverage);
+        Ok(())
+    }
+
+    fn fill(&mut self) -> Result<(), String> {
+        for family in oracle::FAMILIES {
+            self.sessions(family)?;
+            let (least, largest) = oracle::ends(family);
+            self.attempt(family, least, 1, 2)?;
+            self.attempt(family, largest, 12, 1)?;
+            self.attempt(family, least + 2, 2, 64)?;
+            self.keeping(family)?;
+        }
+        self.attempt(3, 3, 2, 512)
+    }
+
+    /// What the traces must hold and do not, and whether they fit.
+    fn missing(&self) -> Vec<String> {
+        let radii = ["NaN", "infinite"].into_iter();
+        let radii = radii
+            .filter(|kind| self.reached.radius(kind) == 0)
+            .map(|kind| format!("a radius {kind}"));
+        let room = (self.words.len() > ROOM).then(|| format!("room for {}", self.words.len()));
+        radii
+            .chain(self.reached.kept_missing())
+            .chain(room)
+            .collect()
+    }
 }
 
 fn main() {
-    let words = sample().unwrap_or_else(|difference| panic!("{difference}"));
-    let bytes: Vec<u8> = words.iter().flat_map(|word| word.to_le_bytes()).collect();
+    let mut sample = Sample::default();
+    let filled = sample.fill();
+    filled.unwrap_or_else(|difference| panic!("{difference}"));
+    let missing = sample.missing();
+    assert!(missing.is_empty(), "missing: {}", missing.join(", "));
+    let reached = &sample.reached;
+    eprintln!(
+        "{} of {ROOM} words, {} finished attempts: r NaN in {}, infinite in {}, zero in {}",
+        sample.words.len(),
+        reached.finished(),
+        reached.radius("NaN"),
+        reached.radius("infinite"),
+        reached.radius("zero")
+    );
+    let bytes: Vec<u8> = sample
+        .words
+        .iter()
+        .flat_map(|word| word.to_le_bytes())
+        .collect();
     std::io::stdout()
         .write_all(&bytes)
         .expect("a place to write to");

@@ -1,13 +1,15 @@
 //! A day driven through the Rust: what the program `day` writes of the text on standard input (a day that is not
-//! malformed), or with the argument `junctions` the junction temperatures that the program `days` writes of it.
+//! malformed), or with the argument `minutes` the lines that the program `days` writes of its minutes: the junction's bits
+//! and s, k and the bits of r, or 0 0 and no bits where the minute is not finished.
 //!
 //! The same model and the same order of calls: each minute begins with `accept_step`, or with `initialize` on a kernel made
 //! anew where the last attempt was refused, and goes on with one attempt of 60 seconds. The candidate is evaluated with the
 //! next finite reading. A minute whose reading is not finite calls nothing: it is refused with 9, and the kernel stands.
-use oracle::{Arguments, Oracle, SolveError};
+use oracle::{Arguments, Figures, Oracle, RightHandSide, SolveError};
 use std::cell::RefCell;
 use std::io::Read;
 
+#[derive(Clone, Copy)]
 struct Inverter {
     family: u64,
     n: usize,
@@ -56,18 +58,32 @@ impl Inverter {
     }
 }
 
+/// How a minute ends: with the figures of its attempt, or the number that it is refused with.
+type Ended = Result<Figures, u64>;
+
 /// One day: the kernel while it goes on, the state that is kept, and what is counted.
 struct Day {
     inverter: Inverter,
     oracle: Option<Oracle>,
     kept: Vec<f64>,
     evaluations: u64,
-    finished: u64,
     above: u64,
-    refusals: Vec<(usize, u64)>,
+    /// How each minute ended, and the junction's temperature then.
+    minutes: Vec<(Ended, f64)>,
 }
 
 impl Day {
+    fn new(inverter: Inverter) -> Self {
+        Self {
+            kept: vec![inverter.initial; inverter.n],
+            inverter,
+            oracle: None,
+            evaluations: 0,
+            above: 0,
+            minutes: Vec::new(),
+        }
+    }
+
     /// The junction's present temperature: of the candidate that is not accepted yet, else of the kept state.
     fn junction(&self) -> f64 {
         match &self.oracle {
@@ -76,24 +92,14 @@ impl Day {
         }
     }
 
-    /// One minute: finished, or the number that it is refused with.
-    fn minute(&mut self, minute: usize, reading: f64, upcoming: f64) -> Result<(), u64> {
-        if !reading.is_finite() {
-            return Err(9);
-        }
-        let start = (60 * minute) as f64;
-        let last = RefCell::new(Vec::new());
-        let rhs = |derivative: &mut [f64], point: &[f64], time: f64| {
-            let watts = if time < start + 60.0 {
-                reading
-            } else {
-                upcoming
-            };
-            self.inverter.rates(derivative, point, watts);
-            *last.borrow_mut() = derivative.to_vec();
-            Ok(())
-        };
-        let (mut oracle, before, begun) = match self.oracle.take() {
+    /// A kernel at the beginning of a minute: after `accept_step`, or made anew where the last attempt was refused; and its
+    /// evaluations before the minute.
+    fn begun(
+        &mut self,
+        start: f64,
+        rhs: &impl RightHandSide,
+    ) -> (Oracle, u64, Result<(), SolveError>) {
+        match self.oracle.take() {
             Some(mut oracle) => {
                 // (without a callback the Rust reads neither time nor step)
                 oracle.accept(start - 60.0, 60.0);
@@ -103,23 +109,30 @@ impl Day {
             }
             None => {
                 let mut oracle = Oracle::new(self.inverter.family, self.inverter.n);
-                let begun = oracle.initialize(&self.kept, start, &rhs);
+                let begun = oracle.initialize(&self.kept, start, rhs);
                 (oracle, 0, begun)
             }
+        }
+    }
+
+    /// One minute whose reading is finite.
+    fn entered(&mut self, minute: usize, reading: f64, upcoming: f64) -> Ended {
+        let start = (60 * minute) as f64;
+        let (inverter, last) = (self.inverter, RefCell::new(Vec::new()));
+        let rhs = |derivative: &mut [f64], point: &[f64], time: f64| {
+            let at_the_end = time >= start + 60.0;
+            let watts = if at_the_end { upcoming } else { reading };
+            inverter.rates(derivative, point, watts);
+            *last.borrow_mut() = derivative.to_vec();
+            Ok(())
         };
-        let arguments = Arguments {
-            time: start,
-            step: 60.0,
-            absolute_tolerance: 1.0,
-            relative_tolerance: 1.0,
-            adaptive: false,
-        };
-        let end = begun.and_then(|()| oracle.attempt(arguments, &rhs));
+        let (mut oracle, before, begun) = self.begun(start, &rhs);
+        let end = begun.and_then(|()| attempt(&mut oracle, start, &rhs));
         self.evaluations += oracle.evaluations() - before;
         match end {
-            Ok(_) => {
+            Ok(figures) => {
                 self.oracle = Some(oracle);
-                Ok(())
+                Ok(figures)
             }
             Err(SolveError::NonFiniteDerivative) if last.borrow().iter().all(|x| x.is_finite()) => {
                 Err(10)
@@ -127,6 +140,72 @@ impl Day {
             Err(SolveError::NonFiniteDerivative) => Err(9),
             Err(error) => panic!("the Rust ended with {error:?}"),
         }
+    }
+
+    /// One minute.
+    fn minute(&mut self, minute: usize, reading: f64, upcoming: f64) {
+        let ended = if reading.is_finite() {
+            self.entered(minute, reading, upcoming)
+        } else {
+            Err(9)
+        };
+        let junction = self.junction();
+        self.above += u64::from(ended.is_ok() && junction > self.inverter.rated);
+        self.minutes.push((ended, junction));
+    }
+
+    fn print(&self) {
+        let finished = self.minutes.iter().filter(|(ended, _)| ended.is_ok());
+        let finished = finished.count();
+        println!("total {:016X}", (self.above as f64 / 60.0).to_bits());
+        let decimals = self.above % 60 * 10000 / 60;
+        println!("hours above {}.{decimals:04}", self.above / 60);
+        println!("minutes above {}", self.above);
+        println!("evaluations {}", self.evaluations);
+        println!("finished attempts {finished}");
+        println!("refused minutes {}", self.minutes.len() - finished);
+        for (minute, (ended, _)) in self.minutes.iter().enumerate() {
+            if let Err(number) = ended {
+                println!("minute {minute} refused with {number}");
+            }
+        }
+    }
+
+    fn print_minutes(&self) {
+        for (ended, junction) in &self.minutes {
+            let (stages, passes, radius) = match ended {
+                Ok(figures) => (figures.stages, figures.passes, figures.scaled_radius),
+                Err(_) => (0, 0, 0.0),
+            };
+            let [junction, radius] = [*junction, radius].map(bits);
+            println!("{junction:016X} {stages} {passes} {radius:016X}");
+        }
+    }
+}
+
+/// The attempt of a minute that starts at this time, from the kernel's state.
+fn attempt(
+    oracle: &mut Oracle,
+    start: f64,
+    rhs: &impl RightHandSide,
+) -> Result<Figures, SolveError> {
+    let arguments = Arguments {
+        time: start,
+        step: 60.0,
+        absolute_tolerance: 1.0,
+        relative_tolerance: 1.0,
+        adaptive: false,
+    };
+    let iteration = oracle.iteration(arguments, rhs);
+    oracle.figures(iteration, arguments, rhs)
+}
+
+/// A double's bits; one pattern for every NaN.
+fn bits(x: f64) -> u64 {
+    if x.is_nan() {
+        0x7FF8_0000_0000_0000
+    } else {
+        x.to_bits()
     }
 }
 
@@ -136,43 +215,15 @@ fn main() {
         .read_to_string(&mut text)
         .expect("a text on standard input");
     let mut lines = text.lines();
-    let inverter = inverter(lines.next().expect("line 1"));
-    let mut day = Day {
-        kept: vec![inverter.initial; inverter.n],
-        inverter,
-        oracle: None,
-        evaluations: 0,
-        finished: 0,
-        above: 0,
-        refusals: Vec::new(),
-    };
-    let mut junctions = Vec::new();
+    let mut day = Day::new(inverter(lines.next().expect("line 1")));
     let readings: Vec<f64> = lines.map(double).collect();
     for (minute, &reading) in readings.iter().enumerate() {
         let later = readings[minute + 1..].iter().find(|x| x.is_finite());
-        match day.minute(minute, reading, *later.unwrap_or(&reading)) {
-            Ok(()) => {
-                day.finished += 1;
-                day.above += u64::from(day.junction() > day.inverter.rated);
-            }
-            Err(number) => day.refusals.push((minute, number)),
-        }
-        junctions.push(day.junction());
+        day.minute(minute, reading, *later.unwrap_or(&reading));
     }
-    if std::env::args().nth(1).as_deref() == Some("junctions") {
-        for junction in junctions {
-            println!("{:016X}", junction.to_bits());
-        }
-        return;
-    }
-    println!("total {:016X}", (day.above as f64 / 60.0).to_bits());
-    let decimals = day.above % 60 * 10000 / 60;
-    println!("hours above {}.{decimals:04}", day.above / 60);
-    println!("minutes above {}", day.above);
-    println!("evaluations {}", day.evaluations);
-    println!("finished attempts {}", day.finished);
-    println!("refused minutes {}", day.refusals.len());
-    for (minute, number) in day.refusals {
-        println!("minute {minute} refused with {number}");
+    match std::env::args().nth(1).as_deref() {
+        None => day.print(),
+        Some("minutes") => day.print_minutes(),
+        Some(other) => panic!("minutes, or nothing, and not {other}"),
     }
 }

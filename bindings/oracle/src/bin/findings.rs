@@ -163,7 +163,6 @@ fn rkmc2_case(step: f64, state: [f64; 2], rates: [f64; 2]) {
     let mut rust = Oracle::new(oracle::RKMC2, 2);
     rust.initialize(&state, 0.0, &printed)
         .expect("finite derivatives");
-    let before = rust.evaluations() as usize;
     let arguments = Arguments {
         time: 0.0,
         step,
@@ -171,13 +170,12 @@ fn rkmc2_case(step: f64, state: [f64; 2], rates: [f64; 2]) {
         relative_tolerance: 1e-6,
         adaptive: true,
     };
-    let radius = rust.scaled_radius(arguments, &rhs);
-    let radius = radius.expect("finite derivatives");
-    let norm = rust.attempt(arguments, &printed);
-    let norm = norm.expect("a candidate that is finite");
-    let stages = oracle::stages(oracle::RKMC2, radius);
-    let passes = rust.evaluations() as usize - before - stages;
-    let [radius, candidate, norm] = [&[radius], rust.vectors()[10], &[norm]].map(bits);
+    let iteration = rust.iteration(arguments, &rhs);
+    let figures = rust.figures(iteration, arguments, &printed);
+    let figures = figures.expect("a candidate that is finite");
+    let (stages, passes) = (figures.stages, figures.passes);
+    let [radius, norm] = [figures.scaled_radius, figures.norm].map(|x| bits(&[x]));
+    let candidate = bits(rust.vectors()[10]);
     println!("  r {radius}, s {stages}, k {passes}, candidate {candidate}, norm {norm}");
 }
 

@@ -15,6 +15,9 @@ abbrev μ-loop : tie.MeasureT-loop
 new-record-requires : tie.Need-new-record-requires Inv-loop μ-loop
 new-record-requires c κs = search needs
 
+zeros-requires : tie.Need-zeros-requires Inv-loop μ-loop
+zeros-requires c κs = search needs
+
 none-requires : tie.Need-none-requires Inv-loop μ-loop
 none-requires c κs = search needs
 
@@ -64,6 +67,7 @@ sessions-spec =
     Inv-loop
     μ-loop
     new-record-requires
+    zeros-requires
     none-requires
     loop-holds
     same-length

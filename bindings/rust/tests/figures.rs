@@ -1,0 +1,121 @@
+//! What a finished attempt tells: its evaluations are s + k, and the record keeps s, k and r until the next attempt that is
+//! taken.
+use stabilized::calls::Record;
+use stabilized::{Attempt, Error, Family, Figures, Refusal, Stepper};
+use std::cell::Cell;
+
+const FAMILIES: [Family; 6] = [
+    Family::Rkc,
+    Family::Rkl1,
+    Family::Rkl2,
+    Family::Rkg1,
+    Family::Rkg2,
+    Family::Rkmc2,
+];
+
+/// A rod of cells that exchange heat at this rate.
+fn rod(rate: f64) -> impl Fn(&mut [f64], &[f64], f64) {
+    move |derivative, state, _time| {
+        for i in 0..state.len() {
+            let left = if i == 0 { 0.0 } else { state[i - 1] };
+            let right = state.get(i + 1).unwrap_or(&0.0);
+            derivative[i] = rate * (left - 2.0 * state[i] + right);
+        }
+    }
+}
+
+/// s, k and r as the record holds them; r by its bits.
+fn held(record: Record) -> (u64, u64, u64) {
+    let (wholes, radius) = (record.wholes, record.doubles.scaled_radius);
+    (wholes.stages, wholes.pass, radius.to_bits())
+}
+
+fn told(figures: Figures) -> (u64, u64, u64) {
+    let Figures {
+        stages,
+        passes,
+        scaled_radius,
+        ..
+    } = figures;
+    (stages, passes, scaled_radius.to_bits())
+}
+
+#[test]
+fn evaluations_are_stages_and_passes() {
+    for family in FAMILIES {
+        for step in [1.0e-6, -1.0e-3, 0.01, 0.3] {
+            let mut stepper = Stepper::start(family, &[20.0; 8], 0.0, rod(500.0)).unwrap();
+            let before = stepper.counters().evaluations;
+            let figures = stepper.attempt(Attempt::new(0.0, step)).unwrap();
+            let rise = stepper.counters().evaluations - before;
+            assert_eq!(figures.stages + figures.passes, rise, "{family:?}, {step}");
+            assert!((1..=12).contains(&figures.passes));
+            assert_eq!(told(figures), held(stepper.record()));
+        }
+    }
+}
+
+/// RKL2's rule at the r that is told, which is no more than 1.2 × the step × the rod's radius, 4 × its rate.
+#[test]
+fn the_radius_gives_the_stages() {
+    let mut stepper = Stepper::start(Family::Rkl2, &[20.0; 8], 0.0, rod(500.0)).unwrap();
+    let figures = stepper.attempt(Attempt::new(0.0, 0.1)).unwrap();
+    let r = figures.scaled_radius;
+    assert!((100.0..=1.2 * 0.1 * 2000.0).contains(&r), "{r}");
+    let by_rule = (((9.0 + 8.0 * r).sqrt() - 1.0) / 2.0).ceil() as u64;
+    assert_eq!(figures.stages, by_rule | 1);
+}
+
+#[test]
+fn not_a_number_and_infinity_are_told() {
+    // The norm of every pass's departure from the first derivative is infinite; that of the state is, or is not.
+    for (entry, nan) in [(1.0e200, true), (1.0, false)] {
+        let replies = Cell::new(0.0);
+        let rhs = move |derivative: &mut [f64], _: &[f64], _: f64| {
+            replies.set(replies.get() + 1.0);
+            derivative.fill(1.0e180 * replies.get());
+        };
+        let mut stepper = Stepper::start(Family::Rkl1, &[entry; 2], 0.0, rhs).unwrap();
+        let figures = stepper.attempt(Attempt::new(0.0, 1.0e-170)).unwrap();
+        let r = figures.scaled_radius;
+        assert_eq!((r.is_nan(), r.is_infinite()), (nan, !nan), "{r}");
+        assert_eq!(figures.stages, if nan { 3 } else { 199 });
+        assert_eq!(told(figures), held(stepper.record()));
+    }
+}
+
+#[test]
+fn the_record_keeps_them_until_the_next_attempt() {
+    // Once this is set, every derivative holds a NaN.
+    let spoiled = Cell::new(false);
+    let rhs = |derivative: &mut [f64], state: &[f64], time: f64| {
+        rod(500.0)(derivative, state, time);
+        if spoiled.get() {
+            derivative[0] = f64::NAN;
+        }
+    };
+    let state = [20.0, 40.0, 5.0];
+    let mut stepper = Stepper::start(Family::Rkg2, &state, 0.0, rhs).unwrap();
+    let first = told(stepper.attempt(Attempt::new(0.0, 0.02)).unwrap());
+    assert_ne!(first, (0, 0, 0));
+    stepper.accept().unwrap();
+    assert_eq!(held(stepper.record()), first, "accept");
+    let bad = Attempt {
+        absolute_tolerance: 0.0,
+        ..Attempt::new(0.0, 0.02)
+    };
+    assert_eq!(stepper.attempt(bad), Err(Refusal::Tolerance));
+    assert_eq!(held(stepper.record()), first, "an attempt turned away");
+
+    let second = told(stepper.attempt(Attempt::new(0.02, 0.1)).unwrap());
+    assert_ne!(second, first);
+    assert_eq!(held(stepper.record()), second);
+    stepper.accept_with_callback(&state, 1.0).unwrap();
+    assert_eq!(held(stepper.record()), second, "callback and its reply");
+    stepper.restart(Family::Rkc, &state, 0.0).unwrap();
+    assert_eq!(held(stepper.record()), second, "start and its reply");
+    spoiled.set(true);
+    let refused = stepper.restart(Family::Rkc, &state, 0.0);
+    assert_eq!(refused, Err(Error::Refused(Refusal::Derivative)));
+    assert_eq!(held(stepper.record()), second, "a derivative turned away");
+}
