@@ -1,13 +1,13 @@
 -- The theorem: the report of a text that is a day accounts for its 1,440 minutes (`accounts`). By the minutes one after another, each by `minute-ended`;
 -- the number of readings is that of the text's lines.
-use mathlib.Core.Path.{_≡_, refl, sym, ap, subst, _∙_}
-use mathlib.Core.Bool.{Bool, true, false, not, _&&_, false≢true}
-use mathlib.Core.List.{List, [], _∷_, _++_}
-use Prim.Native.Nat.{ℕ, zero, suc, _+_, _≤_}
+use mathlib.Core.Path.{_≡_, refl, sym, ap, subst}
+use mathlib.Core.Bool.{Bool, false, not, _&&_, false≢true}
+use mathlib.Core.List.{List, [], _∷_}
+use Prim.Native.Nat.{ℕ, suc, _+_, _≤_}
 use native.Mathlib.Omega.{arith}
 use borrow.Author.Tests.{eq-eqb, ne-eqb}
 use lib.Dec.{eqb}
-use lib.ListN.{length, length-append}
+use lib.ListN.{length}
 use lib.Ieee.{Float, lt}
 use Rattle.driver.specs.Calls.{Called, may-accept}
 use Rattle.driver.specs.Numbers.{refusal-numbers, ending-numbers}
@@ -19,22 +19,23 @@ use Rattle.sheet.specs.Text.{minutes-a-day}
 use Rattle.sheet.proofs.Soundness.{day-minutes}
 use Rattle.inverter.specs.declared.Total.{Total}
 use Rattle.inverter.specs.declared.DayResult.the-variants.{Day}
-use Rattle.inverter.specs.Day.{one-if, whole-minute, upcoming, finished, junction, is-above, refusal, minute-counted, end-of, So-far, held, with-minute, run}
-use Rattle.inverter.specs.Day.{no-count, outset, first-area, total-of, total, reported, day, Reports}
+use Rattle.inverter.specs.Day.{one-if, whole-minute, upcoming, finished, junction, is-above, refusal, told, minute-counted, Minutes, Entries, longer}
+use Rattle.inverter.specs.Day.{So-far, held, with-minute, run, no-count, outset, first-area, total-of, total, reported, day, Reports}
 use Rattle.inverter.proofs.Run.{one-most}
-use Rattle.accounts.specs.Accounts.{Acceptable, Ended, Completed, Given-up, Kept-out, listed, Rising, Numbered, Accounts}
+use Rattle.accounts.specs.Accounts.{Acceptable, Ended, Completed, Given-up, Kept-out, listed, Rising, Numbered, Refused-untold, Accounts}
 use Rattle.accounts.proofs.Minute.{minute-ended}
 use Rattle.accounts.proofs.Hours.{minutes-told}
 use Rattle.accounts.proofs.Listing.{listed-grown, numbered-grown, listed-rising}
+use Rattle.accounts.proofs.Lists.{refused-answer, longer-entries, longer-untold}
 
 -- what holds after so many minutes
 record After (k : ℕ) (t : So-far) : Type 0 where
   every-minute : t .count .counters .«finished_attempts» + t .count .refused ≡ k
   above-finished : t .count .above ≤ t .count .counters .«finished_attempts»
-  a-number-each : length (t .refusals) ≡ k
-  a-junction-each : length (t .junctions) ≡ k
-  all-listed : length (listed 0 (t .refusals)) ≡ t .count .refused
-  numbered : Numbered (listed 0 (t .refusals))
+  an-entry-each : Entries k (t .lists)
+  all-listed : length (listed 0 (t .lists .refusals)) ≡ t .count .refused
+  numbered : Numbered (listed 0 (t .lists .refusals))
+  refused-untold : Refused-untold (t .lists)
   acceptable : Acceptable (held t)
 
 one-if-not : (x : ℕ) → x ≡ 0 → one-if (not (eqb x 0)) ≡ 0
@@ -50,20 +51,20 @@ above-none f b e = ap (λ (x : Bool). one-if (x && b)) e
 with-finished : (m : Inverter) (k : ℕ) (c : Called) (t : So-far) → refusal (c .answer) ≡ 0
     → c .held .counters .«finished_attempts» ≡ t .count .counters .«finished_attempts» + 1 → Acceptable (c .held)
     → After k t → After (k + 1) (with-minute m c t)
-unfolding with-minute minute-counted is-above
+unfolding with-minute minute-counted is-above longer
 with-finished m k c t z n o a =
     let x = refusal (c .answer) in
     let temperature = junction m (c .held .kept .phase) (c .held .area) in
     let none = one-if-not x z in
     let above = one-most (finished (c .answer) && lt (m .rated) temperature) in
-    let grown = listed-grown 0 (t .refusals) x in
+    let grown = listed-grown 0 (t .lists .refusals) x in
     record {
       every-minute = omega (arith, n, none, a .every-minute);
       above-finished = omega (arith, n, above, a .above-finished);
-      a-number-each = omega (arith, length-append (t .refusals) (x ∷ []), a .a-number-each);
-      a-junction-each = omega (arith, length-append (t .junctions) (temperature ∷ []), a .a-junction-each);
+      an-entry-each = longer-entries (t .lists) x temperature (told (c .answer)) k (a .an-entry-each);
       all-listed = omega (arith, grown, a .all-listed);
-      numbered = numbered-grown 0 (t .refusals) x (λ some. absurd (some z)) (a .numbered);
+      numbered = numbered-grown 0 (t .lists .refusals) x (λ some. absurd (some z)) (a .numbered);
+      refused-untold = longer-untold (t .lists) x temperature (told (c .answer)) k (a .an-entry-each) (refused-answer (c .answer)) (a .refused-untold);
       acceptable = o;
     }
 
@@ -71,20 +72,20 @@ with-finished m k c t z n o a =
 with-refused : (m : Inverter) (k : ℕ) (c : Called) (t : So-far) → finished (c .answer) ≡ false → refusal (c .answer) ∈ refusal-numbers
     → c .held .counters .«finished_attempts» ≡ t .count .counters .«finished_attempts» → Acceptable (c .held)
     → After k t → After (k + 1) (with-minute m c t)
-unfolding with-minute minute-counted is-above
+unfolding with-minute minute-counted is-above longer
 with-refused m k c t f l n o a =
     let x = refusal (c .answer) in
     let temperature = junction m (c .held .kept .phase) (c .held .area) in
     let some = one-if-some x (not-zero l) in
     let above = above-none (finished (c .answer)) (lt (m .rated) temperature) f in
-    let grown = listed-grown 0 (t .refusals) x in
+    let grown = listed-grown 0 (t .lists .refusals) x in
     record {
       every-minute = omega (arith, n, some, a .every-minute);
       above-finished = omega (arith, n, above, a .above-finished);
-      a-number-each = omega (arith, length-append (t .refusals) (x ∷ []), a .a-number-each);
-      a-junction-each = omega (arith, length-append (t .junctions) (temperature ∷ []), a .a-junction-each);
+      an-entry-each = longer-entries (t .lists) x temperature (told (c .answer)) k (a .an-entry-each);
       all-listed = omega (arith, grown, a .all-listed);
-      numbered = numbered-grown 0 (t .refusals) x (λ _. l) (a .numbered);
+      numbered = numbered-grown 0 (t .lists .refusals) x (λ _. l) (a .numbered);
+      refused-untold = longer-untold (t .lists) x temperature (told (c .answer)) k (a .an-entry-each) (refused-answer (c .answer)) (a .refused-untold);
       acceptable = o;
     }
 
@@ -116,48 +117,43 @@ outset-after area =
     record {
       every-minute = refl;
       above-finished = omega arith;
-      a-number-each = refl;
-      a-junction-each = refl;
+      an-entry-each = record { a-number-each = refl; a-junction-each = refl; stages-each = refl; passes-each = refl; a-radius-each = refl };
       all-listed = refl;
       numbered = tt;
+      refused-untold = λ i some. absurd (some refl);
       acceptable = λ e. absurd (false≢true e);
     }
 
 -- a day's minutes, all together
-after-accounts : (t : So-far) → After minutes-a-day t → Accounts (total t) (t .refusals) (t .junctions)
+after-accounts : (t : So-far) → After minutes-a-day t → Accounts (total t) (t .lists)
 unfolding total-of
 after-accounts t a =
     record {
       every-minute = a .every-minute;
       above-finished = a .above-finished;
-      a-number-each = a .a-number-each;
-      a-junction-each = a .a-junction-each;
+      an-entry-each = a .an-entry-each;
       all-listed = a .all-listed;
-      in-order = subst (λ (k : ℕ). Rising 0 k (listed 0 (t .refusals))) (let e : 0 + length (t .refusals) ≡ minutes-a-day = omega (arith, a .a-number-each) in
-          e) (listed-rising 0 (t .refusals));
+      in-order = let l = t .lists .refusals in
+          let e : 0 + length l ≡ minutes-a-day = omega (arith, a .an-entry-each .a-number-each) in
+          subst (λ (k : ℕ). Rising 0 k (listed 0 l)) e (listed-rising 0 l);
       numbered = a .numbered;
+      refused-untold = a .refused-untold;
       hours-are = refl;
       minutes-told = minutes-told (t .count .above) (omega (arith, a .every-minute, a .above-finished));
     }
 
-module _ (text before : List ℕ) (temperatures : List Float) (r : Total) where
-  parsed-accounts : (p : Text.Parsed) → Text.parsed text ≡ p → reported p before temperatures .result ≡ Day r
-      → Accounts r (reported p before temperatures .refusals) (reported p before temperatures .junctions)
+module _ (text : List ℕ) (before : Minutes) (r : Total) where
+  parsed-accounts : (p : Text.Parsed) → Text.parsed text ≡ p → reported p before .result ≡ Day r → Accounts r (reported p before .lists)
   unfolding reported
   parsed-accounts (Text.Day m readings) e o =
       let t = run m 0 readings (outset (first-area m)) in
       let all : 0 + length readings ≡ minutes-a-day = omega (arith, day-minutes text m readings e) in
       let a = subst (λ (k : ℕ). After k t) all (run-after m 0 0 readings (outset (first-area m)) (outset-after (first-area m))) in
       let same : total t ≡ r = cc in
-      subst (λ (x : Total). Accounts x (t .refusals) (t .junctions)) same (after-accounts t a)
+      subst (λ (x : Total). Accounts x (t .lists)) same (after-accounts t a)
   parsed-accounts (Text.Bad-at line) e o = let z : _≡_ {A = ℕ} 0 1 = cc in absurd (omega arith)
 
-  -- of a report that gives a total, whatever the two lists held before
-  pub accounts : {refusals : List ℕ} {junctions : List Float} → Reports (day text before temperatures) (Day r) refusals junctions
-      → Accounts r refusals junctions
+  -- of a report that gives a total, whatever the lists held before
+  pub accounts : {left : Minutes} → Reports (day text before) (Day r) left → Accounts r left
   unfolding day
-  accounts {refusals} {junctions} h =
-      let p = Text.parsed text in
-      let a = parsed-accounts p refl (sym (h .results)) in
-      let b = subst (λ (l : List ℕ). Accounts r l (reported p before temperatures .junctions)) (sym (h .numbers)) a in
-      subst (λ (l : List Float). Accounts r refusals l) (sym (h .temperatures)) b
+  accounts h = subst (Accounts r) (sym (h .lists)) (parsed-accounts (Text.parsed text) refl (sym (h .results)))

@@ -11,61 +11,60 @@ use lib.Seq.{getD-append-seam}
 use lib.Ieee.{Float, nan}
 use lib.Ieee.Scale.{finite}
 use Rattle.workspace.specs.Vectors.{unpack, state}
-use Rattle.driver.specs.Calls.{Held, Called, may-accept}
+use Rattle.driver.specs.Calls.{Held, may-accept}
 use Rattle.heat_sink.specs.declared.Inverter.{Inverter}
 use Rattle.sheet.specs.Text as Text
 use Rattle.inverter.specs.declared.Total.{Total}
-use Rattle.inverter.specs.declared.DayResult.{DayResult}
 use Rattle.inverter.specs.declared.DayResult.the-variants.{Day}
-use Rattle.inverter.specs.Day.{whole-minute, upcoming, junction, refusal, minute-counted, So-far, held, with-minute, run, no-count, outset, first-area}
-use Rattle.inverter.specs.Day.{total-of}
-use Rattle.inverter.specs.Day.{total, reported, day, Reports}
+use Rattle.inverter.specs.Day.{whole-minute, upcoming, junction, refusal, minute-counted, Minutes, longer, So-far, held, with-minute, run, no-count, outset}
+use Rattle.inverter.specs.Day.{first-area, total-of, total, reported, day, Reports}
 use Rattle.inverter.specs.Finite.{kept-out}
 use Rattle.inverter.proofs.Finite.{kept-out-minute, left-by-finite, above-by-finite}
 use Rattle.accounts.specs.Accounts.{engine-alone, Keeps-out}
 
 module _ (m : Inverter) where
-  -- what stands in the two lists stays
-  number-stays : (minute : ℕ) (readings : List Float) (t : So-far) (j : ℕ) → j < length (t .refusals)
-      → getD (run m minute readings t .refusals) j 0 ≡ getD (t .refusals) j 0
-  unfolding run with-minute
+  -- what stands in the lists of numbers and of junctions stays
+  number-stays : (minute : ℕ) (readings : List Float) (t : So-far) (j : ℕ) → j < length (t .lists .refusals)
+      → getD (run m minute readings t .lists .refusals) j 0 ≡ getD (t .lists .refusals) j 0
+  unfolding run with-minute longer
   number-stays minute [] t j h = refl
   number-stays minute (reading ∷ readings) t j h =
       let c = whole-minute m minute reading (upcoming reading readings) (held t) in
       let k = refusal (c .answer) in
-      number-stays (minute + 1) readings (with-minute m c t) j (omega (arith, length-append (t .refusals) (k ∷ [])))
-      ∙ List·getD-append (t .refusals) (k ∷ []) 0 j h
+      number-stays (minute + 1) readings (with-minute m c t) j (omega (arith, length-append (t .lists .refusals) (k ∷ [])))
+      ∙ List·getD-append (t .lists .refusals) (k ∷ []) 0 j h
 
-  junction-stays : (minute : ℕ) (readings : List Float) (t : So-far) (j : ℕ) → j < length (t .junctions)
-      → getD (run m minute readings t .junctions) j nan ≡ getD (t .junctions) j nan
-  unfolding run with-minute
+  junction-stays : (minute : ℕ) (readings : List Float) (t : So-far) (j : ℕ) → j < length (t .lists .junctions)
+      → getD (run m minute readings t .lists .junctions) j nan ≡ getD (t .lists .junctions) j nan
+  unfolding run with-minute longer
   junction-stays minute [] t j h = refl
   junction-stays minute (reading ∷ readings) t j h =
       let c = whole-minute m minute reading (upcoming reading readings) (held t) in
       let x = junction m (c .held .kept .phase) (c .held .area) in
-      junction-stays (minute + 1) readings (with-minute m c t) j (omega (arith, length-append (t .junctions) (x ∷ [])))
-      ∙ List·getD-append (t .junctions) (x ∷ []) nan j h
+      junction-stays (minute + 1) readings (with-minute m c t) j (omega (arith, length-append (t .lists .junctions) (x ∷ [])))
+      ∙ List·getD-append (t .lists .junctions) (x ∷ []) nan j h
 
   -- the number of minute i from here on, at its place p
-  number-there : (minute : ℕ) (readings : List Float) (t : So-far) (i p : ℕ) → p ≡ length (t .refusals) + i → i < length readings
-      → finite (getD readings i nan) ≡ false → getD (run m minute readings t .refusals) p 0 ≡ 9
-  unfolding run with-minute kept-out
+  number-there : (minute : ℕ) (readings : List Float) (t : So-far) (i p : ℕ) → p ≡ length (t .lists .refusals) + i → i < length readings
+      → finite (getD readings i nan) ≡ false → getD (run m minute readings t .lists .refusals) p 0 ≡ 9
+  unfolding run with-minute longer kept-out
   number-there minute [] t i p q h e = absurd (not-suc-le-zero h)
   number-there minute (reading ∷ readings) t zero p q h e =
-      let there : p ≡ length (t .refusals) = omega (arith, q) in
-      ap (λ (x : So-far). getD (run m (minute + 1) readings x .refusals) p 0) (kept-out-minute m minute reading (upcoming reading readings) t e)
-      ∙ number-stays (minute + 1) readings (kept-out m t) p (omega (arith, there, length-append (t .refusals) (9 ∷ [])))
-      ∙ ap (λ (k : ℕ). getD (t .refusals ++ (9 ∷ [])) k 0) there
-      ∙ getD-append-seam (t .refusals) 9 [] 0
+      let there : p ≡ length (t .lists .refusals) = omega (arith, q) in
+      ap (λ (x : So-far). getD (run m (minute + 1) readings x .lists .refusals) p 0) (kept-out-minute m minute reading (upcoming reading readings) t e)
+      ∙ number-stays (minute + 1) readings (kept-out m t) p (omega (arith, there, length-append (t .lists .refusals) (9 ∷ [])))
+      ∙ ap (λ (k : ℕ). getD (t .lists .refusals ++ (9 ∷ [])) k 0) there
+      ∙ getD-append-seam (t .lists .refusals) 9 [] 0
   number-there minute (reading ∷ readings) t (suc i) p q h e =
       let c = whole-minute m minute reading (upcoming reading readings) (held t) in
       let u = with-minute m c t in
-      let place : p ≡ length (u .refusals) + i = omega (arith, q, length-append (t .refusals) (refusal (c .answer) ∷ [])) in
+      let place : p ≡ length (u .lists .refusals) + i = omega (arith, q, length-append (t .lists .refusals) (refusal (c .answer) ∷ [])) in
       number-there (minute + 1) readings u i p place (le-of-suc-le-suc h) e
 
   -- two minutes with the same junction x, the second at place p + 1
-  twice : (minute : ℕ) (readings : List Float) (t : So-far) (p : ℕ) (js : List Float) (x : Float) → p ≡ length js → t .junctions ≡ (js ++ (x ∷ [])) ++ (x ∷ [])
-      → getD (run m minute readings t .junctions) (p + 1) nan ≡ getD (run m minute readings t .junctions) p nan
+  twice : (minute : ℕ) (readings : List Float) (t : So-far) (p : ℕ) (js : List Float) (x : Float) → p ≡ length js
+      → t .lists .junctions ≡ (js ++ (x ∷ [])) ++ (x ∷ [])
+      → getD (run m minute readings t .lists .junctions) (p + 1) nan ≡ getD (run m minute readings t .lists .junctions) p nan
   twice minute readings t p js x q e =
       let one = length-append js (x ∷ []) in
       let two = length-append (js ++ (x ∷ [])) (x ∷ []) in
@@ -83,35 +82,38 @@ module _ (m : Inverter) where
       second ∙ sym first
 
   -- the junction of minute i + 1 from here on
-  junction-there : (minute : ℕ) (readings : List Float) (t : So-far) (i p : ℕ) → p ≡ length (t .junctions) + i → i + 1 < length readings
-      → finite (getD readings (i + 1) nan) ≡ false → getD (run m minute readings t .junctions) (p + 1) nan ≡ getD (run m minute readings t .junctions) p nan
-  unfolding run with-minute minute-counted kept-out
+  junction-there : (minute : ℕ) (readings : List Float) (t : So-far) (i p : ℕ) → p ≡ length (t .lists .junctions) + i → i + 1 < length readings
+      → finite (getD readings (i + 1) nan) ≡ false
+      → getD (run m minute readings t .lists .junctions) (p + 1) nan ≡ getD (run m minute readings t .lists .junctions) p nan
+  unfolding run with-minute minute-counted longer kept-out
   junction-there minute [] t i p q h e = absurd (omega arith)
   junction-there minute (reading ∷ []) t i p q h e = absurd (omega arith)
   junction-there minute (reading ∷ next ∷ readings) t zero p q h e =
       let c = whole-minute m minute reading (upcoming reading (next ∷ readings)) (held t) in
       let u = with-minute m c t in
       let x = junction m (c .held .kept .phase) (c .held .area) in
-      subst (λ (v : So-far). getD (run m (minute + 1 + 1) readings v .junctions) (p + 1) nan ≡ getD (run m (minute + 1 + 1) readings v .junctions) p nan)
+      let after : So-far → List Float = λ v. run m (minute + 1 + 1) readings v .lists .junctions in
+      subst (λ (v : So-far). getD (after v) (p + 1) nan ≡ getD (after v) p nan)
       (sym (kept-out-minute m (minute + 1) next (upcoming next readings) u e))
-      (twice (minute + 1 + 1) readings (kept-out m u) p (t .junctions) x (omega (arith, q)) refl)
+      (twice (minute + 1 + 1) readings (kept-out m u) p (t .lists .junctions) x (omega (arith, q)) refl)
   junction-there minute (reading ∷ next ∷ readings) t (suc i) p q h e =
       let c = whole-minute m minute reading (upcoming reading (next ∷ readings)) (held t) in
       let x = junction m (c .held .kept .phase) (c .held .area) in
       let later : suc i + 1 ≡ suc (i + 1) = omega arith in
       let bad = subst (λ (k : ℕ). finite (getD (reading ∷ next ∷ readings) k nan) ≡ false) later e in
-      junction-there (minute + 1) (next ∷ readings) (with-minute m c t) i p (omega (arith, q, length-append (t .junctions) (x ∷ []))) (omega (arith, h)) bad
+      junction-there (minute + 1) (next ∷ readings) (with-minute m c t) i p (omega (arith, q, length-append (t .lists .junctions) (x ∷ [])))
+      (omega (arith, h)) bad
 
   -- the junction of minute 0, at the outset
   at-first : (readings : List Float) (area : List Float) → 0 < length readings → finite (getD readings 0 nan) ≡ false
-      → getD (run m 0 readings (outset area) .junctions) 0 nan ≡ getD (unpack (m .n) area state) 0 nan
-  unfolding run kept-out junction no-count may-accept
+      → getD (run m 0 readings (outset area) .lists .junctions) 0 nan ≡ getD (unpack (m .n) area state) 0 nan
+  unfolding run longer kept-out junction no-count may-accept
   at-first [] area h e = absurd (not-suc-le-zero h)
   at-first (reading ∷ readings) area h e =
-      ap (λ (x : So-far). getD (run m (0 + 1) readings x .junctions) 0 nan) (kept-out-minute m 0 reading (upcoming reading readings) (outset area) e)
+      ap (λ (x : So-far). getD (run m (0 + 1) readings x .lists .junctions) 0 nan) (kept-out-minute m 0 reading (upcoming reading readings) (outset area) e)
       ∙ junction-stays (0 + 1) readings (kept-out m (outset area)) 0 (omega arith)
 
-  day-keeps-out : (readings : List Float) → let t = run m 0 readings (outset (first-area m)) in Keeps-out m readings (total t) (t .refusals) (t .junctions)
+  day-keeps-out : (readings : List Float) → let t = run m 0 readings (outset (first-area m)) in Keeps-out m readings (total t) (t .lists)
   unfolding total-of engine-alone no-count
   day-keeps-out readings = let t = outset (first-area m) in
       let left = left-by-finite m 0 readings t in
@@ -124,18 +126,13 @@ module _ (m : Inverter) where
         finished-alone = ap (λ (h : Held). h .counters .«finished_attempts») left;
       }
 
--- of a report of a day, whatever the two lists held before
-module _ (text before : List ℕ) (temperatures : List Float) (m : Inverter) (readings : List Float) (r : Total) where
-  pub keeps-out : {refusals : List ℕ} {junctions : List Float} → Text.parsed text ≡ Text.Day m readings
-      → Reports (day text before temperatures) (Day r) refusals junctions → Keeps-out m readings r refusals junctions
+-- of a report of a day, whatever the lists held before
+module _ (text : List ℕ) (before : Minutes) (m : Inverter) (readings : List Float) (r : Total) where
+  pub keeps-out : {left : Minutes} → Text.parsed text ≡ Text.Day m readings → Reports (day text before) (Day r) left → Keeps-out m readings r left
   unfolding day reported
-  keeps-out {refusals} {junctions} parsed h =
+  keeps-out {left} parsed h =
       let t = run m 0 readings (outset (first-area m)) in
-      let k = day-keeps-out m readings in
-      let results : Day r ≡ Day (total t) = h .results ∙ ap (λ (p : Text.Parsed). reported p before temperatures .result) parsed in
+      let results : Day r ≡ Day (total t) = h .results ∙ ap (λ (p : Text.Parsed). reported p before .result) parsed in
       let same : total t ≡ r = cc in
-      let numbers : t .refusals ≡ refusals = sym (h .numbers ∙ ap (λ (p : Text.Parsed). reported p before temperatures .refusals) parsed) in
-      let warm : t .junctions ≡ junctions = sym (h .temperatures ∙ ap (λ (p : Text.Parsed). reported p before temperatures .junctions) parsed) in
-      subst (λ (x : Total). Keeps-out m readings x refusals junctions) same
-      (subst (λ (l : List ℕ). Keeps-out m readings (total t) l junctions) numbers
-      (subst (λ (l : List Float). Keeps-out m readings (total t) (t .refusals) l) warm k))
+      let lists : t .lists ≡ left = sym (h .lists ∙ ap (λ (p : Text.Parsed). reported p before .lists) parsed) in
+      subst (λ (x : Total). Keeps-out m readings x left) same (subst (Keeps-out m readings (total t)) lists (day-keeps-out m readings))

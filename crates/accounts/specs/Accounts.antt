@@ -1,5 +1,6 @@
 -- What the report of a day accounts for. docs/DECISIONS.md, "The day": every minute is a finished attempt, or is refused and listed with its number, so
--- that nothing is left out silently (40); a minute that counts as above is a finished one, and the total is the number of such minutes over 60 (41).
+-- that nothing is left out silently (40); a minute that counts as above is a finished one, and the total is the number of such minutes over 60 (41). Of each
+-- minute there is an entry in each of the five lists, and where the minute is refused, s, k and r are 0.
 -- ⊕ ⊗ ⊘ are operations on doubles: they round.
 use Prim.Native.Nat.{ℕ, _+_, _≤_, _<_}
 use mathlib.Core.Path.{_≡_}
@@ -9,7 +10,7 @@ use lib.Dec.{eqb}
 use lib.ListN.{length, getD}
 use lib.Ieee.{Float, nan, toUnsigned}
 use lib.Ieee.Scale.{finite}
-use Rattle.ieee.specs.Double.{_⊕_, _⊗_, _⊘_, double, half}
+use Rattle.ieee.specs.Double.{_⊕_, _⊗_, _⊘_, double, nought, half}
 use Rattle.workspace.specs.Vectors.{unpack, state}
 use Rattle.driver.specs.declared.Answer.the-variants.{Ready, Refused}
 use Rattle.driver.specs.Calls.{Held, Called, may-accept, accept}
@@ -18,7 +19,7 @@ use Rattle.session.specs.Refusals.{_∈_}
 use Rattle.heat_sink.specs.declared.Inverter.{Inverter}
 use Rattle.sheet.specs.Text.{minutes-a-day}
 use Rattle.inverter.specs.declared.Total.{Total}
-use Rattle.inverter.specs.Day.{called, finished, refusal, held, outset, first-area}
+use Rattle.inverter.specs.Day.{called, finished, refusal, Minutes, Entries, held, outset, first-area}
 use Rattle.inverter.specs.Finite.{entering, left-by, above-by}
 
 -- ---- a minute
@@ -62,6 +63,16 @@ unfoldable pub Numbered : List Refused-minute → Type 0
 Numbered [] = Unit
 Numbered (e ∷ es) = (e .number ∈ refusal-numbers) × Numbered es
 
+-- a minute of which no attempt is told: s, k and r are 0
+pub record Untold (lists : Minutes) (minute : ℕ) : Type 0 where
+  pub no-stages : getD (lists .stages) minute 0 ≡ 0
+  pub no-passes : getD (lists .passes) minute 0 ≡ 0
+  pub no-radius : getD (lists .scaled-radii) minute nan ≡ nought
+
+-- so is every refused minute, one whose number is not 0
+abbrev pub Refused-untold : Minutes → Type 0
+Refused-untold lists = (minute : ℕ) → (getD (lists .refusals) minute 0 ≡ 0 → ⊥) → Untold lists minute
+
 -- ---- the day
 
 -- the minutes that a number of hours tells: 60 times as many, to the nearest whole number
@@ -69,15 +80,15 @@ unfoldable pub minutes-of : Float → ℕ
 unfolding toUnsigned
 minutes-of hours = toUnsigned 64 (hours ⊗ double 60 ⊕ half)
 
--- the total of a day, the refusal of each minute and the junction temperature of each
-pub record Accounts (t : Total) (refusals : List ℕ) (junctions : List Float) : Type 0 where
+-- the total of a day, and what it tells of each minute
+pub record Accounts (t : Total) (lists : Minutes) : Type 0 where
   pub every-minute : t .«finished_attempts» + t .refused ≡ minutes-a-day
   pub above-finished : t .above ≤ t .«finished_attempts»
-  pub a-number-each : length refusals ≡ minutes-a-day
-  pub a-junction-each : length junctions ≡ minutes-a-day
-  pub all-listed : length (listed 0 refusals) ≡ t .refused
-  pub in-order : Rising 0 minutes-a-day (listed 0 refusals)
-  pub numbered : Numbered (listed 0 refusals)
+  pub an-entry-each : Entries minutes-a-day lists
+  pub all-listed : length (listed 0 (lists .refusals)) ≡ t .refused
+  pub in-order : Rising 0 minutes-a-day (listed 0 (lists .refusals))
+  pub numbered : Numbered (listed 0 (lists .refusals))
+  pub refused-untold : Refused-untold lists
   pub hours-are : t .hours ≡ double (t .above) ⊘ double 60
   pub minutes-told : minutes-of (t .hours) ≡ t .above
 
@@ -88,10 +99,12 @@ unfoldable pub engine-alone : Inverter → List Float → Held
 engine-alone m readings = left-by m (entering 0 readings) (held (outset (first-area m)))
 
 -- such a minute has the number 9, and the junction of the minute before, or that of the outset; the counts are those of the others alone
-pub record Keeps-out (m : Inverter) (readings : List Float) (t : Total) (refusals : List ℕ) (junctions : List Float) : Type 0 where
-  pub number-nine : (i : ℕ) → i < length readings → finite (getD readings i nan) ≡ false → getD refusals i 0 ≡ 9
-  pub junction-stands : (i : ℕ) → i + 1 < length readings → finite (getD readings (i + 1) nan) ≡ false → getD junctions (i + 1) nan ≡ getD junctions i nan
-  pub first-junction : 0 < length readings → finite (getD readings 0 nan) ≡ false → getD junctions 0 nan ≡ getD (unpack (m .n) (first-area m) state) 0 nan
+pub record Keeps-out (m : Inverter) (readings : List Float) (t : Total) (lists : Minutes) : Type 0 where
+  pub number-nine : (i : ℕ) → i < length readings → finite (getD readings i nan) ≡ false → getD (lists .refusals) i 0 ≡ 9
+  pub junction-stands : (i : ℕ) → i + 1 < length readings → finite (getD readings (i + 1) nan) ≡ false
+      → getD (lists .junctions) (i + 1) nan ≡ getD (lists .junctions) i nan
+  pub first-junction : 0 < length readings → finite (getD readings 0 nan) ≡ false
+      → getD (lists .junctions) 0 nan ≡ getD (unpack (m .n) (first-area m) state) 0 nan
   pub above-alone : t .above ≡ above-by m (entering 0 readings) (held (outset (first-area m)))
   pub evaluations-alone : t .evaluations ≡ engine-alone m readings .counters .evaluations
   pub finished-alone : t .«finished_attempts» ≡ engine-alone m readings .counters .«finished_attempts»

@@ -1,5 +1,5 @@
 // The six calls for C: the record is lent, as its whole numbers and its doubles, and read and written in place; the answer
-// is code, number and value. Each says what driver's call of that name says.
+// is a code and what that code carries, by name. Each says what driver's call of that name says.
 ghost use mathlib.Core.Path.{_≡_};
 ghost use mathlib.Core.Bool.{true, false};
 ghost use Rattle.driver.specs.Calls as calls;

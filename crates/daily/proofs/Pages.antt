@@ -1,8 +1,8 @@
 -- The whole text: what is put from the start on is counted, and of a report it is the definition's. From the definitions, and from the theorem of a day's
 -- accounts.
-use mathlib.Core.Path.{_≡_, refl, sym, ap, subst, _∙_}
-use mathlib.Core.List.{List, [], _++_}
-use Prim.Native.Nat.{ℕ, _+_, _≤_}
+use mathlib.Core.Path.{_≡_, sym, ap, subst, _∙_}
+use mathlib.Core.List.{List}
+use Prim.Native.Nat.{ℕ}
 use native.Mathlib.Omega.{arith}
 use lib.ListN.{length, take, replicate, length-take}
 use lib.Ieee.{Float}
@@ -12,10 +12,9 @@ use Rattle.page.specs.Page.{Puts}
 use Rattle.inverter.specs.declared.Total.{Total}
 use Rattle.inverter.specs.declared.DayResult.{DayResult}
 use Rattle.inverter.specs.declared.DayResult.the-variants.{Day}
-use Rattle.inverter.specs.Day.{Reports, day}
-use Rattle.accounts.specs.Accounts.{Accounts}
+use Rattle.inverter.specs.Day.{Minutes, minutes, Entries, Reports, day}
 use Rattle.accounts.proofs.Day.{accounts}
-use Rattle.daily.specs.Written.{report, day-text, junctions-text, day-page, junctions-page}
+use Rattle.daily.specs.Written.{no-lists, report, day-text, minutes-text, day-page, minutes-page}
 
 pub puts-same : {p q x y : List ℕ} {at r : ℕ} → x ≡ y → Puts p at x q r → Puts p at y q r
 puts-same {p} {q} {x} {y} {at} {r} e h = subst (λ (l : List ℕ). Puts p at l q r) e h
@@ -25,35 +24,37 @@ puts-counts {p} {q} {x} {r} h =
     let e : r ≡ length (take r q) = omega (arith, h .place, ap length (h .bytes)) in
     (omega (arith, e, length-take r q), e)
 
-module _ (text before : List ℕ) (temperatures : List Float) (b : before ≡ replicate 1440 0) (t : temperatures ≡ replicate 1440 nought) where
-  reports : {r : DayResult} {refusals : List ℕ} {junctions : List Float} → Reports (day text before temperatures) r refusals junctions
-      → Reports (report text) r refusals junctions
+-- the lists before the day is read
+pub blank-lists : {refusals stages passes : List ℕ} {junctions radii : List Float} → refusals ≡ replicate 1440 0 → junctions ≡ replicate 1440 nought
+    → stages ≡ replicate 1440 0 → passes ≡ replicate 1440 0 → radii ≡ replicate 1440 nought → minutes refusals junctions stages passes radii ≡ no-lists
+blank-lists {refusals} {stages} {passes} {junctions} {radii} n j s p r =
+    let zeros : List ℕ = replicate 1440 0 in
+    let noughts : List Float = replicate 1440 nought in
+    ap (λ (x : List ℕ). minutes x junctions stages passes radii) n
+    ∙ ap (λ (x : List Float). minutes zeros x stages passes radii) j
+    ∙ ap (λ (x : List ℕ). minutes zeros noughts x passes radii) s
+    ∙ ap (λ (x : List ℕ). minutes zeros noughts zeros x radii) p
+    ∙ ap (minutes zeros noughts zeros zeros) r
+
+module _ (text : List ℕ) (before : Minutes) (b : before ≡ no-lists) where
+  reports : {r : DayResult} {left : Minutes} → Reports (day text before) r left → Reports (report text) r left
   unfolding report
-  reports {r} {refusals} {junctions} h =
-      subst (λ (x : List Float). Reports (day text (replicate 1440 0) x) r refusals junctions) t
-      (subst (λ (x : List ℕ). Reports (day text x temperatures) r refusals junctions) b h)
+  reports {r} {left} h = subst (λ (x : Minutes). Reports (day text x) r left) b h
 
   -- of a result that is known
-  pub day-written : {r o : DayResult} {refusals : List ℕ} {junctions : List Float} → r ≡ o → Reports (day text before temperatures) r refusals junctions
-      → day-text o refusals ≡ day-page text
+  pub day-written : {r o : DayResult} {left : Minutes} → r ≡ o → Reports (day text before) r left → day-text o (left .refusals) ≡ day-page text
   unfolding day-page
-  day-written {r} {o} {refusals} e h = let w = reports h in
-      ap (λ (x : DayResult). day-text x refusals) (sym e ∙ w .results) ∙ ap (day-text (report text .result)) (w .numbers)
+  day-written {r} {o} {left} e h = let w = reports h in
+      ap (λ (x : DayResult). day-text x (left .refusals)) (sym e ∙ w .results)
+      ∙ ap (λ (x : Minutes). day-text (report text .result) (x .refusals)) (w .lists)
 
-  pub junctions-written : {r o : DayResult} {refusals : List ℕ} {junctions : List Float} → r ≡ o → Reports (day text before temperatures) r refusals junctions
-      → junctions-text o junctions ≡ junctions-page text
-  unfolding junctions-page
-  junctions-written {r} {o} {refusals} {junctions} e h = let w = reports h in
-      ap (λ (x : DayResult). junctions-text x junctions) (sym e ∙ w .results) ∙ ap (junctions-text (report text .result)) (w .temperatures)
+  pub minutes-written : {r o : DayResult} {left : Minutes} → r ≡ o → Reports (day text before) r left → minutes-text o left ≡ minutes-page text
+  unfolding minutes-page
+  minutes-written {r} {o} {left} e h = let w = reports h in
+      ap (λ (x : DayResult). minutes-text x left) (sym e ∙ w .results) ∙ ap (minutes-text (report text .result)) (w .lists)
 
 -- a day's lists have an entry a minute
-module _ (text before : List ℕ) (temperatures : List Float) {r : DayResult} {t : Total} {refusals : List ℕ} {junctions : List Float} (e : r ≡ Day t)
-    (h : Reports (day text before temperatures) r refusals junctions) where
-  all : Accounts t refusals junctions
-  all = accounts text before temperatures t (subst (λ (o : DayResult). Reports (day text before temperatures) o refusals junctions) e h)
-
-  pub numbers-long : length refusals ≡ 1440
-  numbers-long = all .a-number-each
-
-  pub junctions-long : length junctions ≡ 1440
-  junctions-long = all .a-junction-each
+pub entries : (text : List ℕ) (before : Minutes) {r : DayResult} {t : Total} {left : Minutes} → r ≡ Day t → Reports (day text before) r left
+    → Entries 1440 left
+entries text before {r} {t} {left} e h =
+    accounts text before t (subst (λ (o : DayResult). Reports (day text before) o left) e h) .an-entry-each

@@ -15,9 +15,9 @@ use Rattle.page.proofs.Digits.{length-digits, length-decimal, length-word}
 use Rattle.inverter.specs.declared.Total.{Total}
 use Rattle.accounts.specs.Accounts.{Refused-minute, refused-minute, listed}
 use Rattle.accounts.proofs.Listing.{listed-more}
-use Rattle.daily.specs.Written.{bits-text, hours-text, count-line, heading, counts, refusal-line, refused-line, refusal-lines, junction-line}
-use Rattle.daily.specs.Written.{junction-lines, total-text, hours-above-text, point-text, minutes-above-text, evaluations-text, finished-attempts-text}
-use Rattle.daily.specs.Written.{refused-minutes-text, minute-text, refused-with-text, line-end}
+use Rattle.daily.specs.Written.{bits-text, hours-text, count-line, heading, counts, refusal-line, refused-line, refusal-lines, spaced, minute-line}
+use Rattle.daily.specs.Written.{minute-lines, total-text, hours-above-text, point-text, minutes-above-text, evaluations-text, finished-attempts-text}
+use Rattle.daily.specs.Written.{refused-minutes-text, minute-text, refused-with-text, space-text, line-end}
 
 -- ---- lengths
 
@@ -83,9 +83,23 @@ length-counts t =
     (length-count finished-attempts-text (t .«finished_attempts»)))
     (length-count refused-minutes-text (t .refused))
 
-pub length-junction : (x : Float) → length (junction-line x) ≡ 17
-unfolding junction-line
-length-junction x = length-append (bits-text x) line-end ∙ ap (λ (k : ℕ). k + 1) (length-bits x)
+pub length-spaced : (n : ℕ) → length (spaced n) ≤ 21
+unfolding spaced
+length-spaced n = both space-text (decimal n) 1 20 (omega arith) (length-decimal n)
+
+pub length-minute : (junction : Float) (s k : ℕ) (r : Float) → length (minute-line junction s k r) ≤ 76
+unfolding minute-line
+length-minute junction s k r =
+    let x = bits-text junction in
+    let y = spaced s in
+    let z = spaced k in
+    both (x ++ y ++ z ++ space-text ++ bits-text r) line-end 75 1
+    (both (x ++ y ++ z ++ space-text) (bits-text r) 59 16
+    (both (x ++ y ++ z) space-text 58 1
+    (both (x ++ y) z 37 21 (both x y 16 21 (omega (arith, length-bits junction)) (length-spaced _)) (length-spaced _))
+    (omega arith))
+    (omega (arith, length-bits r)))
+    (omega arith)
 
 -- ---- one minute more
 
@@ -116,23 +130,13 @@ refusals-turn l i h =
     one false x = let e : 0 + length (take i l) ≡ i = omega (arith, length-take-le i l (omega arith)) in
         append-nil (refusal-line (refused-minute (0 + length (take i l)) x)) ∙ ap (λ (k : ℕ). refusal-line (refused-minute k x)) e
 
-junctions-append : (xs ys : List Float) → junction-lines (xs ++ ys) ≡ junction-lines xs ++ junction-lines ys
-unfolding junction-lines
-junctions-append [] ys = refl
-junctions-append (x ∷ xs) ys = ap (λ (l : List ℕ). junction-line x ++ l) (junctions-append xs ys)
-    ∙ sym (append-assoc (junction-line x) (junction-lines xs) (junction-lines ys))
+module _ (junctions : List Float) (stages passes : List ℕ) (radii : List Float) where
+  pub minutes-start : [] ≡ minute-lines junctions stages passes radii 0
+  unfolding minute-lines
+  minutes-start = refl
 
-pub junctions-start : [] ≡ junction-lines []
-unfolding junction-lines
-junctions-start = refl
-
-pub junctions-turn : (l : List Float) (i : ℕ) → i < length l
-    → junction-lines (take i l) ++ junction-line (getD l i nan) ≡ junction-lines (take (i + 1) l)
-unfolding junction-lines
-junctions-turn l i h =
-    let x = getD l i nan in
-    sym
-    (ap (λ (k : ℕ). junction-lines (take k l)) (add-one i)
-    ∙ ap junction-lines (take-suc l i nan h)
-    ∙ junctions-append (take i l) (x ∷ [])
-    ∙ ap (λ (m : List ℕ). junction-lines (take i l) ++ m) (append-nil (junction-line x)))
+  pub minutes-turn : (i : ℕ)
+      → minute-lines junctions stages passes radii i ++ minute-line (getD junctions i nan) (getD stages i 0) (getD passes i 0) (getD radii i nan)
+      ≡ minute-lines junctions stages passes radii (i + 1)
+  unfolding minute-lines
+  minutes-turn i = ap (minute-lines junctions stages passes radii) (sym (add-one i))

@@ -1,18 +1,18 @@
--- What the programs write of a day, byte for byte: the total, the counts and a line for each refused minute; or the line that makes the text no day. README,
--- "Two commands". Definitions only.
-use Prim.Native.Nat.{ℕ, _*_, _/_, _%_}
+-- What the programs write of a day, byte for byte: the total, the counts and a line for each refused minute, or else a line for each minute with its junction,
+-- s, k and r; or the line that makes the text no day. README, "Two commands". Definitions only.
+use Prim.Native.Nat.{ℕ, zero, suc, _*_, _/_, _%_}
 use mathlib.Core.Bool.{cond}
 use mathlib.Core.List.{List, [], _∷_, _++_}
 use lib.Dec.{eqb}
-use lib.ListN.{replicate}
-use lib.Ieee.{Float, binary64, toBits}
+use lib.ListN.{getD, replicate}
+use lib.Ieee.{Float, nan, binary64, toBits}
 use Rattle.ieee.specs.Double.{nought}
 use Rattle.page.specs.Page.{digits, decimal, word}
 use Rattle.sheet.specs.Text.{minutes-a-day}
 use Rattle.inverter.specs.declared.Total.{Total}
 use Rattle.inverter.specs.declared.DayResult.{DayResult}
 use Rattle.inverter.specs.declared.DayResult.the-variants.{Day, Malformed}
-use Rattle.inverter.specs.Day.{Report, day}
+use Rattle.inverter.specs.Day.{Minutes, minutes, Report, day}
 use Rattle.accounts.specs.Accounts.{Refused-minute, refused-minute, listed}
 
 -- ---- words, in ASCII
@@ -60,6 +60,9 @@ no-total-text = 44 ∷ 32 ∷ 110 ∷ 111 ∷ 32 ∷ 116 ∷ 111 ∷ 116 ∷ 97 
 abbrev pub point-text : List ℕ
 point-text = 46 ∷ []
 
+abbrev pub space-text : List ℕ
+space-text = 32 ∷ []
+
 abbrev pub line-end : List ℕ
 line-end = 10 ∷ []
 
@@ -100,30 +103,43 @@ refusal-lines (e ∷ es) = refusal-line e ++ refusal-lines es
 unfoldable pub malformed-line : ℕ → List ℕ
 malformed-line line = malformed-text ++ decimal line ++ no-total-text
 
-unfoldable pub junction-line : Float → List ℕ
-junction-line x = bits-text x ++ line-end
+-- a number after a space
+unfoldable pub spaced : ℕ → List ℕ
+spaced n = space-text ++ decimal n
 
-unfoldable pub junction-lines : List Float → List ℕ
-junction-lines [] = []
-junction-lines (x ∷ xs) = junction-line x ++ junction-lines xs
+-- of a minute: its junction's bits, s, k and the bits of r, a space between two of them
+unfoldable pub minute-line : Float → ℕ → ℕ → Float → List ℕ
+minute-line junction s k r = bits-text junction ++ spaced s ++ spaced k ++ space-text ++ bits-text r ++ line-end
+
+-- of the first minutes, so many
+module _ (junctions : List Float) (stages passes : List ℕ) (scaled-radii : List Float) where
+  unfoldable pub minute-lines : ℕ → List ℕ
+  minute-lines zero = []
+  minute-lines (suc i) = minute-lines i ++ minute-line (getD junctions i nan) (getD stages i 0) (getD passes i 0) (getD scaled-radii i nan)
 
 -- ---- the whole text
 
+-- the lists before the day is read
+abbrev pub no-lists : Minutes
+no-lists = let zeros : List ℕ = replicate minutes-a-day 0 in
+    let noughts : List Float = replicate minutes-a-day nought in
+    minutes zeros noughts zeros zeros noughts
+
 -- the report of a text; of one that is no day, only its result is written
 unfoldable pub report : List ℕ → Report
-report text = day text (replicate minutes-a-day 0) (replicate minutes-a-day nought)
+report text = day text no-lists
 
 unfoldable pub day-text : DayResult → List ℕ → List ℕ
 day-text (Day t) refusals = heading t ++ counts t ++ refusal-lines (listed 0 refusals)
 day-text (Malformed line) refusals = malformed-line line
 
-unfoldable pub junctions-text : DayResult → List Float → List ℕ
-junctions-text (Day t) junctions = junction-lines junctions
-junctions-text (Malformed line) junctions = malformed-line line
+unfoldable pub minutes-text : DayResult → Minutes → List ℕ
+minutes-text (Day t) lists = minute-lines (lists .junctions) (lists .stages) (lists .passes) (lists .scaled-radii) minutes-a-day
+minutes-text (Malformed line) lists = malformed-line line
 
--- what `day` writes, and what `junctions` writes
+-- what `day` writes, and what `minutes` writes
 unfoldable pub day-page : List ℕ → List ℕ
-day-page text = day-text (report text .result) (report text .refusals)
+day-page text = day-text (report text .result) (report text .lists .refusals)
 
-unfoldable pub junctions-page : List ℕ → List ℕ
-junctions-page text = junctions-text (report text .result) (report text .junctions)
+unfoldable pub minutes-page : List ℕ → List ℕ
+minutes-page text = minutes-text (report text .result) (report text .lists)

@@ -9,47 +9,70 @@ use libc::STDOUT_FILENO;
 
 mod lines;
 
-fn no_refusals() -> [u64; 1440]
+fn no_numbers() -> [u64; 1440]
     ensures { λ r. ⌜ r ≡ replicate 1440 0 ⌝ }
 {
     [0u64; 1440]
 }
 
-fn no_junctions() -> [f64; 1440]
+fn no_doubles() -> [f64; 1440]
     ensures { λ r. ⌜ r ≡ replicate 1440 nought ⌝ }
 {
     [0.0f64; 1440]
 }
 
-// Room for the longest text: 1,440 minutes, each refused.
-fn blank() -> [u8; 90000]
-    ensures { λ r. ⌜ 90000 ≡ length r ⌝ }
+// Room for the longest text: 1,440 minutes of at most 76 bytes each.
+fn blank() -> [u8; 110000]
+    ensures { λ r. ⌜ 110000 ≡ length r ⌝ }
 {
-    [0; 90000]
+    [0; 110000]
 }
 
 // The total and each refused minute, or the line that makes the text no day; how many bytes that is.
-pub fn day_page(text: &[u8], out: &mut [u8; 90000]) -> usize
+pub fn day_page(text: &[u8], out: &mut [u8; 110000]) -> usize
     ensures { λ r. ⌜ Counts r (now (out .exit)) ⌝ }
     ensures { λ r. ⌜ take r (now (out .exit)) ≡ spec.day-page (now (text .entry)) ⌝ }
 {
-    let mut refusals = no_refusals();
-    let mut junctions = no_junctions();
-    match inverter::day(text, &mut refusals, &mut junctions) {
+    let mut refusals = no_numbers();
+    let mut junctions = no_doubles();
+    let mut stages = no_numbers();
+    let mut passes = no_numbers();
+    let mut scaled_radii = no_doubles();
+    match inverter::day(
+        text,
+        &mut refusals,
+        &mut junctions,
+        &mut stages,
+        &mut passes,
+        &mut scaled_radii,
+    ) {
         DayResult::Day { total } => lines::put_day(out, total, &refusals),
         DayResult::Malformed { line } => lines::put_malformed(out, line),
     }
 }
 
-// The junction temperature at the end of each minute, a line each, or the line that makes the text no day; how many bytes.
-pub fn junctions_page(text: &[u8], out: &mut [u8; 90000]) -> usize
+// Of each minute the junction temperature at its end, s, k and r, a line each; or the line that makes the text no day; how
+// many bytes.
+pub fn minutes_page(text: &[u8], out: &mut [u8; 110000]) -> usize
     ensures { λ r. ⌜ Counts r (now (out .exit)) ⌝ }
-    ensures { λ r. ⌜ take r (now (out .exit)) ≡ spec.junctions-page (now (text .entry)) ⌝ }
+    ensures { λ r. ⌜ take r (now (out .exit)) ≡ spec.minutes-page (now (text .entry)) ⌝ }
 {
-    let mut refusals = no_refusals();
-    let mut junctions = no_junctions();
-    match inverter::day(text, &mut refusals, &mut junctions) {
-        DayResult::Day { total: _ } => lines::put_junctions(out, &junctions),
+    let mut refusals = no_numbers();
+    let mut junctions = no_doubles();
+    let mut stages = no_numbers();
+    let mut passes = no_numbers();
+    let mut scaled_radii = no_doubles();
+    match inverter::day(
+        text,
+        &mut refusals,
+        &mut junctions,
+        &mut stages,
+        &mut passes,
+        &mut scaled_radii,
+    ) {
+        DayResult::Day { total: _ } => {
+            lines::put_minutes(out, &junctions, &stages, &passes, &scaled_radii)
+        }
         DayResult::Malformed { line } => lines::put_malformed(out, line),
     }
 }
@@ -62,8 +85,8 @@ pub fn day(text: &[u8]) {
 }
 
 // Writes the second.
-pub fn junctions(text: &[u8]) {
+pub fn minutes(text: &[u8]) {
     let mut out = blank();
-    let n = junctions_page(text, &mut out);
+    let n = minutes_page(text, &mut out);
     io::write_all(STDOUT_FILENO, &out[..n]);
 }

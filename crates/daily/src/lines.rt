@@ -108,23 +108,54 @@ pub fn put_malformed(out: &mut [u8], line: usize) -> usize
     page::put(out, b, b", no total\n")
 }
 
-fn put_junction(out: &mut [u8], at: usize, x: f64) -> usize
-    requires { ⌜ at + 17 ≤ length (now out) ⌝ }
-    ensures { λ r. ⌜ Puts (now (out .entry)) at (spec.junction-line x) (now (out .exit)) r ⌝ }
+// A number after a space.
+fn put_spaced(out: &mut [u8], at: usize, n: u64) -> usize
+    requires { ⌜ at + 21 ≤ length (now out) ⌝ }
+    ensures { λ r. ⌜ Puts (now (out .entry)) at (spec.spaced n) (now (out .exit)) r ⌝ }
 {
-    let a = put_bits(out, at, x);
-    page::put(out, a, b"\n")
+    let a = page::put(out, at, b" ");
+    page::put_decimal(out, a, n)
 }
 
-// The junction temperature at the end of each minute.
-pub fn put_junctions(out: &mut [u8], junctions: &[f64]) -> usize
-    requires { ⌜ 17 * length (now junctions) ≤ length (now out) ⌝ }
-    ensures { λ r. ⌜ Puts (now (out .entry)) 0 (spec.junction-lines (now (junctions .entry))) (now (out .exit)) r ⌝ }
+// The junction temperature at a minute's end, and s, k and r of its attempt.
+fn put_minute(out: &mut [u8], at: usize, junction: f64, s: u64, k: u64, r: f64) -> usize
+    requires { ⌜ at + 76 ≤ length (now out) ⌝ }
+    ensures { λ end. ⌜ Puts (now (out .entry)) at (spec.minute-line junction s k r) (now (out .exit)) end ⌝ }
+{
+    let a = put_bits(out, at, junction);
+    let b = put_spaced(out, a, s);
+    let c = put_spaced(out, b, k);
+    let d = page::put(out, c, b" ");
+    let e = put_bits(out, d, r);
+    page::put(out, e, b"\n")
+}
+
+// A line for each minute.
+pub fn put_minutes(
+    out: &mut [u8],
+    junctions: &[f64],
+    stages: &[u64],
+    passes: &[u64],
+    scaled_radii: &[f64],
+) -> usize
+    requires { ⌜ 76 * length (now junctions) ≤ length (now out) ⌝ }
+    requires { ⌜ length (now stages) ≡ length (now junctions) ⌝ }
+    requires { ⌜ length (now passes) ≡ length (now junctions) ⌝ }
+    requires { ⌜ length (now «scaled_radii») ≡ length (now junctions) ⌝ }
+    ensures { λ r. ⌜ Puts (now (out .entry)) 0 (spec.minute-lines (now (junctions .entry)) (now (stages .entry)) (now (passes .entry))
+        (now («scaled_radii» .entry)) (length (now (junctions .entry)))) (now (out .exit)) r ⌝ }
 {
     let mut place = 0;
     let mut i = 0;
     while i < junctions.len() {
-        place = put_junction(out, place, junctions[i]);
+        place = put_minute(
+            out,
+            place,
+            junctions[i],
+            stages[i],
+            passes[i],
+            scaled_radii[i],
+        );
         i += 1;
     }
     place

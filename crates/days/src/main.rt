@@ -1,8 +1,8 @@
-// The texts that the arguments name, each with what is written of it as a day; at the end the junction temperatures of the first.
+// The texts that the arguments name, each with what is written of it as a day; at the end a line for each minute of the first.
 // The longest day is 24,588 bytes, and the first bad line of a longer text is among its first 65,536.
 use libc::STDOUT_FILENO;
 
-fn write_text(argument: usize, junctions: bool) {
+fn write_text(argument: usize, minutes: bool) {
     let mut name = io::buffer();
     let length = os::arg(argument, &mut name);
     let file = os::open_read(&name[..length]);
@@ -14,9 +14,9 @@ fn write_text(argument: usize, junctions: bool) {
     let n = io::read_full(file, &mut text);
     libc::close(file);
     io::write_all(STDOUT_FILENO, &name[..length]);
-    if junctions {
-        io::write_all(STDOUT_FILENO, b", junctions:\n");
-        daily::junctions(&text[..n]);
+    if minutes {
+        io::write_all(STDOUT_FILENO, b", minutes:\n");
+        daily::minutes(&text[..n]);
         return;
     }
     io::write_all(STDOUT_FILENO, b": ");

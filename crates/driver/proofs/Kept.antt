@@ -1,6 +1,5 @@
--- The s, k and r that a finished attempt tells are those that it leaves in the record (`told-left`). What moves the position among the passes and the stages,
--- and so the three: an attempt and its replies alone. A call that is no attempt, where none is under way, leaves both parts of the record, and none is then
--- under way (`position-stands`). From the definitions of the calls.
+-- The step that finishes an attempt tells the s, k and r that it leaves in the record (`told-left`). Where no attempt is under way, a call that is no attempt
+-- leaves the position among the passes and among the stages, and so the three, and then again none is under way (`position-stands`). From the definitions.
 use mathlib.Core.Path.{_≡_, refl, sym}
 use mathlib.Core.Bool.{Bool, true, false, cond, false≢true}
 use mathlib.Core.List.{List}
@@ -9,21 +8,15 @@ use Rattle.workspace.specs.Vectors.{Vectors, unpack, all-finite}
 use Rattle.driver.specs.declared.Phase.{Phase}
 use Rattle.driver.specs.declared.Phase.the-variants as P
 use Rattle.driver.specs.declared.Record.{Record}
-use Rattle.driver.specs.declared.Figures.{Figures}
-use Rattle.driver.specs.Calls.{Held, Called, Test, guarded, in-phase, first-at, figures-in, take-first, take-callback, take-candidate, replied}
+use Rattle.driver.specs.Calls.{Held, Called, Test, guarded, in-phase, first-at, figures-in, Holds-figures, take-first, take-callback, take-candidate, replied}
 use Rattle.driver.specs.Calls.{going-on, settled, spoiled}
 use Rattle.driver.specs.Calls.{start-tests, reply-tests, accept-tests, callback-tests, abandon-tests, start, reply, accepted, accept, called-back}
 use Rattle.driver.specs.Calls.{accept-with-callback, abandon, Call, Start, Attempt, Reply, Accept, Accept-with-callback, Abandon, made, is-attempt}
 use Rattle.driver.proofs.Ladder.{by-tests}
 
-pub record Left-told (told : Figures) (r : Record) : Type 0 where
-  pub stages-left : r .staging .stages ≡ told .stages
-  pub passes-left : r .iteration .pass ≡ told .passes
-  pub radius-left : r .iteration .«scaled_radius» ≡ told .«scaled_radius»
-
-pub told-left : (r : Record) (v : Vectors) (d : List Float) → Left-told (figures-in (take-candidate r v d .answer)) (take-candidate r v d .kept)
+pub told-left : (r : Record) (v : Vectors) (d : List Float) → Holds-figures (figures-in (take-candidate r v d .answer)) (take-candidate r v d .kept)
 unfolding figures-in take-candidate in-phase
-told-left r v d = record { stages-left = refl; passes-left = refl; radius-left = refl }
+told-left r v d = record { stages-held = refl; passes-held = refl; radius-held = refl }
 
 -- the phases in which no attempt is under way
 unfoldable pub between : Phase → Bool

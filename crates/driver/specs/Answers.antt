@@ -14,7 +14,7 @@ case-number Ready = 3
 case-number (Refused number) = 4
 case-number Empty = 5
 
--- the doubles and the whole numbers that it carries
+-- the doubles and the whole numbers that it carries: of evaluate the time, and the vector; of finished norm and r, and s and k; of a refusal its number
 pub record Values : Type 0 where
   pub doubles : List Float
   pub numbers : List ℕ

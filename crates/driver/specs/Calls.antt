@@ -1,6 +1,7 @@
 -- The calls, one after another: what each answers, and what it leaves of record, counters and area. Document 01, "driver.rs: the calls" and "When a call is
 -- turned away". ⊕ ⊗ are operations on doubles: they round.
 use Prim.Native.Nat.{ℕ, _+_, _-_, _*_, _^_}
+use mathlib.Core.Path.{_≡_}
 use mathlib.Core.Bool.{Bool, true, false, cond, not, _&&_, _||_}
 use mathlib.Core.List.{List, [], _∷_}
 use lib.Dec.{leb, ltb, eqb}
@@ -170,7 +171,13 @@ take-stage r v d = let m = setting-of r in
 abbrev pub figures-of : Float → ℕ → ℕ → Float → Figures
 figures-of norm s k radius = record { norm = norm; stages = s; passes = k; «scaled_radius» = radius }
 
--- of an answer that carries none: what a case does not carry is 0
+-- of the record r, whose attempt left the vectors w
+abbrev pub figures-after : Record → Vectors → Figures
+figures-after r w = let s = r .staging .stages in
+    let i = r .iteration in
+    figures-of (error-norm (setting-of r) (r .n) s (r .arguments) w) s (i .pass) (i .«scaled_radius»)
+
+-- the figures that an answer carries: what a case does not carry is 0
 abbrev pub no-figures : Figures
 no-figures = figures-of nought 0 0 nought
 
@@ -181,12 +188,15 @@ figures-in Ready = no-figures
 figures-in (Refused i) = no-figures
 figures-in Empty = no-figures
 
+-- the record holds s, k and r of these figures
+pub record Holds-figures (told : Figures) (r : Record) : Type 0 where
+  pub stages-held : r .staging .stages ≡ told .stages
+  pub passes-held : r .iteration .pass ≡ told .passes
+  pub radius-held : r .iteration .«scaled_radius» ≡ told .«scaled_radius»
+
 unfoldable pub take-candidate : Record → Vectors → List Float → Step
-take-candidate r v d = let m = setting-of r in
-    let s = r .staging .stages in
-    let i = r .iteration in
-    let w = with-last m (r .n) (r .arguments) v d in
-    step-to (Finished (figures-of (error-norm m (r .n) s (r .arguments) w) s (i .pass) (i .«scaled_radius»))) (in-phase P.Finished r) w
+take-candidate r v d = let w = with-last (setting-of r) (r .n) (r .arguments) v d in
+    step-to (Finished (figures-after r w)) (in-phase P.Finished r) w
 
 -- (Empty, Ready and Finished are never reached here: test 4 answers first)
 unfoldable pub replied : Phase → Record → Vectors → List Float → Step
@@ -223,7 +233,7 @@ permits m s = permitted (kind m) s
 abbrev pub good-stage : Setting → ℕ → ℕ → Bool
 good-stage m s j = permits m s && (leb 2 j && leb j s)
 
--- the figures of a finished attempt hold both
+-- the reply in phase Candidate tells k and s, and so uses the pass and s
 abbrev pub good-end : Setting → ℕ → ℕ → Bool
 good-end m k s = good-pass k && permits m s
 
@@ -442,6 +452,14 @@ made h (Reply d) = reply h d
 made h Accept = accept h
 made h (Accept-with-callback y t) = accept-with-callback h y t
 made h Abandon = abandon h
+
+unfoldable pub is-start : Call → Bool
+is-start (Start f n y t) = true
+is-start (Attempt a) = false
+is-start (Reply d) = false
+is-start Accept = false
+is-start (Accept-with-callback y t) = false
+is-start Abandon = false
 
 unfoldable pub is-attempt : Call → Bool
 is-attempt (Start f n y t) = false

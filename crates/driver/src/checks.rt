@@ -78,7 +78,7 @@ pub fn good_stage(setting: Setting, stages: u64, stage: u64) -> bool
     stage <= stages
 }
 
-// The figures of a finished attempt hold both.
+// The reply in phase Candidate tells k and s, and so uses the pass and s.
 fn good_end(setting: Setting, pass: u64, stages: u64) -> bool
     ensures { λ r. ⌜ r ≡ calls.good-end setting pass stages ⌝ }
 {

@@ -34,8 +34,8 @@ pub enum Phase {
     Callback,
 }
 
-// The position among the passes of the power iteration. The scaled radius is known once they end, and 0 before. After the
-// attempt both stand until the next one.
+// The position among the passes of the power iteration. The scaled radius is known once they end, and 0 until then; `pass`
+// is then k. Both stand until the next attempt that is taken.
 pub struct Iteration {
     pub pass: u64,
     pub perturbation: f64,
@@ -43,7 +43,7 @@ pub struct Iteration {
     pub scaled_radius: f64,
 }
 
-// The position among the stages, and what they carry on. How many they are stands until the next attempt has its own.
+// The position among the stages, and what they carry on. How many they are stands until the stages of the next attempt.
 pub struct Staging {
     pub stages: u64,
     pub stage: u64,

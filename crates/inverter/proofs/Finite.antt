@@ -3,7 +3,7 @@
 -- and those alone are above (`above-by-finite`). From the definitions alone.
 use mathlib.Core.Path.{_≡_, refl, sym, ap, _∙_}
 use mathlib.Core.Bool.{Bool, true, false, cond}
-use mathlib.Core.List.{List, [], _∷_, _++_}
+use mathlib.Core.List.{List, [], _∷_}
 use Prim.Native.Nat.{ℕ, _+_}
 use native.Mathlib.Nat.{add-zero, zero-add}
 use native.Mathlib.Omega.{arith}
@@ -11,24 +11,24 @@ use lib.Dec.{eqb}
 use lib.Ieee.{Float}
 use lib.Ieee.Scale.{finite}
 use Rattle.workspace.specs.Vectors.{number, candidate}
-use Rattle.driver.specs.Calls.{Called}
+use Rattle.driver.specs.Calls.{Called, no-figures}
 use Rattle.heat_sink.specs.declared.Inverter.{Inverter}
 use Rattle.inverter.specs.declared.Count.{Count}
-use Rattle.inverter.specs.Day.{reading-at, passed, whole-minute, upcoming, finished, junction, is-above, refusal, minute-counted, So-far, so-far, held}
-use Rattle.inverter.specs.Day.{with-minute, run}
+use Rattle.inverter.specs.Day.{reading-at, passed, whole-minute, upcoming, finished, junction, is-above, refusal, told, minute-counted, longer}
+use Rattle.inverter.specs.Day.{So-far, so-far, held, with-minute, run}
 use Rattle.inverter.specs.Finite.{kept-out, Entering, entering-with, entering, next-reading, left-by, above-at, above-by}
 use Rattle.inverter.proofs.Calls.{minute-finite, minute-not-finite}
 
 module _ (m : Inverter) (minute : ℕ) (reading after : Float) where
   -- a minute whose reading is not finite
   pub kept-out-minute : (t : So-far) → finite reading ≡ false → with-minute m (whole-minute m minute reading after (held t)) t ≡ kept-out m t
-  unfolding with-minute minute-counted is-above finished refusal kept-out
+  unfolding with-minute minute-counted is-above finished refusal told kept-out
   kept-out-minute t e =
       let n = t .count in
       let count : ℕ → Count = λ above. record { «record» = n .«record»; counters = n .counters; above = above; refused = n .refused + 1 } in
       let temperature = junction m (t .count .«record» .phase) (t .area) in
       ap (λ (c : Called). with-minute m c t) (sym (minute-not-finite m minute reading after (held t) e))
-      ∙ ap (λ (above : ℕ). so-far (count above) (t .area) (t .refusals ++ (9 ∷ [])) (t .junctions ++ (temperature ∷ []))) (add-zero (t .count .above))
+      ∙ ap (λ (above : ℕ). so-far (count above) (t .area) (longer (t .lists) 9 temperature no-figures)) (add-zero (t .count .above))
 
 -- the reading from a minute's end on is finite where the minute's own is
 upcoming-finite : (reading : Float) (readings : List Float) → finite reading ≡ true → finite (upcoming reading readings) ≡ true

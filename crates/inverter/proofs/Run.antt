@@ -7,12 +7,13 @@ use native.Mathlib.Nat.{add-zero}
 use native.Mathlib.Numerals.{add-one}
 use native.Mathlib.Omega.{arith}
 use lib.Dec.{eqb}
-use lib.ListN.{length, getD, take, drop, set, drop-of-length-le}
+use lib.ListN.{length, getD, take, drop, set, length-set, drop-of-length-le}
 use lib.Seq.{getD-take, getD-drop, drop-cons, take-suc-set, take-all}
 use lib.Ieee.{Float, nan}
 use lib.Ieee.Scale.{finite}
 use Rattle.workspace.specs.Vectors.{Vector, number, unpack, state, candidate}
 use Rattle.driver.specs.declared.Phase.{Phase}
+use Rattle.driver.specs.declared.Figures.{Figures}
 use Rattle.driver.specs.declared.Replied.{Replied}
 use Rattle.driver.specs.Calls.{Called, may-accept}
 use Rattle.driver.specs.Promises.{holding}
@@ -20,8 +21,8 @@ use Rattle.heat_sink.specs.declared.Inverter.{Inverter}
 use Rattle.inverter.specs.declared.Count.{Count}
 use Rattle.inverter.specs.declared.Total.{Total}
 use Rattle.inverter.specs.declared.DayResult.the-variants.{Day, Malformed}
-use Rattle.inverter.specs.Day.{one-if, whole-minute, upcoming, junction, is-above, refusal, minute-counted, end-of, so-far, held, with-minute, run}
-use Rattle.inverter.specs.Day.{first-area, outset, Gives-total, Reports, reported, day}
+use Rattle.inverter.specs.Day.{one-if, whole-minute, upcoming, junction, is-above, refusal, told, minute-counted, end-of, so-far, held, with-minute, run}
+use Rattle.inverter.specs.Day.{Minutes, minutes, Entries, longer, first-area, outset, Gives-total, Reports, reported, day}
 use Rattle.sheet.specs.Text as Text
 
 pub one-most : (b : Bool) → one-if b ≤ 1
@@ -76,53 +77,110 @@ module _ (reading : Float) (readings : List Float) (j : ℕ) where
 grown : {A : Type 0} (l : List A) (i : ℕ) (x : A) → i < length l → take i l ++ (x ∷ []) ≡ take (i + 1) (set l i x)
 grown l i x h = sym (take-suc-set l i x h) ∙ ap (λ (k : ℕ). take k (set l i x)) (sym (add-one i))
 
--- a minute, of which the code has found the end, what is counted, the refusal and the junction temperature
-module _ (m : Inverter) (readings : List Float) (i : ℕ) (count : Count) (area : List Float) (refusals : List ℕ) (junctions : List Float) where
-  pub minute-turn : (end : Called) {count′ : Count} {number : ℕ} {temperature after : Float} → i < length readings
-      → length refusals ≡ length readings → length junctions ≡ length readings
+-- ---- the five lists
+
+-- what they tell of the first minutes
+abbrev pub first : ℕ → Minutes → Minutes
+first i l = minutes (take i (l .refusals)) (take i (l .junctions)) (take i (l .stages)) (take i (l .passes)) (take i (l .scaled-radii))
+
+-- with these entries for one minute
+abbrev pub stored : ℕ → Minutes → ℕ → Float → Figures → Minutes
+stored i l number temperature figures =
+    minutes (set (l .refusals) i number) (set (l .junctions) i temperature) (set (l .stages) i (figures .stages)) (set (l .passes) i (figures .passes))
+    (set (l .scaled-radii) i (figures .«scaled_radius»))
+
+module _ (i : ℕ) (l : Minutes) where
+  -- whatever the entries are, there are as many
+  pub stored-entries : (number : ℕ) (temperature : Float) (s k : ℕ) (r : Float) {count : ℕ} → Entries count l
+      → Entries count (minutes (set (l .refusals) i number) (set (l .junctions) i temperature) (set (l .stages) i s) (set (l .passes) i k)
+      (set (l .scaled-radii) i r))
+  stored-entries number temperature s k r e =
+      record {
+        a-number-each = length-set (l .refusals) i number ∙ e .a-number-each;
+        a-junction-each = length-set (l .junctions) i temperature ∙ e .a-junction-each;
+        stages-each = length-set (l .stages) i s ∙ e .stages-each;
+        passes-each = length-set (l .passes) i k ∙ e .passes-each;
+        a-radius-each = length-set (l .scaled-radii) i r ∙ e .a-radius-each;
+      }
+
+  -- one minute more
+  first-longer : (number : ℕ) (temperature : Float) (figures : Figures) {k : ℕ} → Entries k l → i < k
+      → longer (first i l) number temperature figures ≡ first (i + 1) (stored i l number temperature figures)
+  unfolding longer
+  first-longer number temperature f {k} e h =
+      let ps = take i (l .passes) ++ (f .passes ∷ []) in
+      let rs = take i (l .scaled-radii) ++ (f .«scaled_radius» ∷ []) in
+      let js = take i (l .junctions) ++ (temperature ∷ []) in
+      let ss = take i (l .stages) ++ (f .stages ∷ []) in
+      let n = grown (l .refusals) i number (omega (arith, e .a-number-each)) in
+      let j = grown (l .junctions) i temperature (omega (arith, e .a-junction-each)) in
+      let s = grown (l .stages) i (f .stages) (omega (arith, e .stages-each)) in
+      let p = grown (l .passes) i (f .passes) (omega (arith, e .passes-each)) in
+      let r = grown (l .scaled-radii) i (f .«scaled_radius») (omega (arith, e .a-radius-each)) in
+      let all = first (i + 1) (stored i l number temperature f) in
+      ap (λ (x : List ℕ). minutes x js ss ps rs) n
+      ∙ ap (λ (x : List Float). minutes (all .refusals) x ss ps rs) j
+      ∙ ap (λ (x : List ℕ). minutes (all .refusals) (all .junctions) x ps rs) s
+      ∙ ap (λ (x : List ℕ). minutes (all .refusals) (all .junctions) (all .stages) x rs) p
+      ∙ ap (minutes (all .refusals) (all .junctions) (all .stages) (all .passes)) r
+
+  -- all of them
+  first-all : {k : ℕ} → Entries k l → k ≤ i → first i l ≡ l
+  first-all {k} e h =
+      let n = take-all i (l .refusals) (omega (arith, e .a-number-each)) in
+      let j = take-all i (l .junctions) (omega (arith, e .a-junction-each)) in
+      let s = take-all i (l .stages) (omega (arith, e .stages-each)) in
+      let p = take-all i (l .passes) (omega (arith, e .passes-each)) in
+      let r = take-all i (l .scaled-radii) (omega (arith, e .a-radius-each)) in
+      let f = first i l in
+      ap (λ (x : List ℕ). minutes x (f .junctions) (f .stages) (f .passes) (f .scaled-radii)) n
+      ∙ ap (λ (x : List Float). minutes (l .refusals) x (f .stages) (f .passes) (f .scaled-radii)) j
+      ∙ ap (λ (x : List ℕ). minutes (l .refusals) (l .junctions) x (f .passes) (f .scaled-radii)) s
+      ∙ ap (λ (x : List ℕ). minutes (l .refusals) (l .junctions) (l .stages) x (f .scaled-radii)) p
+      ∙ ap (minutes (l .refusals) (l .junctions) (l .stages) (l .passes)) r
+
+-- ---- the minutes
+
+-- a minute, of which the code has found the end, what is counted, the refusal, the junction temperature and the figures
+module _ (m : Inverter) (readings : List Float) (i : ℕ) (count : Count) (area : List Float) (lists : Minutes) (entries : Entries (length readings) lists) where
+  pub minute-turn : (end : Called) {count′ : Count} {number : ℕ} {temperature after : Float} {figures : Figures} → i < length readings
       → after ≡ upcoming (getD readings i nan) (drop (i + 1) readings)
       → end ≡ whole-minute m i (getD readings i nan) after (holding (count .«record») (count .counters) area)
-      → number ≡ refusal (end .answer) → temperature ≡ junction m (end .held .kept .phase) (end .held .area)
+      → number ≡ refusal (end .answer) → temperature ≡ junction m (end .held .kept .phase) (end .held .area) → figures ≡ told (end .answer)
       → count′ ≡ minute-counted m (end-of end) temperature count
-      → run m i (drop i readings) (so-far count area (take i refusals) (take i junctions))
-      ≡ run m (i + 1) (drop (i + 1) readings) (so-far count′ (end .held .area) (take (i + 1) (set refusals i number))
-      (take (i + 1) (set junctions i temperature)))
+      → run m i (drop i readings) (so-far count area (first i lists))
+      ≡ run m (i + 1) (drop (i + 1) readings) (so-far count′ (end .held .area) (first (i + 1) (stored i lists number temperature figures)))
   unfolding run with-minute
-  minute-turn end {count′} {number} {temperature} {after} h lr lj u e g j f =
-      let t = so-far count area (take i refusals) (take i junctions) in
+  minute-turn end {count′} {number} {temperature} {after} {figures} h u e g j w f =
+      let t = so-far count area (first i lists) in
       let rest = drop (i + 1) readings in
       let here = getD readings i nan in
+      let more = longer (first i lists) in
       ap (λ (xs : List Float). run m i xs t) (drop-cons readings i nan h)
       ∙ ap (λ (k : ℕ). run m (i + 1) (drop k readings) (with-minute m (whole-minute m i here (upcoming here (drop k readings)) (held t)) t)) (sym (add-one i))
       ∙ ap (λ (x : Float). run m (i + 1) rest (with-minute m (whole-minute m i here x (held t)) t)) (sym u)
       ∙ ap (λ (c : Called). run m (i + 1) rest (with-minute m c t)) (sym e)
-      ∙ ap (λ (x : Float). run m (i + 1) rest (so-far (minute-counted m (end-of end) x count) (end .held .area) (take i refusals
-      ++ (refusal (end .answer) ∷ []))
-      (take i junctions ++ (x ∷ [])))) (sym j)
-      ∙ ap (λ (c : Count). run m (i + 1) rest (so-far c (end .held .area) (take i refusals ++ (refusal (end .answer) ∷ [])) (take i junctions
-      ++ (temperature ∷ [])))) (sym f)
-      ∙ ap (λ (k : ℕ). run m (i + 1) rest (so-far count′ (end .held .area) (take i refusals ++ (k ∷ [])) (take i junctions ++ (temperature ∷ [])))) (sym g)
-      ∙ ap (λ (r : List ℕ). run m (i + 1) rest (so-far count′ (end .held .area) r (take i junctions ++ (temperature ∷ []))))
-      (grown refusals i number (omega arith))
-      ∙ ap (λ (r : List Float). run m (i + 1) rest (so-far count′ (end .held .area) (take (i + 1) (set refusals i number)) r))
-      (grown junctions i temperature (omega arith))
+      ∙ ap (λ (x : Float). run m (i + 1) rest (so-far (minute-counted m (end-of end) x count) (end .held .area) (more (refusal (end .answer)) x
+      (told (end .answer))))) (sym j)
+      ∙ ap (λ (c : Count). run m (i + 1) rest (so-far c (end .held .area) (more (refusal (end .answer)) temperature (told (end .answer))))) (sym f)
+      ∙ ap (λ (k : ℕ). run m (i + 1) rest (so-far count′ (end .held .area) (more k temperature (told (end .answer))))) (sym g)
+      ∙ ap (λ (x : Figures). run m (i + 1) rest (so-far count′ (end .held .area) (more number temperature x))) (sym w)
+      ∙ ap (λ (l : Minutes). run m (i + 1) rest (so-far count′ (end .held .area) l)) (first-longer i lists number temperature figures entries h)
 
   -- after the last minute
-  pub minutes-end : length readings ≤ i → length refusals ≡ length readings → length junctions ≡ length readings
-      → run m i (drop i readings) (so-far count area (take i refusals) (take i junctions)) ≡ so-far count area refusals junctions
+  pub minutes-end : length readings ≤ i → run m i (drop i readings) (so-far count area (first i lists)) ≡ so-far count area lists
   unfolding run
-  minutes-end h lr lj =
-      ap (λ (xs : List Float). run m i xs (so-far count area (take i refusals) (take i junctions))) (drop-of-length-le readings h)
-      ∙ ap (λ (r : List ℕ). so-far count area r (take i junctions)) (take-all i refusals (omega arith))
-      ∙ ap (so-far count area refusals) (take-all i junctions (omega arith))
+  minutes-end h =
+      ap (λ (xs : List Float). run m i xs (so-far count area (first i lists))) (drop-of-length-le readings h)
+      ∙ ap (so-far count area) (first-all i lists entries h)
 
 -- the report of a text that is a day, and of one that is none
-module _ (text before : List ℕ) (junctions : List Float) where
-  pub reports-day : {m : Inverter} {readings : List Float} {r : Total} {left : List ℕ} {temperatures : List Float} → Text.parsed text ≡ Text.Day m readings
-      → Gives-total (run m 0 readings (outset (first-area m))) r left temperatures → Reports (day text before junctions) (Day r) left temperatures
+module _ (text : List ℕ) (before : Minutes) where
+  pub reports-day : {m : Inverter} {readings : List Float} {r : Total} {left : Minutes} → Text.parsed text ≡ Text.Day m readings
+      → Gives-total (run m 0 readings (outset (first-area m))) r left → Reports (day text before) (Day r) left
   unfolding day reported
-  reports-day e t = rw e (record { results = ap Day (t .totals); numbers = t .numbers; temperatures = t .temperatures })
+  reports-day e t = rw e (record { results = ap Day (t .totals); lists = t .lists })
 
-  pub reports-bad : {line : ℕ} → Text.parsed text ≡ Text.Bad-at line → Reports (day text before junctions) (Malformed line) before junctions
+  pub reports-bad : {line : ℕ} → Text.parsed text ≡ Text.Bad-at line → Reports (day text before) (Malformed line) before
   unfolding day reported
-  reports-bad e = rw e (record { results = refl; numbers = refl; temperatures = refl })
+  reports-bad e = rw e (record { results = refl; lists = refl })

@@ -5,7 +5,7 @@ use mathlib.Core.Bool.{Bool, true, false, cond, not, _&&_}
 use mathlib.Core.List.{List, [], _∷_, _++_}
 use mathlib.Core.Path.{_≡_}
 use lib.Dec.{eqb}
-use lib.ListN.{getD, replicate}
+use lib.ListN.{length, getD, replicate}
 use lib.Ieee.{Float, nan, lt}
 use lib.Ieee.Scale.{finite}
 use Rattle.ieee.specs.Double.{_⊘_, double, nought, one}
@@ -13,11 +13,12 @@ use Rattle.workspace.specs.declared.Arguments.{Arguments}
 use Rattle.family.specs.Family.{family-of, most-stages}
 use Rattle.workspace.specs.Vectors.{Vectors, _with_≔_, number, named, vector-count, pack, state, candidate, unpack}
 use Rattle.driver.specs.declared.Phase.{Phase}
+use Rattle.driver.specs.declared.Figures.{Figures}
 use Rattle.driver.specs.declared.Answer.{Answer}
 use Rattle.driver.specs.declared.Answer.the-variants.{Evaluate, Finished, Ready, Refused, Empty}
 use Rattle.driver.specs.declared.Counters.{Counters}
 use Rattle.driver.specs.declared.Replied.{Replied}
-use Rattle.driver.specs.Calls.{Held, Called, may-accept, start, attempt, reply, accept}
+use Rattle.driver.specs.Calls.{Held, Called, may-accept, no-figures, start, attempt, reply, accept}
 use Rattle.driver.specs.Promises.{new-record, holding}
 use Rattle.heat_sink.specs.declared.Inverter.{Inverter}
 use Rattle.inverter.specs.declared.Count.{Count}
@@ -108,6 +109,14 @@ refusal (Finished figures) = 0
 refusal Ready = 0
 refusal Empty = 0
 
+-- what a minute's last answer tells of its attempt: the figures of a finished one, and of any other 0 for each
+unfoldable pub told : Answer → Figures
+told (Finished figures) = figures
+told (Evaluate time vector) = no-figures
+told Ready = no-figures
+told (Refused number) = no-figures
+told Empty = no-figures
+
 abbrev pub one-if : Bool → ℕ
 one-if b = cond b 1 0
 
@@ -120,15 +129,41 @@ minute-counted m end temperature t = record {
   refused = t .refused + one-if (not (eqb (refusal (end .answer)) 0));
 }
 
--- what the minutes so far come to, the area as it stands, and the refusal and the junction of each
+-- what a day tells of its minutes, in five lists: the number that a minute was refused with (0 for none), its junction at the end, and s, k and r of its
+-- finished attempt (0 for none)
+pub record Minutes : Type 0 where
+  pub refusals : List ℕ
+  pub junctions : List Float
+  pub stages : List ℕ
+  pub passes : List ℕ
+  pub scaled-radii : List Float
+
+abbrev pub minutes : List ℕ → List Float → List ℕ → List ℕ → List Float → Minutes
+minutes refusals junctions stages passes scaled-radii =
+    record { refusals = refusals; junctions = junctions; stages = stages; passes = passes; scaled-radii = scaled-radii }
+
+-- each of the lists has so many entries
+pub record Entries (count : ℕ) (lists : Minutes) : Type 0 where
+  pub a-number-each : length (lists .refusals) ≡ count
+  pub a-junction-each : length (lists .junctions) ≡ count
+  pub stages-each : length (lists .stages) ≡ count
+  pub passes-each : length (lists .passes) ≡ count
+  pub a-radius-each : length (lists .scaled-radii) ≡ count
+
+-- one minute more: its number, its junction and its figures
+unfoldable pub longer : Minutes → ℕ → Float → Figures → Minutes
+longer lists number temperature figures =
+    minutes (lists .refusals ++ (number ∷ [])) (lists .junctions ++ (temperature ∷ [])) (lists .stages ++ (figures .stages ∷ []))
+    (lists .passes ++ (figures .passes ∷ [])) (lists .scaled-radii ++ (figures .«scaled_radius» ∷ []))
+
+-- what the minutes so far come to, the area as it stands, and what is told of each
 pub record So-far : Type 0 where
   pub count : Count
   pub area : List Float
-  pub refusals : List ℕ
-  pub junctions : List Float
+  pub lists : Minutes
 
-abbrev pub so-far : Count → List Float → List ℕ → List Float → So-far
-so-far count area refusals junctions = record { count = count; area = area; refusals = refusals; junctions = junctions }
+abbrev pub so-far : Count → List Float → Minutes → So-far
+so-far count area lists = record { count = count; area = area; lists = lists }
 
 abbrev pub held : So-far → Held
 held t = holding (t .count .«record») (t .count .counters) (t .area)
@@ -138,7 +173,7 @@ end-of c = record { answer = c .answer; «record» = c .held .kept; counters = c
 
 unfoldable pub with-minute : Inverter → Called → So-far → So-far
 with-minute m c t = let temperature = junction m (c .held .kept .phase) (c .held .area) in
-    so-far (minute-counted m (end-of c) temperature (t .count)) (c .held .area) (t .refusals ++ (refusal (c .answer) ∷ [])) (t .junctions ++ (temperature ∷ []))
+    so-far (minute-counted m (end-of c) temperature (t .count)) (c .held .area) (longer (t .lists) (refusal (c .answer)) temperature (told (c .answer)))
 
 unfoldable pub run : Inverter → ℕ → List Float → So-far → So-far
 run m minute [] t = t
@@ -150,7 +185,7 @@ no-count = let none : Counters = record { evaluations = 0; «finished_attempts»
     record { «record» = new-record; counters = none; above = 0; refused = 0 }
 
 abbrev pub outset : List Float → So-far
-outset area = so-far no-count area [] []
+outset area = so-far no-count area (minutes [] [] [] [] [])
 
 -- how many doubles the area has, and room for it whatever the family and n: at most 12 vectors of at most 512
 abbrev pub area-size : Inverter → ℕ
@@ -178,33 +213,32 @@ total-of t = record {
 abbrev pub total : So-far → Total
 total t = total-of (t .count)
 
--- the result, and what the two lists, of refusals and of junction temperatures, are left as
+-- the result, and what the lists are left as
 pub record Report : Type 0 where
   pub result : DayResult
-  pub refusals : List ℕ
-  pub junctions : List Float
+  pub lists : Minutes
 
-unfoldable pub reported : Text.Parsed → List ℕ → List Float → Report
-reported (Text.Day m readings) refusals junctions = let t = run m 0 readings (outset (first-area m)) in
-    record { result = Day (total t); refusals = t .refusals; junctions = t .junctions }
-reported (Text.Bad-at line) refusals junctions = record { result = Malformed line; refusals = refusals; junctions = junctions }
+-- a text that is no day leaves the lists as they were before
+unfoldable pub reported : Text.Parsed → Minutes → Report
+reported (Text.Day m readings) before = let t = run m 0 readings (outset (first-area m)) in
+    record { result = Day (total t); lists = t .lists }
+reported (Text.Bad-at line) before = record { result = Malformed line; lists = before }
 
 -- the report of a text
-unfoldable pub day : List ℕ → List ℕ → List Float → Report
-day text refusals junctions = reported (Text.parsed text) refusals junctions
+unfoldable pub day : List ℕ → Minutes → Report
+day text before = reported (Text.parsed text) before
 
-pub record Reports (promised : Report) (given : DayResult) (refusals : List ℕ) (junctions : List Float) : Type 0 where
+-- the result that the code gives and the five lists that it leaves are those of the report
+pub record Reports (promised : Report) (given : DayResult) (left : Minutes) : Type 0 where
   pub results : given ≡ promised .result
-  pub numbers : refusals ≡ promised .refusals
-  pub temperatures : junctions ≡ promised .junctions
+  pub lists : left ≡ promised .lists
 
 -- ---- the code's values
 
--- the total and the lists that the code leaves
-pub record Gives-total (t : So-far) (r : Total) (refusals : List ℕ) (junctions : List Float) : Type 0 where
-  pub totals : r ≡ total t
-  pub numbers : refusals ≡ t .refusals
-  pub temperatures : junctions ≡ t .junctions
+-- the total that the code gives and the five lists that it leaves
+pub record Gives-total (t : So-far) (given : Total) (left : Minutes) : Type 0 where
+  pub totals : given ≡ total t
+  pub lists : left ≡ t .lists
 
 -- what a call of the code hands back, with the area it leaves
 abbrev pub given : Replied → List Float → Called

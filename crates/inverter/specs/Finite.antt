@@ -2,19 +2,19 @@
 -- leaves the engine as its other minutes alone do.
 use Prim.Native.Nat.{ℕ, _+_}
 use mathlib.Core.Bool.{cond}
-use mathlib.Core.List.{List, [], _∷_, _++_}
+use mathlib.Core.List.{List, [], _∷_}
 use lib.Ieee.{Float}
 use lib.Ieee.Scale.{finite}
-use Rattle.driver.specs.Calls.{Held, Called}
+use Rattle.driver.specs.Calls.{Held, Called, no-figures}
 use Rattle.heat_sink.specs.declared.Inverter.{Inverter}
 use Rattle.inverter.specs.declared.Count.{Count}
-use Rattle.inverter.specs.Day.{So-far, so-far, junction, is-above, one-if, passed}
+use Rattle.inverter.specs.Day.{So-far, so-far, longer, junction, is-above, one-if, passed}
 
--- one minute more, refused with 9: record, counters, area and the minutes above stand, and its junction is the one at hand
+-- one minute more, refused with 9: record, counters, area and the minutes above stand, its junction is the one at hand, and it tells no attempt
 unfoldable pub kept-out : Inverter → So-far → So-far
 kept-out m t =
     let count : Count = record { «record» = t .count .«record»; counters = t .count .counters; above = t .count .above; refused = t .count .refused + 1 } in
-    so-far count (t .area) (t .refusals ++ (9 ∷ [])) (t .junctions ++ (junction m (t .count .«record» .phase) (t .area) ∷ []))
+    so-far count (t .area) (longer (t .lists) 9 (junction m (t .count .«record» .phase) (t .area)) no-figures)
 
 -- a minute that enters the engine, and its reading
 pub record Entering : Type 0 where

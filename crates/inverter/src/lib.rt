@@ -53,13 +53,20 @@ fn no_readings() -> [f64; 1440] {
 }
 
 // The minutes of a day on an area of its own, which has room for 512 temperatures.
-fn total_of(m: Inverter, readings: &[f64], refusals: &mut [u64], junctions: &mut [f64]) -> Total
+fn total_of(
+    m: Inverter,
+    readings: &[f64],
+    refusals: &mut [u64],
+    junctions: &mut [f64],
+    stages: &mut [u64],
+    passes: &mut [u64],
+    scaled_radii: &mut [f64],
+) -> Total
     requires { ⌜ (1 ≤ m .n) × (m .n ≤ 512) ⌝ }
     requires { ⌜ length (now readings) ≤ 1440 ⌝ }
-    requires { ⌜ length (now refusals) ≡ length (now readings) ⌝ }
-    requires { ⌜ length (now junctions) ≡ length (now readings) ⌝ }
-    ensures { λ r. ⌜ spec.Gives-total (spec.run m 0 (now (readings .entry)) (spec.outset (spec.first-area m))) r (now (refusals .exit))
-        (now (junctions .exit)) ⌝ }
+    requires { ⌜ spec.Entries (length (now readings)) (spec.minutes (now refusals) (now junctions) (now stages) (now passes) (now «scaled_radii»)) ⌝ }
+    ensures { λ r. ⌜ spec.Gives-total (spec.run m 0 (now (readings .entry)) (spec.outset (spec.first-area m))) r
+        (spec.minutes (now (refusals .exit)) (now (junctions .exit)) (now (stages .exit)) (now (passes .exit)) (now («scaled_radii» .exit))) ⌝ }
 {
     let mut area = zeros();
     let mut scratch = blank();
@@ -72,19 +79,40 @@ fn total_of(m: Inverter, readings: &[f64], refusals: &mut [u64], junctions: &mut
         &mut scratch[..n],
         refusals,
         junctions,
+        stages,
+        passes,
+        scaled_radii,
     )
 }
 
 // From the text of a day to its total: the hours above the rated junction temperature. Of each minute, the number that it
-// was refused with (0 for none) and the junction temperature at its end. A text that is no day leaves these as they were.
-pub fn day(text: &[u8], refusals: &mut [u64; 1440], junctions: &mut [f64; 1440]) -> DayResult
-    ensures { λ r. ⌜ spec.Reports (spec.day (now (text .entry)) (now (refusals .entry)) (now (junctions .entry))) r (now (refusals .exit))
-        (now (junctions .exit)) ⌝ }
+// was refused with (0 for none), the junction temperature at its end, and s, k and r of its attempt (0 where that is not
+// finished). A text that is no day leaves these as they were.
+pub fn day(
+    text: &[u8],
+    refusals: &mut [u64; 1440],
+    junctions: &mut [f64; 1440],
+    stages: &mut [u64; 1440],
+    passes: &mut [u64; 1440],
+    scaled_radii: &mut [f64; 1440],
+) -> DayResult
+    ensures { λ r. ⌜ spec.Reports
+        (spec.day (now (text .entry)) (spec.minutes (now (refusals .entry)) (now (junctions .entry)) (now (stages .entry)) (now (passes .entry))
+        (now («scaled_radii» .entry)))) r
+        (spec.minutes (now (refusals .exit)) (now (junctions .exit)) (now (stages .exit)) (now (passes .exit)) (now («scaled_radii» .exit))) ⌝ }
 {
     let mut readings = no_readings();
     match sheet::read(text, &mut readings) {
         Sheet::Whole { inverter } => DayResult::Day {
-            total: total_of(inverter, &readings, refusals, junctions),
+            total: total_of(
+                inverter,
+                &readings,
+                refusals,
+                junctions,
+                stages,
+                passes,
+                scaled_radii,
+            ),
         },
         Sheet::Broken { line } => DayResult::Malformed { line },
     }

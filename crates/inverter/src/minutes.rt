@@ -4,12 +4,14 @@ ghost use Prim.Native.Nat.{_+_, _*_, _≤_, _<_};
 ghost use lib.Ieee.{nan};
 ghost use lib.ListN.{length, replicate, getD, drop};
 ghost use Rattle.ieee.specs.Double.{nought};
+ghost use Rattle.driver.specs.Calls.{no-figures};
 ghost use Rattle.inverter.specs.Day as spec;
 use crate::Count;
 use crate::Total;
 use crate::minute;
 use driver::Answer;
 use driver::Counters;
+use driver::Figures;
 use driver::Phase;
 use driver::Replied;
 use heat_sink::Inverter;
@@ -36,6 +38,30 @@ fn finished(answer: Answer) -> bool
         Answer::Ready => false,
         Answer::Refused(_) => false,
         Answer::Empty => false,
+    }
+}
+
+fn no_figures() -> Figures
+    ensures { λ r. ⌜ r ≡ no-figures ⌝ }
+{
+    Figures {
+        norm: 0.0,
+        stages: 0,
+        passes: 0,
+        scaled_radius: 0.0,
+    }
+}
+
+// What a finished answer tells of its attempt, 0 for each where the answer is another.
+fn told(answer: Answer) -> Figures
+    ensures { λ r. ⌜ r ≡ spec.told answer ⌝ }
+{
+    match answer {
+        Answer::Finished(figures) => figures,
+        Answer::Evaluate { time: _, vector: _ } => no_figures(),
+        Answer::Ready => no_figures(),
+        Answer::Refused(_) => no_figures(),
+        Answer::Empty => no_figures(),
     }
 }
 
@@ -132,15 +158,17 @@ fn run(
     scratch: &mut [f64],
     refusals: &mut [u64],
     junctions: &mut [f64],
+    stages: &mut [u64],
+    passes: &mut [u64],
+    scaled_radii: &mut [f64],
 ) -> Total
     requires { ⌜ 1 ≤ m .n ⌝ }
     requires { ⌜ 11 * m .n ≤ length (now area) ⌝ }
     requires { ⌜ length (now scratch) ≡ m .n ⌝ }
     requires { ⌜ length (now readings) ≤ 1440 ⌝ }
-    requires { ⌜ length (now refusals) ≡ length (now readings) ⌝ }
-    requires { ⌜ length (now junctions) ≡ length (now readings) ⌝ }
-    ensures { λ r. ⌜ spec.Gives-total (spec.run m 0 (now (readings .entry)) (spec.outset (now (area .entry)))) r (now (refusals .exit))
-        (now (junctions .exit)) ⌝ }
+    requires { ⌜ spec.Entries (length (now readings)) (spec.minutes (now refusals) (now junctions) (now stages) (now passes) (now «scaled_radii»)) ⌝ }
+    ensures { λ r. ⌜ spec.Gives-total (spec.run m 0 (now (readings .entry)) (spec.outset (now (area .entry)))) r
+        (spec.minutes (now (refusals .exit)) (now (junctions .exit)) (now (stages .exit)) (now (passes .exit)) (now («scaled_radii» .exit))) ⌝ }
 {
     let mut count = outset();
     let mut i = 0;
@@ -162,8 +190,12 @@ fn run(
         let kept = end.record;
         let phase = kept.phase;
         let temperature = junction(m, phase, area);
+        let figures = told(answer);
         refusals[i] = refusal(answer);
         junctions[i] = temperature;
+        stages[i] = figures.stages;
+        passes[i] = figures.passes;
+        scaled_radii[i] = figures.scaled_radius;
         count = minute_counted(m, end, temperature, count);
         i += 1;
     }
@@ -178,16 +210,28 @@ pub fn from_rest(
     scratch: &mut [f64],
     refusals: &mut [u64],
     junctions: &mut [f64],
+    stages: &mut [u64],
+    passes: &mut [u64],
+    scaled_radii: &mut [f64],
 ) -> Total
     requires { ⌜ 1 ≤ m .n ⌝ }
     requires { ⌜ now area ≡ replicate (spec.area-size m) nought ⌝ }
     requires { ⌜ length (now scratch) ≡ m .n ⌝ }
     requires { ⌜ length (now readings) ≤ 1440 ⌝ }
-    requires { ⌜ length (now refusals) ≡ length (now readings) ⌝ }
-    requires { ⌜ length (now junctions) ≡ length (now readings) ⌝ }
-    ensures { λ r. ⌜ spec.Gives-total (spec.run m 0 (now (readings .entry)) (spec.outset (spec.first-area m))) r (now (refusals .exit))
-        (now (junctions .exit)) ⌝ }
+    requires { ⌜ spec.Entries (length (now readings)) (spec.minutes (now refusals) (now junctions) (now stages) (now passes) (now «scaled_radii»)) ⌝ }
+    ensures { λ r. ⌜ spec.Gives-total (spec.run m 0 (now (readings .entry)) (spec.outset (spec.first-area m))) r
+        (spec.minutes (now (refusals .exit)) (now (junctions .exit)) (now (stages .exit)) (now (passes .exit)) (now («scaled_radii» .exit))) ⌝ }
 {
     workspace::fill_vector(area, m.n, workspace::STATE, m.initial);
-    run(m, readings, area, scratch, refusals, junctions)
+    run(
+        m,
+        readings,
+        area,
+        scratch,
+        refusals,
+        junctions,
+        stages,
+        passes,
+        scaled_radii,
+    )
 }

@@ -7,11 +7,12 @@ use lib.Ieee.{Float, nan}
 use Rattle.ieee.specs.Double.{nought}
 use Rattle.driver.specs.declared.Staging.{Staging}
 use Rattle.driver.specs.declared.Staged.the-variants.{On, OnByTheta, Ended, NotFinite}
-use Rattle.driver.specs.Calls.{no-figures, in-phase, at-stage}
+use Rattle.driver.specs.Answers.{case-number}
+use Rattle.driver.specs.Calls.{no-figures, figures-in, in-phase, at-stage}
 use Rattle.driver.specs.Promises.{outcome-of}
 use Rattle.lent.specs.declared.Answer.{Answer}
 use Rattle.lent.specs.Lent.{wholes-long, doubles-long, lent, left-with, staged-outcome}
-use Rattle.lent.specs.Numbers.{Answered, brought, meaning, written, told, in-numbers, stands, handed-back}
+use Rattle.lent.specs.Numbers.{Answered, brought, meaning, written, told, number-in, time-in, in-numbers, stands, handed-back}
 
 -- ---- a list by its elements
 
@@ -60,7 +61,7 @@ module _ (t : Float) (g : Staging) where
   Placed w x = left-with (asked 4 t) (wholes-on w) (doubles-on x) ≡ staged-outcome (lent w x) (On t g)
 
   placed-in-cells : (f : ℕ → ℕ) (h : ℕ → Float) → Placed (cells f wholes-long) (cells h doubles-long)
-  unfolding outcome-of handed-back stands in-numbers written at-stage meaning brought
+  unfolding outcome-of handed-back stands case-number number-in time-in figures-in written at-stage meaning brought
   placed-in-cells f h = refl
 
   pub placed : {a : Answer} → a ≡ asked 4 t → (w : List ℕ) (x : List Float) → length w ≡ wholes-long → length x ≡ doubles-long
@@ -80,7 +81,7 @@ module _ (t : Float) (j : ℕ) (theta : Float) where
   Moved w x = left-with (asked 4 t) (wholes-moved w) (doubles-moved x) ≡ staged-outcome (lent w x) (OnByTheta t j theta)
 
   moved-in-cells : (f : ℕ → ℕ) (h : ℕ → Float) → Moved (cells f wholes-long) (cells h doubles-long)
-  unfolding outcome-of handed-back stands in-numbers written at-stage meaning brought
+  unfolding outcome-of handed-back stands case-number number-in time-in figures-in written at-stage meaning brought
   moved-in-cells f h = refl
 
   pub moved : {a : Answer} → a ≡ asked 4 t → (w : List ℕ) (x : List Float) → length w ≡ wholes-long → length x ≡ doubles-long
@@ -91,7 +92,7 @@ module _ (t : Float) (j : ℕ) (theta : Float) where
 
 pub ended : (t : Float) {a : Answer} → a ≡ asked 10 t → (w : List ℕ) (x : List Float) → length w ≡ wholes-long
     → left-with a (set w 2 5) x ≡ staged-outcome (lent w x) (Ended t)
-unfolding outcome-of handed-back stands in-numbers written in-phase meaning brought
+unfolding outcome-of handed-back stands case-number number-in time-in figures-in written in-phase meaning brought
 ended t is w x e = answered (set w 2 5) x is (subst Ends (in-cells 0 w wholes-long e) (ends-in-cells (λ i. getD w i 0)))
   where
     Ends : List ℕ → Type 0
@@ -102,7 +103,7 @@ ended t is w x e = answered (set w 2 5) x is (subst Ends (in-cells 0 w wholes-lo
 
 pub emptied : {a : Answer} → a ≡ told 4 10 nought no-figures → (w : List ℕ) (x : List Float) → length w ≡ wholes-long
     → left-with a (set w 2 0) x ≡ staged-outcome (lent w x) NotFinite
-unfolding outcome-of handed-back stands in-numbers written in-phase meaning brought
+unfolding outcome-of handed-back stands case-number number-in time-in figures-in written in-phase meaning brought
 emptied is w x e = answered (set w 2 0) x is (subst Empties (in-cells 0 w wholes-long e) (empties-in-cells (λ i. getD w i 0)))
   where
     Empties : List ℕ → Type 0

@@ -1,34 +1,26 @@
--- The numbers of an answer tell it: its code is its case's number (`code-is`), and case and values are read back from the fields by their names (`read-back`).
+-- The fields of an answer in numbers tell its values: read by their names and by the code, which is the case's number, they are `case-values` (`values-are`).
 use mathlib.Core.Path.{_≡_, refl}
+use mathlib.Core.List.{[], _∷_}
 use Prim.Native.Nat.{ℕ, zero, suc}
 use Rattle.driver.specs.declared.Answer.{Answer as Case}
 use Rattle.driver.specs.declared.Answer.the-variants.{Evaluate, Finished, Ready, Refused, Empty}
-use Rattle.driver.specs.Answers.{case-number}
-use Rattle.driver.specs.Calls.{figures-of}
+use Rattle.driver.specs.Answers.{case-number, Values, values, case-values}
+use Rattle.driver.specs.Calls.{figures-in}
 use Rattle.lent.specs.declared.Answer.{Answer}
-use Rattle.lent.specs.Numbers.{in-numbers}
+use Rattle.lent.specs.Numbers.{number-in, time-in, in-numbers}
 
-pub code-is : (a : Case) → in-numbers a .code ≡ case-number a
-unfolding in-numbers case-number
-code-is (Evaluate t vector) = refl
-code-is (Finished figures) = refl
-code-is Ready = refl
-code-is (Refused number) = refl
-code-is Empty = refl
+unfoldable pub values-by : ℕ → Answer → Values
+values-by zero x = values [] []
+values-by (suc zero) x = values (x .time ∷ []) (x .number ∷ [])
+values-by (suc (suc zero)) x = values (x .norm ∷ x .«scaled_radius» ∷ []) (x .stages ∷ x .passes ∷ [])
+values-by (suc (suc (suc zero))) x = values [] []
+values-by (suc (suc (suc (suc zero)))) x = values [] (x .number ∷ [])
+values-by (suc (suc (suc (suc (suc k))))) x = values [] []
 
--- by the code
-unfoldable pub case-in : ℕ → Answer → Case
-case-in zero x = Empty
-case-in (suc zero) x = Evaluate (x .time) (x .number)
-case-in (suc (suc zero)) x = Finished (figures-of (x .norm) (x .stages) (x .passes) (x .«scaled_radius»))
-case-in (suc (suc (suc zero))) x = Ready
-case-in (suc (suc (suc (suc zero)))) x = Refused (x .number)
-case-in (suc (suc (suc (suc (suc k))))) x = Empty
-
-pub read-back : (a : Case) → case-in (in-numbers a .code) (in-numbers a) ≡ a
-unfolding in-numbers case-in
-read-back (Evaluate t vector) = refl
-read-back (Finished figures) = refl
-read-back Ready = refl
-read-back (Refused number) = refl
-read-back Empty = refl
+pub values-are : (a : Case) → values-by (in-numbers a .code) (in-numbers a) ≡ case-values a
+unfolding values-by case-number case-values number-in time-in figures-in
+values-are (Evaluate t vector) = refl
+values-are (Finished figures) = refl
+values-are Ready = refl
+values-are (Refused number) = refl
+values-are Empty = refl

@@ -14,7 +14,8 @@ use Rattle.driver.specs.declared.Record.{Record as Kept}
 use Rattle.driver.specs.declared.Figures.{Figures}
 use Rattle.driver.specs.declared.Answer.{Answer as Case}
 use Rattle.driver.specs.declared.Answer.the-variants.{Evaluate, Finished, Ready, Refused, Empty}
-use Rattle.driver.specs.Calls.{phase-number, no-figures}
+use Rattle.driver.specs.Answers.{case-number}
+use Rattle.driver.specs.Calls.{phase-number, figures-in}
 use Rattle.driver.specs.Numbers.{one-of, standing-numbers}
 use Rattle.lent.specs.declared.Answer.{Answer}
 
@@ -93,12 +94,22 @@ told code number t f = record {
 }
 
 -- what a case does not carry is 0
-unfoldable pub in-numbers : Case → Answer
-in-numbers (Evaluate t vector) = told 1 vector t no-figures
-in-numbers (Finished figures) = told 2 0 nought figures
-in-numbers Ready = told 3 0 nought no-figures
-in-numbers (Refused number) = told 4 number nought no-figures
-in-numbers Empty = told 5 0 nought no-figures
+unfoldable pub number-in : Case → ℕ
+number-in (Evaluate t vector) = vector
+number-in (Finished figures) = 0
+number-in Ready = 0
+number-in (Refused number) = number
+number-in Empty = 0
+
+unfoldable pub time-in : Case → Float
+time-in (Evaluate t vector) = t
+time-in (Finished figures) = nought
+time-in Ready = nought
+time-in (Refused number) = nought
+time-in Empty = nought
+
+abbrev pub in-numbers : Case → Answer
+in-numbers a = told (case-number a) (number-in a) (time-in a) (figures-in a)
 
 -- turned away with a number at which everything stands: the record stands, whatever its numbers
 unfoldable pub stands : Answer → Bool

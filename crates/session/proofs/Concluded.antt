@@ -1,6 +1,7 @@
 -- The theorems over sequences: in any calls from a start that is taken, an answer "finished" is that of an attempt that was taken, by the s + k-th reply
--- since, with k from 1 to 12 and s the stage count of r, over the s, k and r that it tells (`concluded`); and a stage's record carries what the recurrence comes to (`carries`). By an invariant over the
--- calls, one after another (Latest, Trails), and the laws of family and coefficients.
+-- since, with k from 1 to 12 and s the stage count of r, over the s, k and r that it tells (`concluded`); while an attempt is under way the record holds s, k
+-- and r as `Under-way` says (`under-way`); and a stage's record carries what the recurrence comes to (`carries`). By an invariant over the calls, one after
+-- another (Latest, Trails), and the laws of family and coefficients.
 use mathlib.Core.Path.{_≡_, refl, sym, ap, _∙_, subst}
 use mathlib.Core.Bool.{true, false}
 use mathlib.Core.List.{List, [], _∷_, _++_, append-assoc, append-nil}
@@ -30,12 +31,12 @@ use Rattle.driver.specs.declared.Phase.the-variants as P
 use Rattle.driver.specs.declared.Figures.{Figures}
 use Rattle.driver.specs.declared.Answer.the-variants.{Finished}
 use Rattle.driver.specs.Answers.{case-number}
-use Rattle.driver.specs.Calls.{Held, Called, first-at, figures-in, start, Call, Start, made, taken}
+use Rattle.driver.specs.Calls.{Held, Called, first-at, figures-after, figures-in, start, Call, Start, made, taken}
 use Rattle.session.specs.Session.{held-after}
 use Rattle.session.specs.Concluded.{found, stages-of, scaled-radius-of, Demand-three, Concluded, Under-way, Carries}
 use Rattle.session.proofs.Truth.{differ}
 use Rattle.session.proofs.Later.{held-append}
-use Rattle.session.proofs.Outcomes.{figures-after, Outcome, away, starts, outcome}
+use Rattle.session.proofs.Outcomes.{Outcome, away, starts, outcome}
 use Rattle.session.proofs.Underway.{active, In-stages, Position, Left-finished, leaves-finished}
 use Rattle.session.proofs.Latest.{Started, starts-now, started-on}
 use Rattle.session.proofs.Trails.{cases-at, Trail, trail-on}
@@ -80,7 +81,7 @@ demanded g r s positive e =
       stable = stable g s permits;
     }
 
--- the figures of such an answer, by what it left
+-- the figures of such an answer, by what it left in record and area
 abbrev figures-left : Held → Figures
 figures-left x = figures-after (x .kept) (unpack (x .kept .n) (x .area))
 
@@ -106,15 +107,17 @@ concludes h calls x s t z =
       replies-are = (let e = p .replies-are in omega arith);
       answers-are = t .answers-are ∙ ap (λ (φ : Phase). cases-at φ m) (z .phase-is);
       norm-is = rw (s .family-is, s .n-is, t .underway .arguments-are) refl;
-      one-pass = p .suits .one-pass;
-      twelve-passes = p .suits .twelve-passes;
+      suits = record {
+        one-pass = p .suits .one-pass;
+        twelve-passes = p .suits .twelve-passes;
+        not-negative = p .suits .not-negative;
+        stages-are = stages;
+      };
       evaluations-are = (let e = t .underway .evaluations-are in let e′ = p .replies-are in omega arith);
       attempts-are = p .attempts-are;
-      stages-are = stages;
-      not-negative = p .suits .not-negative;
       largest-at-infinity = λ e. stages ∙ ap (stage-count f) e ∙ infinite-count f;
       demand-three = λ g is. demanded g r (stages-of (x .held)) (p .suits .not-negative) (stages ∙ ap (λ (f : Family). stage-count f r) is);
-      record-holds = record { stages-kept = refl; passes-kept = refl; radius-kept = refl };
+      record-holds = record { stages-held = refl; passes-held = refl; radius-held = refl };
     }
 
 -- From any record, area and counters: a start that is taken, then any calls at all. Whenever the next call is answered "finished" with figures, `Concluded`
@@ -138,7 +141,8 @@ pub under-way : (h : Held) (f n : ℕ) (y : List Float) (t : Float) (cs : List C
     → Under-way (held-after h (Start f n y t ∷ cs))
 unfolding active
 under-way h f n y t cs q = record {
-  pass-awaited = λ e. let is = at P.Pass refl e .2 .pass-is in omega arith;
+  pass-from-one = λ e. let is = at P.Pass refl e .2 .pass-is in omega arith;
+  pass-to-twelve = λ e. at P.Pass refl e .2 .to-twelve;
   no-radius-yet = λ e. at P.Pass refl e .2 .no-radius-yet;
   own-in-stages = λ e. at P.Stage refl e .2 .suits;
   own-at-candidate = λ e. at P.Candidate refl e .2 .suits;

@@ -7,7 +7,7 @@ use Prim.Native.Nat.{ℕ}
 use Rattle.driver.specs.Answers.{case-number}
 use Rattle.driver.specs.Calls.{Held, Called, Call, made, taken}
 use Rattle.session.specs.Session.{taken-of, held-after}
-use Rattle.session.specs.Concluded.{Taken-among, found, taken-since, cases-of, cases-since, is-start, no-start}
+use Rattle.session.specs.Concluded.{Taken-among, found, taken-since, cases-of, cases-since, none-is}
 
 -- ---- two lists, one after the other
 
@@ -37,12 +37,12 @@ cases-append h (c ∷ cs) ds =
     ap (λ (rest : List ℕ). cond t (k ∷ rest) rest) (cases-append (made h c .held) cs ds)
     ∙ cond-append t k (cases-of (made h c .held) cs) (cases-of (held-after (made h c .held) cs) ds)
 
-pub no-start-append : (cs ds : List Call) → no-start (cs ++ ds) ≡ no-start cs && no-start ds
-unfolding no-start
-no-start-append [] ds = refl
-no-start-append (c ∷ cs) ds = go (not (is-start c)) (no-start-append cs ds)
+pub none-append : (kind : Call → Bool) (cs ds : List Call) → none-is kind (cs ++ ds) ≡ none-is kind cs && none-is kind ds
+unfolding none-is
+none-append kind [] ds = refl
+none-append kind (c ∷ cs) ds = go (not (kind c)) (none-append kind cs ds)
   where
-    go : (t : Bool) → no-start (cs ++ ds) ≡ no-start cs && no-start ds → t && no-start (cs ++ ds) ≡ t && no-start cs && no-start ds
+    go : (t : Bool) → none-is kind (cs ++ ds) ≡ none-is kind cs && none-is kind ds → t && none-is kind (cs ++ ds) ≡ t && none-is kind cs && none-is kind ds
     go true e = e
     go false e = refl
 

@@ -1,12 +1,12 @@
 -- What a call can come to, each way on a line of its own: the answer, and the record, counters and area it leaves. From the definition of the calls alone.
 -- ⊕ is an operation on doubles: it rounds.
-use mathlib.Core.Path.{_≡_, refl}
+use mathlib.Core.Path.{_≡_, refl, sym}
 use mathlib.Core.Bool.{Bool, true, false, cond, _&&_, _||_}
 use mathlib.Core.List.{List}
 use Prim.Native.Nat.{ℕ, _+_, _≤_, _<_}
 use native.Mathlib.Omega.{arith}
 use lib.Dec.{leb, ltb, eqb}
-use borrow.Author.Tests.{eqb-true, leb-true, ltb-true, ltb-false}
+use borrow.Author.Tests.{eqb-true, eqb-false, leb-true, ltb-true, ltb-false}
 use lib.ListN.{length}
 use lib.Ieee.{Float}
 use Rattle.family.specs.declared.Setting.{Setting}
@@ -17,16 +17,15 @@ use Rattle.coefficients.specs.declared.Recurrence.{Recurrence}
 use Rattle.coefficients.specs.Rows.{recurrence, coefficients, next}
 use Rattle.workspace.specs.declared.Arguments.{Arguments}
 use Rattle.workspace.specs.Vectors.{Vectors, number, unpack, pack, all-finite, state, candidate}
-use Rattle.workspace.specs.Kernel.{perturbation-of, turned, radius-of, ended, scaled, with-row, exchanged, with-candidate, with-last, error-norm}
+use Rattle.workspace.specs.Kernel.{perturbation-of, turned, radius-of, ended, scaled, with-row, exchanged, with-candidate, with-last}
 use Rattle.workspace.proofs.Areas.{long-last}
 use Rattle.driver.specs.declared.Phase.{Phase}
 use Rattle.driver.specs.declared.Phase.the-variants as P
 use Rattle.driver.specs.declared.Record.{Record}
 use Rattle.driver.specs.declared.Counters.{Counters}
-use Rattle.driver.specs.declared.Figures.{Figures}
 use Rattle.driver.specs.declared.Answer.{Answer}
 use Rattle.driver.specs.declared.Answer.the-variants.{Evaluate, Finished, Ready, Refused, Empty}
-use Rattle.driver.specs.Calls.{Held, Called, step-to, in-phase, first-at, at-pass, with-radius, at-stage, taken, setting-of, permits, figures-of}
+use Rattle.driver.specs.Calls.{Held, Called, step-to, in-phase, first-at, at-pass, with-radius, at-stage, taken, setting-of, permits, figures-after}
 use Rattle.driver.specs.Calls.{take-first, take-callback, ask-pass, ask-stage, by-need, begin-stages, take-pass, ask-candidate, take-stage, take-candidate}
 use Rattle.driver.specs.Calls.{replied, whole-area, as-long, pending, in-range, awaiting, good-stage, good-end, one-more, counted, spoiled, settled, going-on}
 use Rattle.driver.specs.Calls.{start, attempted, attempt, reply, accepted, accept, called-back, accept-with-callback, abandon, made}
@@ -34,6 +33,7 @@ use Rattle.driver.specs.Calls.{Test, guarded, start-tests, attempt-tests, reply
 use Rattle.driver.specs.Calls.{Call, Start, Attempt, Reply, Accept, Accept-with-callback, Abandon}
 use Rattle.driver.proofs.Ladder.{Passing, each-passes, by-tests}
 use Rattle.ieee.proofs.Logic.{and-left, and-right}
+use Rattle.session.proofs.Truth.{differ}
 use Rattle.session.proofs.Needs.{need-is}
 use Rattle.session.proofs.Lengths.{its-family, Long-in, long-area}
 use Rattle.session.proofs.Guards.{low, low-fails, not-taken}
@@ -55,11 +55,10 @@ first-after r w = recurrence (setting-of r) (count-after r w)
 abbrev pub carried-on : ℕ → ℕ → ℕ → Recurrence → Recurrence
 carried-on f s j c = next (setting f) c (coefficients (setting f) s j c)
 
--- what a finished attempt that left the vectors w tells
-abbrev pub figures-after : Record → Vectors → Figures
-figures-after r w = let s = r .staging .stages in
-    let i = r .iteration in
-    figures-of (error-norm (setting-of r) (r .n) s (r .arguments) w) s (i .pass) (i .«scaled_radius»)
+-- a pass that does not end the iteration is not the twelfth
+not-twelve : (t : Bool) (k : ℕ) → k ≤ 12 → t || eqb k 12 ≡ false → k < 12
+not-twelve true k l e = absurd (differ (sym e))
+not-twelve false k l e = let other = eqb-false k 12 e in omega (arith, l, other)
 
 -- an evaluation more, and a finished attempt
 abbrev pub one-more-each : Counters → Counters
@@ -86,7 +85,7 @@ module _ (h : Held) where
         → Outcome (Attempt a) (leaving (Evaluate t b) (at-pass a 1 (perturbation-of v) nought r) c area)
     spoils : {d : List Float} (i : ℕ) (area : List Float) → Outcome (Reply d) (leaving (Refused i) (in-phase P.Empty r) (one-more c) area)
     readies : {d : List Float} (area : List Float) → Outcome (Reply d) (leaving Ready (in-phase P.Ready r) (one-more c) area)
-    iterates : {d : List Float} (t radius : Float) (b : ℕ) (area : List Float) → r .phase ≡ P.Pass
+    iterates : {d : List Float} (t radius : Float) (b : ℕ) (area : List Float) → r .phase ≡ P.Pass → r .iteration .pass < 12
         → Outcome (Reply d) (leaving (Evaluate t b) (at-pass (r .arguments) (r .iteration .pass + 1) (r .iteration .perturbation) radius r) (one-more c) area)
     begins : {d : List Float} (w : Vectors) (t : Float) (b : ℕ) (area : List Float) → r .phase ≡ P.Pass → r .iteration .pass ≤ 12
         → Outcome (Reply d) (leaving (Evaluate t b) (at-stage (count-after r w) 2 (first-after r w) (with-radius (radius-after r w) r)) (one-more c) area)
@@ -115,11 +114,11 @@ module _ (h : Held) where
     abbrev again : Float → Record
     again radius = at-pass (r .arguments) (r .iteration .pass + 1) (r .iteration .perturbation) radius r
 
-    on-pass : (t : Bool) (w : Vectors) (radius : Float) → r .phase ≡ P.Pass → r .iteration .pass ≤ 12
+    on-pass : (t : Bool) (w : Vectors) (radius : Float) → r .phase ≡ P.Pass → r .iteration .pass ≤ 12 → (t ≡ false → r .iteration .pass < 12)
         → Comes (settled c (cond t (begin-stages r w (radius-after r w)) (ask-pass (again radius) w)))
     unfolding settled going-on counted begin-stages by-need ask-stage ask-pass at-pass
-    on-pass true w radius p twelve = rw (need-is (setting-of r) (radius-after r w)) (begins w _ _ _ p twelve)
-    on-pass false w radius p twelve = iterates _ radius _ _ p
+    on-pass true w radius p twelve below = rw (need-is (setting-of r) (radius-after r w)) (begins w _ _ _ p twelve)
+    on-pass false w radius p twelve below = iterates _ radius _ _ p (below refl)
 
     on-last-stage : (w : Vectors) → r .phase ≡ P.Stage → j ≡ s → Comes (settled c (ask-candidate r w))
     unfolding settled going-on counted ask-candidate
@@ -167,8 +166,9 @@ module _ (h : Held) where
     by-phase P.Pass v p good lv ld = let i = r .iteration in
         let w = turned (r .n) v d in
         let radius = radius-of (i .perturbation) w in
-        on-pass (ended (i .pass) (i .«previous_radius») radius || eqb (i .pass) 12) w radius p
-        (leb-true (i .pass) 12 (and-right (leb 1 (i .pass)) (leb (i .pass) 12) good))
+        let twelve = leb-true (i .pass) 12 (and-right (leb 1 (i .pass)) (leb (i .pass) 12) good) in
+        let t = ended (i .pass) (i .«previous_radius») radius in
+        on-pass (t || eqb (i .pass) 12) w radius p twelve (not-twelve t (i .pass) twelve)
     by-phase P.Stage v p good lv ld = on-stage v p good
     by-phase P.Candidate v p good lv ld = let f = setting-of r in
         finishes (with-last f (r .n) (r .arguments) v d) p good (long-last (its-family r) (r .n) f (r .arguments) v d lv ld)

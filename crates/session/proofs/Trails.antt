@@ -128,7 +128,7 @@ module _ (h : Held) (calls : List Call) where
   trail-on t (Attempt a) x is (attempts v s b area) on = attempts-now a x is (attempts v s b area) refl
   trail-on t c x is (spoils i area) on = absurd (differ on)
   trail-on t c x is (readies area) on = absurd (differ on)
-  trail-on t (Reply d) x is (iterates s radius b area p) on = from-phase P.Pass refl t p d x is (iterates s radius b area p) refl on
+  trail-on t (Reply d) x is (iterates s radius b area p below) on = from-phase P.Pass refl t p d x is (iterates s radius b area p below) refl on
   trail-on t (Reply d) x is (begins w s b area p twelve) on = from-phase P.Pass refl t p d x is (begins w s b area p twelve) refl on
   trail-on t (Reply d) x is (goes-on s b area p below) on = from-phase P.Stage refl t p d x is (goes-on s b area p below) refl on
   trail-on t (Reply d) x is (asks-candidate s b area p at) on = from-phase P.Stage refl t p d x is (asks-candidate s b area p at) refl on

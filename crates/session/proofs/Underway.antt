@@ -21,12 +21,13 @@ use Rattle.driver.specs.declared.Phase.{Phase}
 use Rattle.driver.specs.declared.Phase.the-variants as P
 use Rattle.driver.specs.declared.Answer.the-variants.{Finished}
 use Rattle.driver.specs.Answers.{case-number}
-use Rattle.driver.specs.Calls.{Held, Called, in-phase, first-at, at-pass, with-radius, at-stage, pending, good-end, Call, Attempt, Reply, taken, setting-of}
-use Rattle.session.specs.Concluded.{stages-of, passes-of, scaled-radius-of, Suits, is-start}
+use Rattle.driver.specs.Calls.{Held, Called, in-phase, first-at, at-pass, with-radius, at-stage, pending, figures-after, good-end, Call, Attempt, Reply, taken}
+use Rattle.driver.specs.Calls.{setting-of, is-start}
+use Rattle.session.specs.Concluded.{stages-of, passes-of, scaled-radius-of, Suits}
 use Rattle.session.proofs.Truth.{differ}
 use Rattle.session.proofs.Lengths.{its-family}
 use Rattle.session.proofs.Signs.{Plus, not-below, perturbation-plus, radius-plus, scaled-plus}
-use Rattle.session.proofs.Outcomes.{radius-after, carried-on, figures-after, Outcome, away, starts, attempts, spoils, readies}
+use Rattle.session.proofs.Outcomes.{radius-after, Outcome, away, starts, attempts, spoils, readies}
 use Rattle.session.proofs.Outcomes.{iterates, begins, goes-on, asks-candidate, finishes, accepts, calls-back, abandons}
 
 -- ---- the phases of an attempt
@@ -54,9 +55,10 @@ case-at P.Callback = 1
 
 -- Below, the attempt found g, its arguments are a, m replies are taken since, and x is what is held.
 
--- before they are known
+-- among the passes, before s and r are known
 pub record In-passes (g : Held) (m : ℕ) (x : Held) : Type 0 where
   pub pass-is : passes-of x ≡ m + 1
+  pub to-twelve : passes-of x ≤ 12
   pub no-radius-yet : scaled-radius-of x ≡ nought
   pub unsigned : Plus (x .kept .iteration .perturbation)
   pub attempts-are : x .counters .«finished_attempts» ≡ g .counters .«finished_attempts»
@@ -104,7 +106,7 @@ attempt-begins g a y (attempts v t b area) q = (
   record {
     arguments-are = refl;
     evaluations-are = omega arith;
-    position = record { pass-is = refl; no-radius-yet = refl; unsigned = perturbation-plus v; attempts-are = refl };
+    position = record { pass-is = refl; to-twelve = omega arith; no-radius-yet = refl; unsigned = perturbation-plus v; attempts-are = refl };
   },
   refl,
 )
@@ -118,11 +120,11 @@ module _ (g : Held) (a : Arguments) (m : ℕ) (x : Held) (u : Underway g a m x) 
   reply-goes d y (away i e) q on = absurd (differ (sym e ∙ q))
   reply-goes d y (spoils i area) q on = absurd (differ on)
   reply-goes d y (readies area) q on = absurd (differ on)
-  reply-goes d y (iterates t radius b area p) q on = let i = at-phase P.Pass p in record {
+  reply-goes d y (iterates t radius b area p below) q on = let i = at-phase P.Pass p in record {
     underway = record {
       arguments-are = u .arguments-are;
       evaluations-are = omega arith;
-      position = record { pass-is = omega arith; no-radius-yet = refl; unsigned = i .unsigned; attempts-are = i .attempts-are };
+      position = record { pass-is = omega arith; to-twelve = (let l = below in omega arith); no-radius-yet = refl; unsigned = i .unsigned; attempts-are = i .attempts-are };
     };
     answered = refl;
   }
@@ -206,7 +208,7 @@ stays x c y (starts area) other = absurd (differ (sym other))
 stays x c y (attempts v t b area) other = (refl, refl)
 stays x c y (spoils i area) other = (refl, refl)
 stays x c y (readies area) other = (refl, refl)
-stays x c y (iterates t radius b area p) other = (refl, refl)
+stays x c y (iterates t radius b area p below) other = (refl, refl)
 stays x c y (begins w t b area p twelve) other = (refl, refl)
 stays x c y (goes-on t b area p below) other = (refl, refl)
 stays x c y (asks-candidate t b area p at) other = (refl, refl)
@@ -218,7 +220,7 @@ stays x c y abandons other = (refl, refl)
 -- an answer "finished" leaves that phase, has the norm of the vectors left, and k and s of the record, in their ranges
 pub record Left-finished (x : Called) : Type 0 where
   pub phase-is : x .held .kept .phase ≡ P.Finished
-  pub in-range : good-end (setting-of (x .held .kept)) (passes-of (x .held)) (stages-of (x .held)) ≡ true
+  pub told-in-range : good-end (setting-of (x .held .kept)) (passes-of (x .held)) (stages-of (x .held)) ≡ true
   pub figures-are : x .answer ≡ Finished (figures-after (x .held .kept) (unpack (x .held .kept .n) (x .held .area)))
 
 pub leaves-finished : (x : Held) (c : Call) (y : Called) → Outcome x c y → case-number (y .answer) ≡ 2 → Left-finished y
@@ -228,13 +230,13 @@ leaves-finished x c y (starts area) two = absurd (omega arith)
 leaves-finished x c y (attempts v t b area) two = absurd (omega arith)
 leaves-finished x c y (spoils i area) two = absurd (omega arith)
 leaves-finished x c y (readies area) two = absurd (omega arith)
-leaves-finished x c y (iterates t radius b area p) two = absurd (omega arith)
+leaves-finished x c y (iterates t radius b area p below) two = absurd (omega arith)
 leaves-finished x c y (begins w t b area p twelve) two = absurd (omega arith)
 leaves-finished x c y (goes-on t b area p below) two = absurd (omega arith)
 leaves-finished x c y (asks-candidate t b area p at) two = absurd (omega arith)
 leaves-finished x c y (finishes w p good long) two = record {
   phase-is = refl;
-  in-range = good;
+  told-in-range = good;
   figures-are = ap (λ (v : Vectors). Finished (figures-after (x .kept) v)) (sym (unpack-pack (its-family (x .kept)) (x .kept .n) w long));
 }
 leaves-finished x c y (accepts area) two = absurd (omega arith)

@@ -1,5 +1,5 @@
 -- What an answer "finished" stands for, wherever it comes in a sequence of calls: the attempt, the replies since it, the counters, and the s, k and r that it
--- tells (`Concluded`), which the record keeps (`Kept`). And what the record carries wherever a stage awaits its derivative (`Carries`).
+-- tells (`Concluded`); which r that is, `every-sequence` says. And what the record carries wherever a stage awaits its derivative (`Carries`).
 -- Document 01: demand 2's domain is "every call that the last table does not turn away, in a sequence from a start that it does not turn away either";
 -- "The evaluations of one finished attempt are s + k, with k from 1 to 12, each one reply"; demand 3 "holds also of the s that a finished attempt ran, for
 -- its own r where that is finite". Document 02, CR 2: the finished answer carries "s, k and the scaled radius beside the norm, and the record keeps them until
@@ -31,7 +31,7 @@ use Rattle.workspace.specs.Kernel.{error-norm}
 use Rattle.driver.specs.declared.Phase.the-variants as P
 use Rattle.driver.specs.declared.Figures.{Figures}
 use Rattle.driver.specs.Answers.{case-number}
-use Rattle.driver.specs.Calls.{Held, setting-of, Call, Start, Attempt, Reply, Accept, Accept-with-callback, Abandon, made, is-attempt, taken}
+use Rattle.driver.specs.Calls.{Held, setting-of, Call, Start, Attempt, Reply, made, taken, is-start, Holds-figures}
 use Rattle.session.specs.Session.{taken-of, held-after}
 
 -- ---- one call of a list
@@ -60,19 +60,12 @@ cases-of h (c ∷ cs) = let rest = cases-of (made h c .held) cs in
 abbrev pub cases-since : {h : Held} {calls : List Call} {c : Call} → Taken-among h calls c → List ℕ
 cases-since {h} {c = c} m = cases-of (made (held-after h (m .before)) c .held) (m .since)
 
+-- no call of a list is of this kind
+unfoldable pub none-is : (Call → Bool) → List Call → Bool
+none-is kind [] = true
+none-is kind (c ∷ cs) = not (kind c) && none-is kind cs
+
 -- ---- the latest start that is taken
-
-unfoldable pub is-start : Call → Bool
-is-start (Start f n y t) = true
-is-start (Attempt a) = false
-is-start (Reply d) = false
-is-start Accept = false
-is-start (Accept-with-callback y t) = false
-is-start Abandon = false
-
-unfoldable pub no-start : List Call → Bool
-no-start [] = true
-no-start (c ∷ cs) = not (is-start c) && no-start cs
 
 pub record Latest-start (h : Held) (calls : List Call) : Type 0 where
   pub family : ℕ
@@ -80,7 +73,7 @@ pub record Latest-start (h : Held) (calls : List Call) : Type 0 where
   pub state : List Float
   pub time : Float
   pub among : Taken-among h calls (Start family n state time)
-  pub none-since : no-start (taken-since among) ≡ true
+  pub none-since : none-is is-start (taken-since among) ≡ true
 
 -- ---- the statement
 
@@ -108,12 +101,6 @@ pub record Demand-three (g : Orthogonal) (r : Float) (s : ℕ) : Type 0 where
   pub rows-close : (j : ℕ) → 2 ≤ j → j ≤ s → (c : Recurrence) → Close-row g s j (coefficients-of (made-of g) s j c)
   pub stable : Stable g s
 
--- the record holds s, k and r of a finished answer
-pub record Kept (told : Figures) (x : Held) : Type 0 where
-  pub stages-kept : stages-of x ≡ told .stages
-  pub passes-kept : passes-of x ≡ told .passes
-  pub radius-kept : scaled-radius-of x ≡ told .«scaled_radius»
-
 -- The last of these calls from h on is answered "finished", and told are its norm, s, k and r; x is what it leaves. An attempt was taken, and the calls taken
 -- since are s + k replies and no other call, answered by evaluations and at last by finished, with the norm of the vectors that are left.
 pub record Concluded (h : Held) (calls : List Call) (told : Figures) (x : Held) : Type 0 where
@@ -129,18 +116,15 @@ pub record Concluded (h : Held) (calls : List Call) (told : Figures) (x : Held) 
   pub replies-are : length replies ≡ told .stages + told .passes
   pub answers-are : cases-since attempt ≡ replicate (length replies - 1) 1 ++ 2 ∷ []
   pub norm-is : told .norm ≡ error-norm (setting (start .family)) (start .n) (told .stages) arguments (unpack (start .n) (x .area))
-  pub one-pass : 1 ≤ told .passes
-  pub twelve-passes : told .passes ≤ 12
+  pub suits : Suits (start .family) (told .passes) (told .stages) (told .«scaled_radius»)
   pub evaluations-are : x .counters .evaluations ≡ found attempt .counters .evaluations + (told .stages + told .passes)
   pub attempts-are : x .counters .«finished_attempts» ≡ found attempt .counters .«finished_attempts» + 1
-  pub stages-are : told .stages ≡ stage-count (family-of (start .family)) (told .«scaled_radius»)
-  pub not-negative : lt (told .«scaled_radius») nought ≡ false
   pub largest-at-infinity : told .«scaled_radius» ≡ inf false → told .stages ≡ largest-count (family-of (start .family))
   pub demand-three : (g : Orthogonal) → family-of (start .family) ≡ made-of g → Demand-three g (told .«scaled_radius») (told .stages)
-  pub record-holds : Kept told x
+  pub record-holds : Holds-figures told (x .kept)
 
 -- whatever record was handed in: k is from 1 to 12, and s permitted to the record's family
-pub record In-range (told : Figures) (x : Held) : Type 0 where
+pub record Told-in-range (told : Figures) (x : Held) : Type 0 where
   pub one-pass : 1 ≤ told .passes
   pub twelve-passes : told .passes ≤ 12
   pub stages-permitted : T (permitted (family-of (x .kept .family)) (told .stages))
@@ -153,14 +137,11 @@ pub record Three-stand (h x : Held) : Type 0 where
   pub passes-stand : passes-of x ≡ passes-of h
   pub radius-stands : scaled-radius-of x ≡ scaled-radius-of h
 
-unfoldable pub no-attempt : List Call → Bool
-no-attempt [] = true
-no-attempt (c ∷ cs) = not (is-attempt c) && no-attempt cs
-
--- s, k and r of the record while an attempt is under way, in a sequence. Among the passes k is the one that awaits its derivative and r is 0, s being still that
--- of the attempt before. From the first stage on they are the attempt's own.
+-- s, k and r of the record while an attempt is under way, in a sequence. Among the passes k is from 1 to 12 and r is 0; of s nothing is said. From the first
+-- stage on they are the attempt's own.
 pub record Under-way (x : Held) : Type 0 where
-  pub pass-awaited : x .kept .phase ≡ P.Pass → 1 ≤ passes-of x
+  pub pass-from-one : x .kept .phase ≡ P.Pass → 1 ≤ passes-of x
+  pub pass-to-twelve : x .kept .phase ≡ P.Pass → passes-of x ≤ 12
   pub no-radius-yet : x .kept .phase ≡ P.Pass → scaled-radius-of x ≡ nought
   pub own-in-stages : x .kept .phase ≡ P.Stage → Suits (x .kept .family) (passes-of x) (stages-of x) (scaled-radius-of x)
   pub own-at-candidate : x .kept .phase ≡ P.Candidate → Suits (x .kept .family) (passes-of x) (stages-of x) (scaled-radius-of x)

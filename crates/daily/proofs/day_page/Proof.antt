@@ -3,15 +3,24 @@ use borrow.Author.Needs.{needs}
 use mathlib.Core.Path.{sym, _∙_}
 use native.Mathlib.Omega.{arith}
 use Rattle.daily.specs.Written.{day-text}
-use Rattle.daily.proofs.Pages.{puts-counts, day-written, numbers-long}
+use Rattle.daily.proofs.Pages.{puts-counts, blank-lists, day-written, entries}
 use Rattle.daily.proofs.day_page.Statement.{statement}
 use Rattle.daily.proofs.day_page.Tie as tie
 
-no-refusals-requires : tie.Need-no-refusals-requires
-no-refusals-requires c κs = search needs
+no-numbers-requires : tie.Need-no-numbers-requires
+no-numbers-requires c κs = search needs
 
-no-junctions-requires : tie.Need-no-junctions-requires
-no-junctions-requires c κs = search needs
+no-doubles-requires : tie.Need-no-doubles-requires
+no-doubles-requires c κs = search needs
+
+no-numbers-requires-2 : tie.Need-no-numbers-requires-2
+no-numbers-requires-2 c κs = search needs
+
+no-numbers-requires-3 : tie.Need-no-numbers-requires-3
+no-numbers-requires-3 c κs = search needs
+
+no-doubles-requires-2 : tie.Need-no-doubles-requires-2
+no-doubles-requires-2 c κs = search needs
 
 day-requires : tie.Need-day-requires
 day-requires c κs = search needs
@@ -20,12 +29,12 @@ enum-known-total : tie.Need-enum-known-total
 enum-known-total c = search needs
 
 slice-aggregate-put-day : tie.Need-slice-aggregate-put-day
-slice-aggregate-put-day c = sym (numbers-long _ _ _ (c .before .before .before .total .given .1) (c .before .before .before .before .before .day .ensures))
+slice-aggregate-put-day c = let t = c .before .before .before in
+    sym (entries _ _ (t .total .given .1) (t .before .before .day .ensures) .a-number-each)
 
 put-day-requires : tie.Need-put-day-requires
-put-day-requires c κs =
-    let e = numbers-long _ _ _ (c .before .before .before .total .given .1) (c .before .before .before .before .before .day .ensures) in
-    omega (arith, e, c .before .put-day-arg .given .0 .1)
+put-day-requires c κs = let t = c .before .before .before in
+    omega (arith, entries _ _ (t .total .given .1) (t .before .before .day .ensures) .a-number-each, c .before .put-day-arg .given .0 .1)
 
 enum-known-line : tie.Need-enum-known-line
 enum-known-line c = search needs
@@ -34,28 +43,37 @@ put-malformed-requires : tie.Need-put-malformed-requires
 put-malformed-requires c κs = search needs
 
 returns : tie.Need-returns
-returns c = let p = c .put-day .ensures in (
-  puts-counts p,
-  p .bytes ∙ day-written _ _ _ (c .before .before .before .before .before .before .before .before .before .before .no-refusals .ensures)
-      (c .before .before .before .before .before .before .before .before .before .no-junctions .ensures) (c .before .before .before .before .total .given .1)
-      (c .before .before .before .before .before .before .day .ensures),
-)
+returns c = let p = c .put-day .ensures in
+    let l = c .before .before .before .before .before .before .before .before .before .before .before .before in
+    let k = l .before in
+    let s = k .before in
+    let j = s .before in
+    let blank = blank-lists (j .before .no-numbers .ensures) (j .no-doubles .ensures) (s .no-numbers2 .ensures) (k .no-numbers3 .ensures)
+    (l .no-doubles2 .ensures) in
+    let t = c .before .before .before .before in
+    (puts-counts p, p .bytes ∙ day-written _ _ blank (t .total .given .1) (t .before .before .day .ensures))
 
 returns-2 : tie.Need-returns-2
 unfolding day-text
-returns-2 c = let p = c .put-malformed .ensures in (
-  puts-counts p,
-  p .bytes ∙ day-written _ _ _ (c .before .before .before .before .before .before .before .before .before .no-refusals .ensures)
-      (c .before .before .before .before .before .before .before .before .no-junctions .ensures) (c .before .before .before .line .given .1)
-      (c .before .before .before .before .before .day .ensures),
-)
+returns-2 c = let p = c .put-malformed .ensures in
+    let l = c .before .before .before .before .before .before .before .before .before .before .before in
+    let k = l .before in
+    let s = k .before in
+    let j = s .before in
+    let blank = blank-lists (j .before .no-numbers .ensures) (j .no-doubles .ensures) (s .no-numbers2 .ensures) (k .no-numbers3 .ensures)
+    (l .no-doubles2 .ensures) in
+    let t = c .before .before .before in
+    (puts-counts p, p .bytes ∙ day-written _ _ blank (t .line .given .1) (t .before .before .day .ensures))
 
 pub day-page-spec : {M : Type 1} → statement M
 day-page-spec =
     tie.close
     (tie.spec
-    no-refusals-requires
-    no-junctions-requires
+    no-numbers-requires
+    no-doubles-requires
+    no-numbers-requires-2
+    no-numbers-requires-3
+    no-doubles-requires-2
     day-requires
     enum-known-total
     slice-aggregate-put-day

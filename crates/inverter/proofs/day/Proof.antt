@@ -23,12 +23,18 @@ slice-aggregate-total-of : tie.Need-slice-aggregate-total-of
 slice-aggregate-total-of c = search needs
 
 total-of-requires : tie.Need-total-of-requires
-total-of-requires c κs = let s = c .before .before .before .before .before .before .before .read in
-    let p = whole-read _ (s .ensures) (c .before .before .before .before .inverter .given .1) in (
+total-of-requires c κs = let s = c .before .before .before .before .before .before .before .before .before .before .read in
+    let p = whole-read _ (s .ensures) (c .before .before .before .before .before .before .before .inverter .given .1) in (
       day-sizes _ _ _ p,
       (
         omega (arith, s .kept .1 .0),
-        (omega (arith, c .before .total-of-arg .given .0 .1, s .kept .1 .0), omega (arith, c .total-of-arg2 .given .0 .1, s .kept .1 .0)),
+        record {
+          a-number-each = omega (arith, c .before .before .before .before .total-of-arg .given .0 .1, s .kept .1 .0);
+          a-junction-each = omega (arith, c .before .before .before .total-of-arg2 .given .0 .1, s .kept .1 .0);
+          stages-each = omega (arith, c .before .before .total-of-arg3 .given .0 .1, s .kept .1 .0);
+          passes-each = omega (arith, c .before .total-of-arg4 .given .0 .1, s .kept .1 .0);
+          a-radius-each = omega (arith, c .total-of-arg5 .given .0 .1, s .kept .1 .0);
+        },
       ),
     )
 
@@ -36,11 +42,11 @@ enum-known-line : tie.Need-enum-known-line
 enum-known-line c = search needs
 
 returns : tie.Need-returns
-returns c = reports-day _ _ _ (whole-read _ (c .before .before .before .before .before .before .before .before .read .ensures)
-    (c .before .before .before .before .before .inverter .given .1)) (c .total-of .ensures)
+returns c = reports-day _ _ (whole-read _ (c .before .before .before .before .before .before .before .before .before .before .before .read .ensures)
+    (c .before .before .before .before .before .before .before .before .inverter .given .1)) (c .total-of .ensures)
 
 returns-2 : tie.Need-returns-2
-returns-2 c = reports-bad _ _ _ (broken-read _ _ (c .before .before .before .before .read .ensures) (c .before .line .given .1))
+returns-2 c = reports-bad _ _ (broken-read _ _ (c .before .before .before .before .read .ensures) (c .before .line .given .1))
 
 pub day-spec : {M : Type 1} → statement M
 day-spec =

@@ -21,15 +21,15 @@ vector-count-requires : tie.Need-vector-count-requires
 vector-count-requires c κs = search needs
 
 mul-whole : tie.Need-mul-whole
-mul-whole c = let s = c .before .before .before .before .before .before in
+mul-whole c = let s = c .before .before .before .before .before .before .before .before .before in
     omega (arith, has-room _ (s .args .m .n) (c .vector-count .ensures) (s .pre .0 .1))
 
 array-borrow-prefix-area : tie.Need-array-borrow-prefix-area
-array-borrow-prefix-area c = let s = c .before .before .before .before .before .before in
+array-borrow-prefix-area c = let s = c .before .before .before .before .before .before .before .before .before in
     omega (arith, has-room _ (s .args .m .n) (c .vector-count .ensures) (s .pre .0 .1))
 
 slice-aggregate-from-rest : tie.Need-slice-aggregate-from-rest
-slice-aggregate-from-rest c = let s = c .before .before .before .before .before .before .before in
+slice-aggregate-from-rest c = let s = c .before .before .before .before .before .before .before .before .before .before in
     let z = c .before .before .before .zeros in
     let l : length (z .result) ≡ largest-area = ap length (z .ensures) ∙ length-replicate largest-area nought in
     let v = c .before .vector-count in
@@ -39,17 +39,18 @@ array-borrow-prefix-scratch : tie.Need-array-borrow-prefix-scratch
 array-borrow-prefix-scratch c = search needs
 
 slice-aggregate-from-rest-2 : tie.Need-slice-aggregate-from-rest-2
-slice-aggregate-from-rest-2 c = let s = c .before .before .before .before .before .before .before .before in
+slice-aggregate-from-rest-2 c = let s = c .before .before .before .before .before .before .before .before .before .before .before in
     let b = c .before .before .before .blank in
     sym (length-take-le (s .args .m .n) (b .result) (omega (arith, b .ok .1 .0, s .pre .0 .1)))
 
 from-rest-requires : tie.Need-from-rest-requires
-from-rest-requires c κs = let s = c .before .before .before .before .before .before .before .before .before .before in
+from-rest-requires c κs = let u = c .before .before .before .before .before .before .before in
+    let s = u .before .before .before .before .before .before .before .before .before in
     let n = s .args .m .n in
-    let b = c .before .before .before .before .before .blank in
-    let v = c .before .before .before .before .vector-count in
+    let b = u .before .blank in
+    let v = u .vector-count in
     let z =
-    ap (take (v .result * n)) (c .before .before .before .before .before .before .zeros .ensures)
+    ap (take (v .result * n)) (u .before .before .zeros .ensures)
     ∙ take-replicate (v .result * n) largest-area nought (has-room _ n (v .ensures) (s .pre .0 .1))
     ∙ ap (λ (k : ℕ). replicate (k * n) nought) (v .ensures) in
     (s .pre .0 .0, (z, (length-take-le n (b .result) (omega (arith, b .ok .1 .0, s .pre .0 .1)), s .pre .1)))
@@ -59,6 +60,15 @@ same-length c = search needs
 
 same-length-2 : tie.Need-same-length-2
 same-length-2 c = search needs
+
+same-length-3 : tie.Need-same-length-3
+same-length-3 c = search needs
+
+same-length-4 : tie.Need-same-length-4
+same-length-4 c = search needs
+
+same-length-5 : tie.Need-same-length-5
+same-length-5 c = search needs
 
 returns : tie.Need-returns
 returns c = search needs
@@ -78,4 +88,7 @@ total-of-spec =
     from-rest-requires
     same-length
     same-length-2
+    same-length-3
+    same-length-4
+    same-length-5
     returns)

@@ -1,5 +1,4 @@
 -- `good_end` meets its contract: the pass, then s.
-use mathlib.Core.Path.{_∙_}
 use borrow.Author.Needs.{needs}
 use Rattle.driver.proofs.Ladder.{fails, passes, stop, go-on}
 use Rattle.driver.proofs.checks.good_end.Statement.{statement}
