@@ -9,7 +9,7 @@ use borrow.Author.Tests.{eq-eqb, ne-eqb}
 use lib.Dec.{eqb}
 use lib.ListN.{length}
 use lib.Ieee.{Float, lt}
-use Rattle.driver.specs.Calls.{Called, may-accept}
+use Rattle.driver.specs.Calls.{Called, may-accept, figures-in}
 use Rattle.driver.specs.Numbers.{refusal-numbers, ending-numbers}
 use Rattle.session.specs.Refusals.{_∈_, here}
 use Rattle.session.proofs.Numbers.{ending-refuses, not-zero}
@@ -19,7 +19,7 @@ use Rattle.sheet.specs.Text.{minutes-a-day}
 use Rattle.sheet.proofs.Soundness.{day-minutes}
 use Rattle.inverter.specs.declared.Total.{Total}
 use Rattle.inverter.specs.declared.DayResult.the-variants.{Day}
-use Rattle.inverter.specs.Day.{one-if, whole-minute, upcoming, finished, junction, is-above, refusal, told, minute-counted, Minutes, Entries, longer}
+use Rattle.inverter.specs.Day.{one-if, whole-minute, upcoming, finished, junction, is-above, refusal, minute-counted, Minutes, Entries, longer}
 use Rattle.inverter.specs.Day.{So-far, held, with-minute, run, no-count, outset, first-area, total-of, total, reported, day, Reports}
 use Rattle.inverter.proofs.Run.{one-most}
 use Rattle.accounts.specs.Accounts.{Acceptable, Ended, Completed, Given-up, Kept-out, listed, Rising, Numbered, Refused-untold, Accounts}
@@ -61,10 +61,10 @@ with-finished m k c t z n o a =
     record {
       every-minute = omega (arith, n, none, a .every-minute);
       above-finished = omega (arith, n, above, a .above-finished);
-      an-entry-each = longer-entries (t .lists) x temperature (told (c .answer)) k (a .an-entry-each);
+      an-entry-each = longer-entries (t .lists) x temperature (figures-in (c .answer)) k (a .an-entry-each);
       all-listed = omega (arith, grown, a .all-listed);
       numbered = numbered-grown 0 (t .lists .refusals) x (λ some. absurd (some z)) (a .numbered);
-      refused-untold = longer-untold (t .lists) x temperature (told (c .answer)) k (a .an-entry-each) (refused-answer (c .answer)) (a .refused-untold);
+      refused-untold = longer-untold (t .lists) x temperature (figures-in (c .answer)) k (a .an-entry-each) (refused-answer (c .answer)) (a .refused-untold);
       acceptable = o;
     }
 
@@ -82,10 +82,10 @@ with-refused m k c t f l n o a =
     record {
       every-minute = omega (arith, n, some, a .every-minute);
       above-finished = omega (arith, n, above, a .above-finished);
-      an-entry-each = longer-entries (t .lists) x temperature (told (c .answer)) k (a .an-entry-each);
+      an-entry-each = longer-entries (t .lists) x temperature (figures-in (c .answer)) k (a .an-entry-each);
       all-listed = omega (arith, grown, a .all-listed);
       numbered = numbered-grown 0 (t .lists .refusals) x (λ _. l) (a .numbered);
-      refused-untold = longer-untold (t .lists) x temperature (told (c .answer)) k (a .an-entry-each) (refused-answer (c .answer)) (a .refused-untold);
+      refused-untold = longer-untold (t .lists) x temperature (figures-in (c .answer)) k (a .an-entry-each) (refused-answer (c .answer)) (a .refused-untold);
       acceptable = o;
     }
 

@@ -12,13 +12,13 @@ use lib.Ieee.{Float, nan}
 use Rattle.driver.specs.declared.Figures.{Figures}
 use Rattle.driver.specs.declared.Answer.{Answer}
 use Rattle.driver.specs.declared.Answer.the-variants.{Evaluate, Finished, Ready, Refused, Empty}
-use Rattle.driver.specs.Calls.{no-figures}
-use Rattle.inverter.specs.Day.{told, refusal, Minutes, Entries, longer}
+use Rattle.driver.specs.Calls.{no-figures, figures-in}
+use Rattle.inverter.specs.Day.{refusal, Minutes, Entries, longer}
 use Rattle.accounts.specs.Accounts.{Untold, Refused-untold}
 
 -- a refused answer tells no attempt
-pub refused-answer : (a : Answer) → (refusal a ≡ 0 → ⊥) → told a ≡ no-figures
-unfolding refusal told
+pub refused-answer : (a : Answer) → (refusal a ≡ 0 → ⊥) → figures-in a ≡ no-figures
+unfolding refusal figures-in
 refused-answer (Evaluate time vector) some = refl
 refused-answer (Finished figures) some = absurd (some refl)
 refused-answer Ready some = refl

@@ -8,8 +8,8 @@ use Rattle.workspace.specs.Vectors.{Vectors, unpack, all-finite}
 use Rattle.driver.specs.declared.Phase.{Phase}
 use Rattle.driver.specs.declared.Phase.the-variants as P
 use Rattle.driver.specs.declared.Record.{Record}
-use Rattle.driver.specs.Calls.{Held, Called, Test, guarded, in-phase, first-at, figures-in, Holds-figures, take-first, take-callback, take-candidate, replied}
-use Rattle.driver.specs.Calls.{going-on, settled, spoiled}
+use Rattle.driver.specs.Calls.{Held, Called, Test, guarded, in-phase, first-at, figures-in, Holds-figures, take-first, take-callback}
+use Rattle.driver.specs.Calls.{take-candidate, replied, going-on, settled, spoiled}
 use Rattle.driver.specs.Calls.{start-tests, reply-tests, accept-tests, callback-tests, abandon-tests, start, reply, accepted, accept, called-back}
 use Rattle.driver.specs.Calls.{accept-with-callback, abandon, Call, Start, Attempt, Reply, Accept, Accept-with-callback, Abandon, made, is-attempt}
 use Rattle.driver.proofs.Ladder.{by-tests}

@@ -11,10 +11,10 @@ use lib.Dec.{eqb}
 use lib.Ieee.{Float}
 use lib.Ieee.Scale.{finite}
 use Rattle.workspace.specs.Vectors.{number, candidate}
-use Rattle.driver.specs.Calls.{Called, no-figures}
+use Rattle.driver.specs.Calls.{Called, no-figures, figures-in}
 use Rattle.heat_sink.specs.declared.Inverter.{Inverter}
 use Rattle.inverter.specs.declared.Count.{Count}
-use Rattle.inverter.specs.Day.{reading-at, passed, whole-minute, upcoming, finished, junction, is-above, refusal, told, minute-counted, longer}
+use Rattle.inverter.specs.Day.{reading-at, passed, whole-minute, upcoming, finished, junction, is-above, refusal, minute-counted, longer}
 use Rattle.inverter.specs.Day.{So-far, so-far, held, with-minute, run}
 use Rattle.inverter.specs.Finite.{kept-out, Entering, entering-with, entering, next-reading, left-by, above-at, above-by}
 use Rattle.inverter.proofs.Calls.{minute-finite, minute-not-finite}
@@ -22,7 +22,7 @@ use Rattle.inverter.proofs.Calls.{minute-finite, minute-not-finite}
 module _ (m : Inverter) (minute : ℕ) (reading after : Float) where
   -- a minute whose reading is not finite
   pub kept-out-minute : (t : So-far) → finite reading ≡ false → with-minute m (whole-minute m minute reading after (held t)) t ≡ kept-out m t
-  unfolding with-minute minute-counted is-above finished refusal told kept-out
+  unfolding with-minute minute-counted is-above finished refusal figures-in kept-out
   kept-out-minute t e =
       let n = t .count in
       let count : ℕ → Count = λ above. record { «record» = n .«record»; counters = n .counters; above = above; refused = n .refused + 1 } in

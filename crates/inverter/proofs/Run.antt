@@ -15,13 +15,13 @@ use Rattle.workspace.specs.Vectors.{Vector, number, unpack, state, candidate}
 use Rattle.driver.specs.declared.Phase.{Phase}
 use Rattle.driver.specs.declared.Figures.{Figures}
 use Rattle.driver.specs.declared.Replied.{Replied}
-use Rattle.driver.specs.Calls.{Called, may-accept}
+use Rattle.driver.specs.Calls.{Called, may-accept, figures-in}
 use Rattle.driver.specs.Promises.{holding}
 use Rattle.heat_sink.specs.declared.Inverter.{Inverter}
 use Rattle.inverter.specs.declared.Count.{Count}
 use Rattle.inverter.specs.declared.Total.{Total}
 use Rattle.inverter.specs.declared.DayResult.the-variants.{Day, Malformed}
-use Rattle.inverter.specs.Day.{one-if, whole-minute, upcoming, junction, is-above, refusal, told, minute-counted, end-of, so-far, held, with-minute, run}
+use Rattle.inverter.specs.Day.{one-if, whole-minute, upcoming, junction, is-above, refusal, minute-counted, end-of, so-far, held, with-minute, run}
 use Rattle.inverter.specs.Day.{Minutes, minutes, Entries, longer, first-area, outset, Gives-total, Reports, reported, day}
 use Rattle.sheet.specs.Text as Text
 
@@ -146,7 +146,7 @@ module _ (m : Inverter) (readings : List Float) (i : ℕ) (count : Count) (area 
   pub minute-turn : (end : Called) {count′ : Count} {number : ℕ} {temperature after : Float} {figures : Figures} → i < length readings
       → after ≡ upcoming (getD readings i nan) (drop (i + 1) readings)
       → end ≡ whole-minute m i (getD readings i nan) after (holding (count .«record») (count .counters) area)
-      → number ≡ refusal (end .answer) → temperature ≡ junction m (end .held .kept .phase) (end .held .area) → figures ≡ told (end .answer)
+      → number ≡ refusal (end .answer) → temperature ≡ junction m (end .held .kept .phase) (end .held .area) → figures ≡ figures-in (end .answer)
       → count′ ≡ minute-counted m (end-of end) temperature count
       → run m i (drop i readings) (so-far count area (first i lists))
       ≡ run m (i + 1) (drop (i + 1) readings) (so-far count′ (end .held .area) (first (i + 1) (stored i lists number temperature figures)))
@@ -161,9 +161,9 @@ module _ (m : Inverter) (readings : List Float) (i : ℕ) (count : Count) (area 
       ∙ ap (λ (x : Float). run m (i + 1) rest (with-minute m (whole-minute m i here x (held t)) t)) (sym u)
       ∙ ap (λ (c : Called). run m (i + 1) rest (with-minute m c t)) (sym e)
       ∙ ap (λ (x : Float). run m (i + 1) rest (so-far (minute-counted m (end-of end) x count) (end .held .area) (more (refusal (end .answer)) x
-      (told (end .answer))))) (sym j)
-      ∙ ap (λ (c : Count). run m (i + 1) rest (so-far c (end .held .area) (more (refusal (end .answer)) temperature (told (end .answer))))) (sym f)
-      ∙ ap (λ (k : ℕ). run m (i + 1) rest (so-far count′ (end .held .area) (more k temperature (told (end .answer))))) (sym g)
+      (figures-in (end .answer))))) (sym j)
+      ∙ ap (λ (c : Count). run m (i + 1) rest (so-far c (end .held .area) (more (refusal (end .answer)) temperature (figures-in (end .answer))))) (sym f)
+      ∙ ap (λ (k : ℕ). run m (i + 1) rest (so-far count′ (end .held .area) (more k temperature (figures-in (end .answer))))) (sym g)
       ∙ ap (λ (x : Figures). run m (i + 1) rest (so-far count′ (end .held .area) (more number temperature x))) (sym w)
       ∙ ap (λ (l : Minutes). run m (i + 1) rest (so-far count′ (end .held .area) l)) (first-longer i lists number temperature figures entries h)
 

@@ -18,7 +18,7 @@ use Rattle.driver.specs.declared.Answer.{Answer}
 use Rattle.driver.specs.declared.Answer.the-variants.{Evaluate, Finished, Ready, Refused, Empty}
 use Rattle.driver.specs.declared.Counters.{Counters}
 use Rattle.driver.specs.declared.Replied.{Replied}
-use Rattle.driver.specs.Calls.{Held, Called, may-accept, no-figures, start, attempt, reply, accept}
+use Rattle.driver.specs.Calls.{Held, Called, may-accept, figures-in, start, attempt, reply, accept}
 use Rattle.driver.specs.Promises.{new-record, holding}
 use Rattle.heat_sink.specs.declared.Inverter.{Inverter}
 use Rattle.inverter.specs.declared.Count.{Count}
@@ -109,14 +109,6 @@ refusal (Finished figures) = 0
 refusal Ready = 0
 refusal Empty = 0
 
--- what a minute's last answer tells of its attempt: the figures of a finished one, and of any other 0 for each
-unfoldable pub told : Answer → Figures
-told (Finished figures) = figures
-told (Evaluate time vector) = no-figures
-told Ready = no-figures
-told (Refused number) = no-figures
-told Empty = no-figures
-
 abbrev pub one-if : Bool → ℕ
 one-if b = cond b 1 0
 
@@ -173,7 +165,7 @@ end-of c = record { answer = c .answer; «record» = c .held .kept; counters = c
 
 unfoldable pub with-minute : Inverter → Called → So-far → So-far
 with-minute m c t = let temperature = junction m (c .held .kept .phase) (c .held .area) in
-    so-far (minute-counted m (end-of c) temperature (t .count)) (c .held .area) (longer (t .lists) (refusal (c .answer)) temperature (told (c .answer)))
+    so-far (minute-counted m (end-of c) temperature (t .count)) (c .held .area) (longer (t .lists) (refusal (c .answer)) temperature (figures-in (c .answer)))
 
 unfoldable pub run : Inverter → ℕ → List Float → So-far → So-far
 run m minute [] t = t

@@ -4,7 +4,7 @@ ghost use Prim.Native.Nat.{_+_, _*_, _≤_, _<_};
 ghost use lib.Ieee.{nan};
 ghost use lib.ListN.{length, replicate, getD, drop};
 ghost use Rattle.ieee.specs.Double.{nought};
-ghost use Rattle.driver.specs.Calls.{no-figures};
+ghost use Rattle.driver.specs.Calls.{figures-in, no-figures};
 ghost use Rattle.inverter.specs.Day as spec;
 use crate::Count;
 use crate::Total;
@@ -54,7 +54,7 @@ fn no_figures() -> Figures
 
 // What a finished answer tells of its attempt, 0 for each where the answer is another.
 fn told(answer: Answer) -> Figures
-    ensures { λ r. ⌜ r ≡ spec.told answer ⌝ }
+    ensures { λ r. ⌜ r ≡ figures-in answer ⌝ }
 {
     match answer {
         Answer::Finished(figures) => figures,

@@ -152,7 +152,7 @@ pub fn print(comparison: Comparison, seen: &[u64; 280]) {
     number(comparison.counts);
     say(b" counts, ");
     number(comparison.records);
-    say(b" records, ");
+    say(b" records in s, k or r, ");
     number(comparison.entries);
-    say(b" doubles differ\n");
+    say(b" doubles of areas differ\n");
 }

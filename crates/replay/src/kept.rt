@@ -1,4 +1,4 @@
-// s, k and the scaled radius: a finished answer tells them, and the record keeps them until the next attempt.
+// s, k and the scaled radius: a finished answer tells them, and the record keeps them until the next attempt that is taken.
 use crate::trace;
 use driver::Figures;
 use driver::Record;

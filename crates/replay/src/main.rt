@@ -1,6 +1,6 @@
 // Sessions with the engine, made again call by call from traces of the Rust: every answer, count, point and vector is to be the
-// Rust's, bit for bit, and so are s, k and the scaled radius in every finished answer, and in the record after every call.
-// data/traces was written by bindings/differential/src/bin/sample.rs.
+// Rust's, bit for bit; in every finished answer s, k and r are the Rust's; after every call the record's three are those of the
+// trace. data/traces was written by bindings/differential/src/bin/sample.rs.
 ghost use Prim.Native.Nat.{_≤_};
 use calls::Made;
 use comparison::Comparison;
@@ -26,37 +26,29 @@ pub struct Session {
     pub comparison: Comparison,
 }
 
+// Whether the three words of an answer are its code, its number, and its time or norm, 0 where it has none.
+fn right_words(s: &[u8], at: usize, code: u64, number: u64, value: f64) -> bool {
+    if stored::word(s, at) != code {
+        return false;
+    }
+    if stored::word(s, trace::on(at, 1)) != number {
+        return false;
+    }
+    stored::same(value, trace::double(s, trace::on(at, 2)))
+}
+
 fn right_answer(s: &[u8], at: usize, answer: Answer) -> bool {
-    let code = stored::word(s, at);
-    let number = stored::word(s, trace::on(at, 1));
-    let value = trace::double(s, trace::on(at, 2));
     match answer {
-        Answer::Evaluate { time, vector } => {
-            if code != 1 {
-                return false;
-            }
-            if number != vector as u64 {
-                return false;
-            }
-            stored::same(time, value)
-        }
+        Answer::Evaluate { time, vector } => right_words(s, at, 1, vector as u64, time),
         Answer::Finished(figures) => {
-            if code != 2 {
-                return false;
-            }
-            if !stored::same(figures.norm, value) {
+            if !right_words(s, at, 2, 0, figures.norm) {
                 return false;
             }
             kept::same(kept::of_figures(figures), kept::read(s, trace::on(at, 5)))
         }
-        Answer::Ready => code == 3,
-        Answer::Refused(cause) => {
-            if code != 4 {
-                return false;
-            }
-            number == cause
-        }
-        Answer::Empty => code == 5,
+        Answer::Ready => right_words(s, at, 3, 0, 0.0),
+        Answer::Refused(cause) => right_words(s, at, 4, cause, 0.0),
+        Answer::Empty => right_words(s, at, 5, 0, 0.0),
     }
 }
 

@@ -8,10 +8,11 @@
 //     4 accept
 //     5 accept with a callback  time, length, state
 //     6 abandon
-// What is left: the answer's code, number, and time or norm; evaluations and finished attempts; of a finished answer also s, k
-// and the scaled radius; and the area. An area is a word with a bit for each vector that is not as it was before (at the
-// beginning of a session: not zero), the lowest for vector 0, and those vectors. Where bit 16 of that word is set, the record's
-// s, k and scaled radius are not as they were before the call (at the beginning of a session: 0), and stand after the vectors.
+// What is left: the answer's code, number, and time or norm, 0 where it has none; evaluations and finished attempts; of a
+// finished answer also s, k and the scaled radius; and the area. An area is a word with a bit for each vector that is not as it
+// was before (at the beginning of a session: not zero), the lowest for vector 0, and those vectors. Where bit 16 of that word is
+// set, the record's s, k and scaled radius are not as they were before the call (before the first: 0), and stand after the
+// vectors. The area at the beginning of a session has no bit 16.
 
 pub fn on(at: usize, by: usize) -> usize {
     std::num::wrapping_add_usize(at, by)

@@ -1,11 +1,12 @@
 -- Document 01's case, by computation, as a session: RKL1, n = 1, state 1, step 1, every reply 0. A start and its reply, an attempt and four replies, an accept;
--- among them calls that are not taken.
+-- among them calls that are not taken. And an attempt whose r is a NaN, which its finished answer tells as one (document 02, CR 2).
 use mathlib.Core.Path.{_≡_, refl, ap, ap₂, _∙_}
-use mathlib.Core.Bool.{true}
+use mathlib.Core.Bool.{true, false, cond}
 use mathlib.Core.List.{List, [], _∷_, _++_, map}
-use Prim.Native.Nat.{ℕ}
+use Prim.Native.Nat.{ℕ, _^_}
 use lib.Count.{trailingZeros}
-use lib.ListN.{length}
+use lib.Dec.{eqb}
+use lib.ListN.{length, replicate}
 use lib.Ieee.{Float, binary64, toBits, add, sub, mul, div, neg, le, lt, eq, ofInt, round, toUnsigned, sum, units, odd, size, span, climb, isNan}
 use Rattle.ieee.specs.Double.{double, nearest, square, min-positive, root-epsilon, nought, one}
 use Rattle.ieee.specs.Sqrt.{root-below, root, halves, root-units, sqrt}
@@ -109,3 +110,26 @@ starts = refl
 pub case-of-calls : (h : Held) → length (h .area) ≡ 11 → h .counters ≡ zeroes → map numbers (seen-of h calls) ≡ numbers-in-case
 unfolding calls
 case-of-calls h l e = ap (map numbers) (from-start h 11 2 1 (one ∷ []) nought _ l e starts) ∙ case
+
+-- ---- a NaN is told as a NaN: the state 2 ^ 600, whose norm overflows, the first derivative 0, every other reply 2 ^ 600. So is the direction's norm infinite,
+-- and the radius infinite over infinite, pass by pass
+
+abbrev huge : List Float
+huge = nearest (2 ^ 600) 1 ∷ []
+
+-- without `adaptive`: the norm is 0
+unfoldable without-norm : Arguments
+without-norm = record { time = nought; step = one; «absolute_tolerance» = one; «relative_tolerance» = one; adaptive = false }
+
+pub nan-calls : List Call
+nan-calls = Start 2 1 huge nought ∷ Reply (nought ∷ []) ∷ Attempt without-norm ∷ replicate 15 (Reply huge)
+
+-- the last thing seen
+unfoldable pub last-seen : List Seen → List ℕ
+last-seen [] = []
+last-seen (x ∷ xs) = cond (eqb (length xs) 0) (numbers x) (last-seen xs)
+
+-- 16 evaluations and a finished attempt; finished: norm 0, s = 3, k = 12, r a NaN, and the candidate
+pub nan-told : last-seen (session 11 (fresh zeroes) nan-calls) ≡ 16 ∷ 1 ∷ 2 ∷ 0 ∷ 3 ∷ 12 ∷ 0x7ff8000000000000 ∷ 0x657b1c71c71c71c8 ∷ []
+unfolding last-seen numbers kind bits nan-calls without-norm zeroes doubles attempts sessions
+nan-told = refl

@@ -24,7 +24,7 @@ use Rattle.driver.proofs.Ladder.{same-answer}
 use Rattle.driver.proofs.Kept.{between, Stands, position-stands}
 use Rattle.session.specs.Refusals.{_∈_, Left}
 use Rattle.session.specs.Session.{taken-of, held-after}
-use Rattle.session.specs.Concluded.{none-is, stages-of, passes-of, Told-in-range, Three-stand}
+use Rattle.session.specs.Concluded.{none-is, No-attempt-taken, stages-of, passes-of, Told-in-range, Three-stand}
 use Rattle.session.proofs.Sequences.{left}
 use Rattle.session.proofs.Leaves.{leaves}
 use Rattle.session.proofs.Outcomes.{outcome}
@@ -42,7 +42,7 @@ then a b = record {
   between-again = b .between-again;
 }
 
-stands-after : (x : Held) (cs : List Call) → between (x .kept .phase) ≡ true → none-is is-attempt (taken-of x cs) ≡ true → Stands (x .kept) (held-after x cs .kept)
+stands-after : (x : Held) (cs : List Call) → between (x .kept .phase) ≡ true → No-attempt-taken x cs → Stands (x .kept) (held-after x cs .kept)
 unfolding taken-of held-after none-is
 stands-after x [] b none = stands-still x b
 stands-after x (c ∷ cs) b none = go (λ on more. stands-after (made x c .held) cs on more) (taken (made x c .answer)) refl none
@@ -50,7 +50,7 @@ stands-after x (c ∷ cs) b none = go (λ on more. stands-after (made x c .held)
     y : Held
     y = made x c .held
 
-    go : (between (y .kept .phase) ≡ true → none-is is-attempt (taken-of y cs) ≡ true → Stands (y .kept) (held-after y cs .kept))
+    go : (between (y .kept .phase) ≡ true → No-attempt-taken y cs → Stands (y .kept) (held-after y cs .kept))
         → (t : Bool) → taken (made x c .answer) ≡ t → none-is is-attempt (cond t (c ∷ taken-of y cs) (taken-of y cs)) ≡ true
         → Stands (x .kept) (held-after y cs .kept)
     go rest true e all =
@@ -63,7 +63,7 @@ stands-after x (c ∷ cs) b none = go (λ on more. stands-after (made x c .held)
 
 -- For every record, counters and area: whatever call is answered "finished", and whatever calls follow.
 pub kept : (h : Held) (c : Call) (told : Figures) (cs : List Call) → made h c .answer ≡ Finished told
-    → none-is is-attempt (taken-of (made h c .held) cs) ≡ true → Holds-figures told (held-after (made h c .held) cs .kept)
+    → No-attempt-taken (made h c .held) cs → Holds-figures told (held-after (made h c .held) cs .kept)
 unfolding case-number figures-in between
 kept h c told cs e none =
     let x = made h c in

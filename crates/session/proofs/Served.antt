@@ -3,7 +3,7 @@
 use mathlib.Core.Path.{_≡_, sym, ap, _∙_, subst}
 use Prim.Native.Nat.{ℕ}
 use lib.Dec.{T}
-use lib.Ieee.{Float, inf}
+use lib.Ieee.{inf}
 use lib.Ieee.Scale.{finite}
 use mathlib.Core.Bool.{false}
 use Rattle.family.specs.Family.{Family, Orthogonal, made-of, family-of, largest-count, stage-count}
@@ -29,20 +29,10 @@ module _ (h : Held) (a : Arguments) (o : Finished-attempt) (replies : ℕ) (x : 
   pub stages-from : o .stages ≡ stage-count (family-of (h .kept .family)) (o .scaled-radius)
   stages-from = met-same (o .stages) _ (sym (f .need-met) ∙ need-is (setting-of (h .kept)) (o .scaled-radius))
 
-  -- what the record then holds as its r and s
-  abbrev r : Float
-  r = x .held .kept .iteration .«scaled_radius»
+  -- of the r and s that its answer tells
+  pub served : (g : Orthogonal) → family-of (h .kept .family) ≡ made-of g → T (finite (o .scaled-radius)) → Serves g (o .scaled-radius) (o .stages)
+  served g e fin = let r = o .scaled-radius in
+      subst (λ (s : ℕ). Serves g r s) (sym (stages-from ∙ ap (λ (f : Family). stage-count f r) e)) (serves g r fin (f .not-negative))
 
-  abbrev s : ℕ
-  s = x .held .kept .staging .stages
-
-  count-is : s ≡ stage-count (family-of (h .kept .family)) r
-  count-is = f .stages-are ∙ stages-from ∙ ap (stage-count (family-of (h .kept .family))) (sym (f .radius-is))
-
-  pub served : (g : Orthogonal) → family-of (h .kept .family) ≡ made-of g → T (finite (x .held .kept .iteration .«scaled_radius»))
-      → Serves g (x .held .kept .iteration .«scaled_radius») (x .held .kept .staging .stages)
-  served g e fin = subst (λ (s : ℕ). Serves g r s) (sym (count-is ∙ ap (λ (f : Family). stage-count f r) e))
-      (serves g r fin (rw (f .radius-is) (f .not-negative)))
-
-  pub served-infinite : x .held .kept .iteration .«scaled_radius» ≡ inf false → x .held .kept .staging .stages ≡ largest-count (family-of (h .kept .family))
-  served-infinite e = count-is ∙ ap (stage-count (family-of (h .kept .family))) e ∙ infinite-count (family-of (h .kept .family))
+  pub served-infinite : o .scaled-radius ≡ inf false → o .stages ≡ largest-count (family-of (h .kept .family))
+  served-infinite e = stages-from ∙ ap (stage-count (family-of (h .kept .family))) e ∙ infinite-count (family-of (h .kept .family))

@@ -27,8 +27,8 @@ use Rattle.driver.specs.declared.Staging.{Staging}
 use Rattle.driver.specs.declared.Need.the-variants.{Met}
 use Rattle.driver.specs.declared.Counters.{Counters}
 use Rattle.driver.specs.declared.Answer.the-variants.{Evaluate, Refused}
-use Rattle.driver.specs.Calls.{good-end, Held, step-to, in-phase, setting-of, permits, at-stage, ask-stage, stage-need, ask-candidate, take-stage, take-candidate}
-use Rattle.driver.specs.Calls.{replied, sized, pending, in-range, awaiting, finishes, going-on, counted, settled}
+use Rattle.driver.specs.Calls.{Held, step-to, in-phase, setting-of, permits, at-stage, ask-stage, stage-need, ask-candidate, take-stage, take-candidate}
+use Rattle.driver.specs.Calls.{replied, good-end, sized, pending, in-range, awaiting, finishes, going-on, counted, settled}
 use Rattle.session.specs.Attempt.{for-candidate, closes, Asking, done, stopped, _>>=_, evaluate, Finished-attempt, stage-row, stage-loop}
 use Rattle.session.specs.Attempt.{finished-attempt, close, evaluated}
 use Rattle.session.specs.Refusals.{here, later}

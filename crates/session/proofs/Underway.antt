@@ -124,7 +124,13 @@ module _ (g : Held) (a : Arguments) (m : ℕ) (x : Held) (u : Underway g a m x) 
     underway = record {
       arguments-are = u .arguments-are;
       evaluations-are = omega arith;
-      position = record { pass-is = omega arith; to-twelve = (let l = below in omega arith); no-radius-yet = refl; unsigned = i .unsigned; attempts-are = i .attempts-are };
+      position = record {
+        pass-is = omega arith;
+        to-twelve = (let l = below in omega arith);
+        no-radius-yet = refl;
+        unsigned = i .unsigned;
+        attempts-are = i .attempts-are;
+      };
     };
     answered = refl;
   }

@@ -31,7 +31,7 @@ use Rattle.workspace.specs.Kernel.{error-norm}
 use Rattle.driver.specs.declared.Phase.the-variants as P
 use Rattle.driver.specs.declared.Figures.{Figures}
 use Rattle.driver.specs.Answers.{case-number}
-use Rattle.driver.specs.Calls.{Held, setting-of, Call, Start, Attempt, Reply, made, taken, is-start, Holds-figures}
+use Rattle.driver.specs.Calls.{Held, setting-of, Call, Start, Attempt, Reply, made, taken, is-start, is-attempt, Holds-figures}
 use Rattle.session.specs.Session.{taken-of, held-after}
 
 -- ---- one call of a list
@@ -130,6 +130,10 @@ pub record Told-in-range (told : Figures) (x : Held) : Type 0 where
   pub stages-permitted : T (permitted (family-of (x .kept .family)) (told .stages))
 
 -- ---- until the next attempt
+
+-- of these calls from x on, none is an attempt that is taken
+abbrev pub No-attempt-taken : Held → List Call → Type 0
+No-attempt-taken x cs = none-is is-attempt (taken-of x cs) ≡ true
 
 -- s, k and r of the record stand
 pub record Three-stand (h x : Held) : Type 0 where

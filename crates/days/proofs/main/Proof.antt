@@ -31,6 +31,12 @@ loop-again c = tt
 write-text-requires-2 : tie.Need-write-text-requires-2 Inv-loop μ-loop
 write-text-requires-2 c κs = tt
 
+write-text-requires-3 : tie.Need-write-text-requires-3 Inv-loop μ-loop
+write-text-requires-3 c κs = tt
+
+write-text-requires-4 : tie.Need-write-text-requires-4 Inv-loop μ-loop
+write-text-requires-4 c κs = tt
+
 returns : tie.Need-returns Inv-loop μ-loop
 returns c = tt
 
@@ -47,4 +53,6 @@ main-spec =
     loop-less
     loop-again
     write-text-requires-2
+    write-text-requires-3
+    write-text-requires-4
     returns)

@@ -1,7 +1,7 @@
 -- `inverter::minutes::told` meets its contract, case by case. Assumes nothing.
 use borrow.Author.Needs.{needs}
 use mathlib.Core.Path.{sym, ap, _∙_}
-use Rattle.inverter.specs.Day.{told}
+use Rattle.driver.specs.Calls.{figures-in}
 use Rattle.inverter.proofs.minutes.told.Statement.{statement}
 use Rattle.inverter.proofs.minutes.told.Tie as tie
 
@@ -33,24 +33,24 @@ no-figures-requires-4 : tie.Need-no-figures-requires-4
 no-figures-requires-4 c κs = search needs
 
 returns : tie.Need-returns
-unfolding told
-returns c = ap told (sym (c .before .answer .given .1))
+unfolding figures-in
+returns c = ap figures-in (sym (c .before .answer .given .1))
 
 returns-2 : tie.Need-returns-2
-unfolding told
-returns-2 c = c .no-figures .ensures ∙ ap told (sym (c .before .enum-told .given .1))
+unfolding figures-in
+returns-2 c = c .no-figures .ensures ∙ ap figures-in (sym (c .before .enum-told .given .1))
 
 returns-3 : tie.Need-returns-3
-unfolding told
-returns-3 c = c .no-figures2 .ensures ∙ ap told (sym (c .before .enum-told2 .given .1))
+unfolding figures-in
+returns-3 c = c .no-figures2 .ensures ∙ ap figures-in (sym (c .before .enum-told2 .given .1))
 
 returns-4 : tie.Need-returns-4
-unfolding told
-returns-4 c = c .no-figures3 .ensures ∙ ap told (sym (c .before .enum-told3 .given .1))
+unfolding figures-in
+returns-4 c = c .no-figures3 .ensures ∙ ap figures-in (sym (c .before .enum-told3 .given .1))
 
 returns-5 : tie.Need-returns-5
-unfolding told
-returns-5 c = c .no-figures4 .ensures ∙ ap told (sym (c .before .enum-told4 .given .1))
+unfolding figures-in
+returns-5 c = c .no-figures4 .ensures ∙ ap figures-in (sym (c .before .enum-told4 .given .1))
 
 pub told-spec : {M : Type 1} → statement M
 told-spec =
