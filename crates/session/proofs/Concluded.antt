@@ -107,6 +107,7 @@ concludes h calls x s t z =
       replies-are = (let e = p .replies-are in omega arith);
       answers-are = t .answers-are ∙ ap (λ (φ : Phase). cases-at φ m) (z .phase-is);
       norm-is = rw (s .family-is, s .n-is, t .underway .arguments-are) refl;
+      radius-is = p .radius-is ∙ rw (s .n-is, t .underway .arguments-are) refl;
       suits = record {
         one-pass = p .suits .one-pass;
         twelve-passes = p .suits .twelve-passes;

@@ -1,24 +1,26 @@
 -- What a call can come to, each way on a line of its own: the answer, and the record, counters and area it leaves. From the definition of the calls alone.
 -- ⊕ is an operation on doubles: it rounds.
-use mathlib.Core.Path.{_≡_, refl, sym}
+use mathlib.Core.Path.{_≡_, refl, sym, ap, _∙_, subst}
 use mathlib.Core.Bool.{Bool, true, false, cond, _&&_, _||_}
 use mathlib.Core.List.{List}
 use Prim.Native.Nat.{ℕ, _+_, _≤_, _<_}
 use native.Mathlib.Omega.{arith}
 use lib.Dec.{leb, ltb, eqb}
 use borrow.Author.Tests.{eqb-true, eqb-false, leb-true, ltb-true, ltb-false}
-use lib.ListN.{length}
-use lib.Ieee.{Float}
+use lib.ListN.{length, replicate}
+use lib.Ieee.{Float, le}
 use Rattle.family.specs.declared.Setting.{Setting}
-use Rattle.ieee.specs.Double.{_⊕_, nought}
-use Rattle.family.specs.Family.{Family, family-of, permitted, stage-count, setting}
+use Rattle.ieee.specs.Double.{_⊕_, min-positive, nought, one}
+use Rattle.family.specs.Family.{family-of, facts-of, kind, stage-count, setting}
 use Rattle.coefficients.specs.declared.Coefficients.{Coefficients}
 use Rattle.coefficients.specs.declared.Recurrence.{Recurrence}
 use Rattle.coefficients.specs.Rows.{recurrence, coefficients, next}
 use Rattle.workspace.specs.declared.Arguments.{Arguments}
-use Rattle.workspace.specs.Vectors.{Vectors, number, unpack, pack, all-finite, state, candidate}
-use Rattle.workspace.specs.Kernel.{perturbation-of, turned, radius-of, ended, scaled, with-row, exchanged, with-candidate, with-last}
-use Rattle.workspace.proofs.Areas.{long-last}
+use Rattle.workspace.specs.Vectors.{Vectors, _with_≔_, number, unpack, pack, each, vector-norm, all-finite, first-derivative, last-derivative, derivative}
+use Rattle.workspace.specs.Vectors.{eigenvector, state, candidate}
+use Rattle.workspace.specs.Kernel.{with-direction, perturbation-of, perturbed-by, perturbed, turned, radius-of, ended, scaled, first-stage}
+use Rattle.workspace.specs.Kernel.{with-row-in, with-row, exchanged, with-candidate, error, with-last}
+use Rattle.workspace.proofs.Areas.{unpack-pack, long-direction, long-perturbed, long-turned, long-first, long-row, long-exchanged, long-candidate, long-last}
 use Rattle.driver.specs.declared.Phase.{Phase}
 use Rattle.driver.specs.declared.Phase.the-variants as P
 use Rattle.driver.specs.declared.Record.{Record}
@@ -55,6 +57,20 @@ first-after r w = recurrence (setting-of r) (count-after r w)
 abbrev pub carried-on : ℕ → ℕ → ℕ → Recurrence → Recurrence
 carried-on f s j c = next (setting f) c (coefficients (setting f) s j c)
 
+-- state and eigenvector are as they were
+pub record Both-stay (v w : Vectors) : Type 0 where
+  pub state-stays : w state ≡ v state
+  pub eigenvector-stays : w eigenvector ≡ v eigenvector
+
+direction-state : (n : ℕ) (v : Vectors) → with-direction n v state ≡ v state
+unfolding with-direction
+direction-state n v = go (le (vector-norm (v eigenvector)) min-positive) (le (vector-norm (v first-derivative)) min-positive)
+  where
+    go : (t u : Bool) → cond t (cond u (v with eigenvector ≔ replicate n one) (v with eigenvector ≔ v first-derivative)) v state ≡ v state
+    go true true = refl
+    go true false = refl
+    go false u = refl
+
 -- a pass that does not end the iteration is not the twelfth
 not-twelve : (t : Bool) (k : ℕ) → k ≤ 12 → t || eqb k 12 ≡ false → k < 12
 not-twelve true k l e = absurd (differ (sym e))
@@ -71,6 +87,9 @@ module _ (h : Held) where
   abbrev c : Counters
   c = h .counters
 
+  abbrev now : Vectors
+  now = unpack (h .kept .n) (h .area)
+
   abbrev s : ℕ
   s = h .kept .staging .stages
 
@@ -81,19 +100,21 @@ module _ (h : Held) where
     away : {q : Call} (i : ℕ) → taken (Refused i) ≡ false → Outcome q (leaving (Refused i) r c (h .area))
     starts : {f n : ℕ} {y : List Float} {t : Float} (area : List Float)
         → Outcome (Start f n y t) (leaving (Evaluate t (number state)) (first-at P.First f n t r) c area)
-    attempts : {a : Arguments} (v : Vectors) (t : Float) (b : ℕ) (area : List Float)
+    attempts : {a : Arguments} (v : Vectors) (t : Float) (b : ℕ) (area : List Float) → unpack (r .n) area state ≡ v state
         → Outcome (Attempt a) (leaving (Evaluate t b) (at-pass a 1 (perturbation-of v) nought r) c area)
     spoils : {d : List Float} (i : ℕ) (area : List Float) → Outcome (Reply d) (leaving (Refused i) (in-phase P.Empty r) (one-more c) area)
     readies : {d : List Float} (area : List Float) → Outcome (Reply d) (leaving Ready (in-phase P.Ready r) (one-more c) area)
     iterates : {d : List Float} (t radius : Float) (b : ℕ) (area : List Float) → r .phase ≡ P.Pass → r .iteration .pass < 12
+        → unpack (r .n) area state ≡ now state
         → Outcome (Reply d) (leaving (Evaluate t b) (at-pass (r .arguments) (r .iteration .pass + 1) (r .iteration .perturbation) radius r) (one-more c) area)
     begins : {d : List Float} (w : Vectors) (t : Float) (b : ℕ) (area : List Float) → r .phase ≡ P.Pass → r .iteration .pass ≤ 12
+        → unpack (r .n) area state ≡ now state → unpack (r .n) area eigenvector ≡ w eigenvector
         → Outcome (Reply d) (leaving (Evaluate t b) (at-stage (count-after r w) 2 (first-after r w) (with-radius (radius-after r w) r)) (one-more c) area)
-    goes-on : {d : List Float} (t : Float) (b : ℕ) (area : List Float) → r .phase ≡ P.Stage → j < s
+    goes-on : {d : List Float} (t : Float) (b : ℕ) (area : List Float) → r .phase ≡ P.Stage → j < s → Both-stay now (unpack (r .n) area)
         → Outcome (Reply d) (leaving (Evaluate t b) (at-stage s (j + 1) (carried-on (r .family) s j (r .staging .recurrence)) r) (one-more c) area)
-    asks-candidate : {d : List Float} (t : Float) (b : ℕ) (area : List Float) → r .phase ≡ P.Stage → j ≡ s
+    asks-candidate : {d : List Float} (t : Float) (b : ℕ) (area : List Float) → r .phase ≡ P.Stage → j ≡ s → Both-stay now (unpack (r .n) area)
         → Outcome (Reply d) (leaving (Evaluate t b) (in-phase P.Candidate r) (one-more c) area)
-    finishes : {d : List Float} (w : Vectors) → r .phase ≡ P.Candidate → good-end (setting-of r) (r .iteration .pass) s ≡ true → Long-in r w
+    finishes : {d : List Float} (w : Vectors) → r .phase ≡ P.Candidate → good-end (setting-of r) (r .iteration .pass) s ≡ true → Long-in r w → Both-stay now w
         → Outcome (Reply d) (leaving (Finished (figures-after r w)) (in-phase P.Finished r) (one-more-each c) (pack w))
     accepts : (area : List Float) → Outcome Accept (leaving Ready (in-phase P.Ready r) c area)
     calls-back : {y : List Float} {t : Float} (area : List Float)
@@ -115,25 +136,38 @@ module _ (h : Held) where
     again radius = at-pass (r .arguments) (r .iteration .pass + 1) (r .iteration .perturbation) radius r
 
     on-pass : (t : Bool) (w : Vectors) (radius : Float) → r .phase ≡ P.Pass → r .iteration .pass ≤ 12 → (t ≡ false → r .iteration .pass < 12)
+        → Long-in r w → w state ≡ now state
         → Comes (settled c (cond t (begin-stages r w (radius-after r w)) (ask-pass (again radius) w)))
-    unfolding settled going-on counted begin-stages by-need ask-stage ask-pass at-pass
-    on-pass true w radius p twelve below = rw (need-is (setting-of r) (radius-after r w)) (begins w _ _ _ p twelve)
-    on-pass false w radius p twelve below = iterates _ radius _ _ p (below refl)
+    unfolding settled going-on counted begin-stages by-need ask-stage ask-pass at-pass first-stage perturbed perturbed-by
+    on-pass true w radius p twelve below long same =
+        let mu = first-after r w .«theta_previous» in
+        let back = unpack-pack (its-family r) (r .n) (first-stage (r .n) (r .arguments .step) mu w)
+        (long-first (its-family r) (r .n) (r .arguments .step) mu w long) in
+        rw (need-is (setting-of r) (radius-after r w))
+        (begins w _ _ _ p twelve (ap (λ (v : Vectors). v state) back ∙ same) (ap (λ (v : Vectors). v eigenvector) back))
+    on-pass false w radius p twelve below long same =
+        let back = unpack-pack (its-family r) (r .n) (perturbed (r .n) (r .iteration .perturbation) w)
+        (long-perturbed (its-family r) (r .n) (r .iteration .perturbation) w long) in
+        iterates _ radius _ _ p (below refl) (ap (λ (v : Vectors). v state) back ∙ same)
 
-    on-last-stage : (w : Vectors) → r .phase ≡ P.Stage → j ≡ s → Comes (settled c (ask-candidate r w))
+    -- of vectors that are packed
+    packed-stay : (w : Vectors) → Long-in r w → Both-stay now w → Both-stay now (unpack (r .n) (pack w))
+    packed-stay w long b = subst (Both-stay now) (sym (unpack-pack (its-family r) (r .n) w long)) b
+
+    on-last-stage : (w : Vectors) → r .phase ≡ P.Stage → j ≡ s → Long-in r w → Both-stay now w → Comes (settled c (ask-candidate r w))
     unfolding settled going-on counted ask-candidate
-    on-last-stage w p e = go (all-finite (w candidate))
+    on-last-stage w p e long both = go (all-finite (w candidate))
       where
         asked : Answer
         asked = Evaluate (r .arguments .time ⊕ r .arguments .step) (number candidate)
 
         go : (t : Bool) → Comes (settled c (cond t (step-to asked (in-phase P.Candidate r) w) (step-to (Refused 10) (in-phase P.Empty r) w)))
-        go true = asks-candidate _ _ _ p e
+        go true = asks-candidate _ _ _ p e (packed-stay w long both)
         go false = spoils 10 _
 
-    on-stage : (v : Vectors) → r .phase ≡ P.Stage → good-stage (setting-of r) s j ≡ true → Comes (settled c (take-stage r v d))
-    unfolding settled going-on counted take-stage ask-stage at-stage
-    on-stage v p good = go (ltb j s) refl
+    on-stage : r .phase ≡ P.Stage → good-stage (setting-of r) s j ≡ true → Long-in r now → length d ≡ r .n → Comes (settled c (take-stage r now d))
+    unfolding settled going-on counted take-stage ask-stage at-stage with-row-in exchanged with-candidate
+    on-stage p good lv ld = go (ltb j s) refl
       where
         m : Setting
         m = setting-of r
@@ -145,7 +179,13 @@ module _ (h : Held) where
         row = coefficients m s j (r .staging .recurrence)
 
         w : Vectors
-        w = with-row m (r .n) (r .arguments .step) row v d
+        w = with-row m (r .n) (r .arguments .step) row now d
+
+        long : Long-in r w
+        long = long-row (its-family r) (r .n) (facts-of (kind m) .row) (r .arguments .step) row now d lv ld
+
+        both : Both-stay now w
+        both = record { state-stays = refl; eigenvector-stays = refl }
 
         last : Vectors
         last = with-candidate m (r .n) (r .arguments .step) s (r .staging .recurrence) row w
@@ -155,39 +195,46 @@ module _ (h : Held) where
 
         go : (t : Bool) → ltb j s ≡ t → Comes (settled c (cond t (ask-stage on (exchanged w)) (ask-candidate r last)))
         go true e = goes-on _ _ _ p (ltb-true j s e)
+            (packed-stay (exchanged w) (long-exchanged (its-family r) (r .n) w long) (record { state-stays = refl; eigenvector-stays = refl }))
         go false e = on-last-stage last p (let l = ltb-false j s e in omega (arith, to))
+            (long-candidate (its-family r) (r .n) m (r .arguments .step) s (r .staging .recurrence) row w long)
+            (record { state-stays = refl; eigenvector-stays = refl })
 
-    by-phase : (φ : Phase) (v : Vectors) → r .phase ≡ φ → pending φ && in-range φ r ≡ true → Long-in r v → length d ≡ r .n
-        → Comes (settled c (replied φ r v d))
-    unfolding replied pending in-range take-first take-callback take-pass take-candidate settled going-on counted
-    by-phase P.Empty v p good lv ld = readies _
-    by-phase P.First v p good lv ld = readies _
-    by-phase P.Ready v p good lv ld = readies _
-    by-phase P.Pass v p good lv ld = let i = r .iteration in
-        let w = turned (r .n) v d in
+    last-stays : (t : Bool) → Both-stay now (cond t
+        (now with last-derivative ≔ d with derivative ≔ each (r .n) (now with last-derivative ≔ d) (error (setting-of r) (r .arguments .step)))
+        (now with last-derivative ≔ d))
+    last-stays true = record { state-stays = refl; eigenvector-stays = refl }
+    last-stays false = record { state-stays = refl; eigenvector-stays = refl }
+
+    by-phase : (φ : Phase) → r .phase ≡ φ → pending φ && in-range φ r ≡ true → Long-in r now → length d ≡ r .n
+        → Comes (settled c (replied φ r now d))
+    unfolding replied pending in-range take-first take-callback take-pass take-candidate settled going-on counted turned with-last
+    by-phase P.Empty p good lv ld = readies _
+    by-phase P.First p good lv ld = readies _
+    by-phase P.Ready p good lv ld = readies _
+    by-phase P.Pass p good lv ld = let i = r .iteration in
+        let w = turned (r .n) now d in
         let radius = radius-of (i .perturbation) w in
         let twelve = leb-true (i .pass) 12 (and-right (leb 1 (i .pass)) (leb (i .pass) 12) good) in
         let t = ended (i .pass) (i .«previous_radius») radius in
-        on-pass (t || eqb (i .pass) 12) w radius p twelve (not-twelve t (i .pass) twelve)
-    by-phase P.Stage v p good lv ld = on-stage v p good
-    by-phase P.Candidate v p good lv ld = let f = setting-of r in
-        finishes (with-last f (r .n) (r .arguments) v d) p good (long-last (its-family r) (r .n) f (r .arguments) v d lv ld)
-    by-phase P.Finished v p good lv ld = readies _
-    by-phase P.Callback v p good lv ld = readies _
+        on-pass (t || eqb (i .pass) 12) w radius p twelve (not-twelve t (i .pass) twelve) (long-turned (its-family r) (r .n) now d lv ld) refl
+    by-phase P.Stage p good lv ld = on-stage p good lv ld
+    by-phase P.Candidate p good lv ld = let f = setting-of r in
+        finishes (with-last f (r .n) (r .arguments) now d) p good (long-last (its-family r) (r .n) f (r .arguments) now d lv ld)
+        (last-stays (r .arguments .adaptive))
+    by-phase P.Finished p good lv ld = readies _
+    by-phase P.Callback p good lv ld = readies _
 
     on-reply : Comes (reply h d)
     unfolding reply reply-tests spoiled counted awaiting as-long
     on-reply = tested (reply-tests r c (h .area) d) _ refl (λ p. go (p .1 .1 .0) (p .1 .1 .1 .0) (all-finite d))
       where
-        v : Vectors
-        v = unpack (r .n) (h .area)
-
         W : Bool
         W = whole-area (r .family) (r .n) (h .area)
 
-        go : W && as-long (r .n) d ≡ true → awaiting r ≡ true → (t : Bool) → Comes (cond t (settled c (replied (r .phase) r v d)) (spoiled h))
+        go : W && as-long (r .n) d ≡ true → awaiting r ≡ true → (t : Bool) → Comes (cond t (settled c (replied (r .phase) r now d)) (spoiled h))
         go lengths good true =
-            by-phase (r .phase) v refl good (long-area (r .family) (r .n) (h .area) (and-left W (as-long (r .n) d) lengths))
+            by-phase (r .phase) refl good (long-area (r .family) (r .n) (h .area) (and-left W (as-long (r .n) d) lengths))
             (eqb-true (length d) (r .n) (and-right W (as-long (r .n) d) lengths))
         go lengths good false = spoils 9 (h .area)
 
@@ -198,8 +245,15 @@ module _ (h : Held) where
   on-start f n y t = tested (start-tests f n (h .area) y t) _ refl (λ _. starts _)
 
   on-attempt : (a : Arguments) → Outcome (Attempt a) (attempt h a)
-  unfolding attempt attempt-tests going-on attempted ask-pass
-  on-attempt a = tested (attempt-tests r (h .area) a) _ refl (λ _. attempts (unpack (r .n) (h .area)) _ _ _)
+  unfolding attempt attempt-tests going-on attempted ask-pass at-pass perturbed perturbed-by
+  on-attempt a = tested (attempt-tests r (h .area) a) _ refl (λ p. attempts now _ _ _ (kept (long-area (r .family) (r .n) (h .area) (p .1 .1 .0))))
+    where
+      π : Float
+      π = perturbation-of now
+
+      kept : Long-in r now → unpack (r .n) (pack (perturbed (r .n) π (with-direction (r .n) now))) state ≡ now state
+      kept long = ap (λ (v : Vectors). v state) (unpack-pack (its-family r) (r .n) (perturbed (r .n) π (with-direction (r .n) now))
+          (long-perturbed (its-family r) (r .n) π (with-direction (r .n) now) (long-direction (its-family r) (r .n) now long))) ∙ direction-state (r .n) now
 
   pub outcome : (q : Call) → Outcome q (made h q)
   unfolding made going-on accept accept-tests accepted accept-with-callback callback-tests called-back abandon abandon-tests

@@ -125,14 +125,14 @@ module _ (h : Held) (calls : List Call) where
   unfolding taken in-phase first-at active pending
   trail-on t c x is (away i e) on = passes-by c x is e refl (t on)
   trail-on t c x is (starts area) on = absurd (differ on)
-  trail-on t (Attempt a) x is (attempts v s b area) on = attempts-now a x is (attempts v s b area) refl
+  trail-on t (Attempt a) x is (attempts v s b area same) on = attempts-now a x is (attempts v s b area same) refl
   trail-on t c x is (spoils i area) on = absurd (differ on)
   trail-on t c x is (readies area) on = absurd (differ on)
-  trail-on t (Reply d) x is (iterates s radius b area p below) on = from-phase P.Pass refl t p d x is (iterates s radius b area p below) refl on
-  trail-on t (Reply d) x is (begins w s b area p twelve) on = from-phase P.Pass refl t p d x is (begins w s b area p twelve) refl on
-  trail-on t (Reply d) x is (goes-on s b area p below) on = from-phase P.Stage refl t p d x is (goes-on s b area p below) refl on
-  trail-on t (Reply d) x is (asks-candidate s b area p at) on = from-phase P.Stage refl t p d x is (asks-candidate s b area p at) refl on
-  trail-on t (Reply d) x is (finishes w p good long) on = from-phase P.Candidate refl t p d x is (finishes w p good long) refl on
+  trail-on t (Reply d) x is (iterates s radius b area p below same) on = from-phase P.Pass refl t p d x is (iterates s radius b area p below same) refl on
+  trail-on t (Reply d) x is (begins w s b area p twelve same turned) on = from-phase P.Pass refl t p d x is (begins w s b area p twelve same turned) refl on
+  trail-on t (Reply d) x is (goes-on s b area p below both) on = from-phase P.Stage refl t p d x is (goes-on s b area p below both) refl on
+  trail-on t (Reply d) x is (asks-candidate s b area p at both) on = from-phase P.Stage refl t p d x is (asks-candidate s b area p at both) refl on
+  trail-on t (Reply d) x is (finishes w p good long both) on = from-phase P.Candidate refl t p d x is (finishes w p good long both) refl on
   trail-on t c x is (accepts area) on = absurd (differ on)
   trail-on t c x is (calls-back area) on = absurd (differ on)
   trail-on t c x is abandons on = absurd (differ on)

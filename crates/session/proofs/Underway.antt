@@ -1,33 +1,35 @@
 -- An attempt under way, as record and counters tell it: an attempt that is taken begins it, and each reply that is taken goes on with it, up to finished.
 -- And what an answer "finished" leaves; the family and the n stand but for a start. From the outcomes of a call, and Signs (r is not below 0).
-use mathlib.Core.Path.{_≡_, refl, sym, ap, ap₂, _∙_, subst}
+-- ⊗ ⊘ are operations on doubles: they round.
+use mathlib.Core.Path.{_≡_, refl, sym, ap, _∙_, subst}
 use mathlib.Core.Bool.{Bool, true, false}
 use mathlib.Core.List.{List}
-use Prim.Native.Nat.{ℕ, suc, _+_, _-_, _≤_}
+use Prim.Native.Nat.{ℕ, _+_, _-_, _≤_}
 use native.Mathlib.Omega.{arith}
 use lib.Ieee.{Float}
-use Rattle.ieee.specs.Double.{nought}
-use Rattle.family.specs.Family.{family-of, stage-count, setting}
+use Rattle.ieee.specs.Double.{_⊗_, _⊘_, root-epsilon, nought, one}
+use Rattle.ieee.specs.Whole.{max}
+use Rattle.family.specs.Family.{family-of, stage-count}
 use Rattle.family.proofs.Range.{permitted-range}
 use Rattle.family.proofs.Counts.{stage-count-permitted}
-use Rattle.coefficients.specs.declared.Recurrence.{Recurrence}
 use Rattle.coefficients.specs.Rows.{carried, carried-of}
 use Rattle.coefficients.proofs.Carried.{carried-next}
 use Rattle.workspace.specs.declared.Arguments.{Arguments}
-use Rattle.workspace.specs.Vectors.{Vectors, unpack}
-use Rattle.workspace.specs.Kernel.{radius-of}
+use Rattle.workspace.specs.Vectors.{Vectors, unpack, vector-norm, eigenvector, state}
+use Rattle.workspace.specs.Kernel.{perturbation-of, radius-of, scaled}
 use Rattle.workspace.proofs.Areas.{unpack-pack}
 use Rattle.driver.specs.declared.Phase.{Phase}
 use Rattle.driver.specs.declared.Phase.the-variants as P
+use Rattle.driver.specs.declared.Record.{Record}
 use Rattle.driver.specs.declared.Answer.the-variants.{Finished}
 use Rattle.driver.specs.Answers.{case-number}
 use Rattle.driver.specs.Calls.{Held, Called, in-phase, first-at, at-pass, with-radius, at-stage, pending, figures-after, good-end, Call, Attempt, Reply, taken}
 use Rattle.driver.specs.Calls.{setting-of, is-start}
-use Rattle.session.specs.Concluded.{stages-of, passes-of, scaled-radius-of, Suits}
+use Rattle.session.specs.Concluded.{stages-of, passes-of, scaled-radius-of, radius-left, Suits}
 use Rattle.session.proofs.Truth.{differ}
 use Rattle.session.proofs.Lengths.{its-family}
 use Rattle.session.proofs.Signs.{Plus, not-below, perturbation-plus, radius-plus, scaled-plus}
-use Rattle.session.proofs.Outcomes.{radius-after, Outcome, away, starts, attempts, spoils, readies}
+use Rattle.session.proofs.Outcomes.{radius-after, Both-stay, Outcome, away, starts, attempts, spoils, readies}
 use Rattle.session.proofs.Outcomes.{iterates, begins, goes-on, asks-candidate, finishes, accepts, calls-back, abandons}
 
 -- ---- the phases of an attempt
@@ -60,11 +62,13 @@ pub record In-passes (g : Held) (m : ℕ) (x : Held) : Type 0 where
   pub pass-is : passes-of x ≡ m + 1
   pub to-twelve : passes-of x ≤ 12
   pub no-radius-yet : scaled-radius-of x ≡ nought
+  pub perturbation-is : x .kept .iteration .perturbation ≡ perturbation-of (unpack (x .kept .n) (x .area))
   pub unsigned : Plus (x .kept .iteration .perturbation)
   pub attempts-are : x .counters .«finished_attempts» ≡ g .counters .«finished_attempts»
 
 -- and then: so many replies to come, so many finished attempts more
 pub record In-stages (g : Held) (m to-come finished : ℕ) (x : Held) : Type 0 where
+  pub radius-is : scaled-radius-of x ≡ radius-left (x .kept .arguments) (unpack (x .kept .n) (x .area))
   pub suits : Suits (x .kept .family) (passes-of x) (stages-of x) (scaled-radius-of x)
   pub replies-are : m + to-come ≡ stages-of x + passes-of x
   pub from-two : 2 ≤ x .kept .staging .stage
@@ -87,6 +91,24 @@ pub record Underway (g : Held) (a : Arguments) (m : ℕ) (x : Held) : Type 0 whe
   pub evaluations-are : x .counters .evaluations ≡ g .counters .evaluations + m
   pub position : Position g m x (x .kept .phase)
 
+-- the perturbation is told by the state, and r by the state and the eigenvector
+perturbation-same : (v w : Vectors) → w state ≡ v state → perturbation-of v ≡ perturbation-of w
+unfolding perturbation-of
+perturbation-same v w e = ap (λ (y : List Float). root-epsilon ⊗ max (vector-norm y) one) (sym e)
+
+left-same : (a : Arguments) (v w : Vectors) → Both-stay v w → radius-left a v ≡ radius-left a w
+unfolding radius-left radius-of
+left-same a v w b =
+    ap (λ (p : Float). scaled (a .step) (vector-norm (v eigenvector) ⊘ p)) (perturbation-same v w (b .state-stays))
+    ∙ ap (λ (y : List Float). scaled (a .step) (vector-norm y ⊘ perturbation-of w)) (sym (b .eigenvector-stays))
+
+found-same : (r : Record) (w v : Vectors) → r .iteration .perturbation ≡ perturbation-of v → v eigenvector ≡ w eigenvector
+    → radius-after r w ≡ radius-left (r .arguments) v
+unfolding radius-left radius-of
+found-same r w v e f =
+    ap (λ (p : Float). scaled (r .arguments .step) (vector-norm (w eigenvector) ⊘ p)) e
+    ∙ ap (λ (y : List Float). scaled (r .arguments .step) (vector-norm y ⊘ perturbation-of v)) (sym f)
+
 -- every count is at least 2
 least-count : (f : ℕ) (r : Float) → 2 ≤ stage-count (family-of f) r
 least-count f r = permitted-range (family-of f) (stage-count (family-of f) r) (stage-count-permitted (family-of f) r) .0
@@ -102,16 +124,26 @@ pub attempt-begins : (g : Held) (a : Arguments) (y : Called) → Outcome g (Atte
     → Underway g a 0 (y .held) × (pending (y .held .kept .phase) ≡ true)
 unfolding at-pass pending
 attempt-begins g a y (away i e) q = absurd (differ (sym e ∙ q))
-attempt-begins g a y (attempts v t b area) q = (
+attempt-begins g a y (attempts v t b area same) q = (
   record {
     arguments-are = refl;
     evaluations-are = omega arith;
-    position = record { pass-is = refl; to-twelve = omega arith; no-radius-yet = refl; unsigned = perturbation-plus v; attempts-are = refl };
+    position = record {
+      pass-is = refl;
+      to-twelve = omega arith;
+      no-radius-yet = refl;
+      perturbation-is = perturbation-same v _ same;
+      unsigned = perturbation-plus v;
+      attempts-are = refl;
+    };
   },
   refl,
 )
 
 module _ (g : Held) (a : Arguments) (m : ℕ) (x : Held) (u : Underway g a m x) where
+  abbrev now : Vectors
+  now = unpack (x .kept .n) (x .area)
+
   at-phase : (φ : Phase) → x .kept .phase ≡ φ → Position g m x φ
   at-phase φ p = subst (Position g m x) p (u .position)
 
@@ -120,7 +152,7 @@ module _ (g : Held) (a : Arguments) (m : ℕ) (x : Held) (u : Underway g a m x) 
   reply-goes d y (away i e) q on = absurd (differ (sym e ∙ q))
   reply-goes d y (spoils i area) q on = absurd (differ on)
   reply-goes d y (readies area) q on = absurd (differ on)
-  reply-goes d y (iterates t radius b area p below) q on = let i = at-phase P.Pass p in record {
+  reply-goes d y (iterates t radius b area p below same) q on = let i = at-phase P.Pass p in record {
     underway = record {
       arguments-are = u .arguments-are;
       evaluations-are = omega arith;
@@ -128,19 +160,21 @@ module _ (g : Held) (a : Arguments) (m : ℕ) (x : Held) (u : Underway g a m x) 
         pass-is = omega arith;
         to-twelve = (let l = below in omega arith);
         no-radius-yet = refl;
+        perturbation-is = i .perturbation-is ∙ perturbation-same now _ same;
         unsigned = i .unsigned;
         attempts-are = i .attempts-are;
       };
     };
     answered = refl;
   }
-  reply-goes d y (begins w t b area p twelve) q on = let i = at-phase P.Pass p in
+  reply-goes d y (begins w t b area p twelve same turned) q on = let i = at-phase P.Pass p in
       let r = x .kept in
       let plus = radius-plus (r .iteration .perturbation) w (i .unsigned) in record {
         underway = record {
           arguments-are = u .arguments-are;
           evaluations-are = omega arith;
           position = record {
+            radius-is = found-same r w _ (i .perturbation-is ∙ perturbation-same now _ same) turned;
             suits = record {
               one-pass = omega arith;
               twelve-passes = twelve;
@@ -156,11 +190,12 @@ module _ (g : Held) (a : Arguments) (m : ℕ) (x : Held) (u : Underway g a m x) 
         };
         answered = refl;
       }
-  reply-goes d y (goes-on t b area p below) q on = let i = at-phase P.Stage p in record {
+  reply-goes d y (goes-on t b area p below both) q on = let i = at-phase P.Stage p in record {
     underway = record {
       arguments-are = u .arguments-are;
       evaluations-are = omega arith;
       position = record {
+        radius-is = i .radius-is ∙ left-same (x .kept .arguments) now _ both;
         suits = i .suits;
         replies-are = omega arith;
         from-two = (let l = i .from-two in omega arith);
@@ -172,11 +207,12 @@ module _ (g : Held) (a : Arguments) (m : ℕ) (x : Held) (u : Underway g a m x) 
     };
     answered = refl;
   }
-  reply-goes d y (asks-candidate t b area p at) q on = let i = at-phase P.Stage p in record {
+  reply-goes d y (asks-candidate t b area p at both) q on = let i = at-phase P.Stage p in record {
     underway = record {
       arguments-are = u .arguments-are;
       evaluations-are = omega arith;
       position = record {
+        radius-is = i .radius-is ∙ left-same (x .kept .arguments) now _ both;
         suits = i .suits;
         replies-are = omega arith;
         from-two = i .from-two;
@@ -187,11 +223,13 @@ module _ (g : Held) (a : Arguments) (m : ℕ) (x : Held) (u : Underway g a m x) 
     };
     answered = refl;
   }
-  reply-goes d y (finishes w p good long) q on = let i = at-phase P.Candidate p in record {
+  reply-goes d y (finishes w p good long both) q on = let i = at-phase P.Candidate p in record {
     underway = record {
       arguments-are = u .arguments-are;
       evaluations-are = omega arith;
       position = record {
+        radius-is = i .radius-is ∙ left-same (x .kept .arguments) now _
+            (subst (Both-stay now) (sym (unpack-pack (its-family (x .kept)) (x .kept .n) w long)) both);
         suits = i .suits;
         replies-are = omega arith;
         from-two = i .from-two;
@@ -211,14 +249,14 @@ pub stays : (x : Held) (c : Call) (y : Called) → Outcome x c y → is-start c 
 unfolding in-phase first-at at-pass with-radius at-stage is-start
 stays x c y (away i e) other = (refl, refl)
 stays x c y (starts area) other = absurd (differ (sym other))
-stays x c y (attempts v t b area) other = (refl, refl)
+stays x c y (attempts v t b area same) other = (refl, refl)
 stays x c y (spoils i area) other = (refl, refl)
 stays x c y (readies area) other = (refl, refl)
-stays x c y (iterates t radius b area p below) other = (refl, refl)
-stays x c y (begins w t b area p twelve) other = (refl, refl)
-stays x c y (goes-on t b area p below) other = (refl, refl)
-stays x c y (asks-candidate t b area p at) other = (refl, refl)
-stays x c y (finishes w p good long) other = (refl, refl)
+stays x c y (iterates t radius b area p below same) other = (refl, refl)
+stays x c y (begins w t b area p twelve same turned) other = (refl, refl)
+stays x c y (goes-on t b area p below both) other = (refl, refl)
+stays x c y (asks-candidate t b area p at both) other = (refl, refl)
+stays x c y (finishes w p good long both) other = (refl, refl)
 stays x c y (accepts area) other = (refl, refl)
 stays x c y (calls-back area) other = (refl, refl)
 stays x c y abandons other = (refl, refl)
@@ -233,14 +271,14 @@ pub leaves-finished : (x : Held) (c : Call) (y : Called) → Outcome x c y → c
 unfolding case-number in-phase
 leaves-finished x c y (away i e) two = absurd (omega arith)
 leaves-finished x c y (starts area) two = absurd (omega arith)
-leaves-finished x c y (attempts v t b area) two = absurd (omega arith)
+leaves-finished x c y (attempts v t b area same) two = absurd (omega arith)
 leaves-finished x c y (spoils i area) two = absurd (omega arith)
 leaves-finished x c y (readies area) two = absurd (omega arith)
-leaves-finished x c y (iterates t radius b area p below) two = absurd (omega arith)
-leaves-finished x c y (begins w t b area p twelve) two = absurd (omega arith)
-leaves-finished x c y (goes-on t b area p below) two = absurd (omega arith)
-leaves-finished x c y (asks-candidate t b area p at) two = absurd (omega arith)
-leaves-finished x c y (finishes w p good long) two = record {
+leaves-finished x c y (iterates t radius b area p below same) two = absurd (omega arith)
+leaves-finished x c y (begins w t b area p twelve same turned) two = absurd (omega arith)
+leaves-finished x c y (goes-on t b area p below both) two = absurd (omega arith)
+leaves-finished x c y (asks-candidate t b area p at both) two = absurd (omega arith)
+leaves-finished x c y (finishes w p good long both) two = record {
   phase-is = refl;
   told-in-range = good;
   figures-are = ap (λ (v : Vectors). Finished (figures-after (x .kept) v)) (sym (unpack-pack (its-family (x .kept)) (x .kept .n) w long));

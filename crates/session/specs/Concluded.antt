@@ -1,5 +1,5 @@
 -- What an answer "finished" stands for, wherever it comes in a sequence of calls: the attempt, the replies since it, the counters, and the s, k and r that it
--- tells (`Concluded`); which r that is, `every-sequence` says. And what the record carries wherever a stage awaits its derivative (`Carries`).
+-- tells (`Concluded`). And what the record carries wherever a stage awaits its derivative (`Carries`).
 -- Document 01: demand 2's domain is "every call that the last table does not turn away, in a sequence from a start that it does not turn away either";
 -- "The evaluations of one finished attempt are s + k, with k from 1 to 12, each one reply"; demand 3 "holds also of the s that a finished attempt ran, for
 -- its own r where that is finite". Document 02, CR 2: the finished answer carries "s, k and the scaled radius beside the norm, and the record keeps them until
@@ -26,8 +26,8 @@ use Rattle.rkmc2_omega_one.specs.Table as rkmc2-one
 use Rattle.coefficients.specs.Closeness.{Close-row}
 use Rattle.coefficients.specs.Multiplier.{Stable}
 use Rattle.workspace.specs.declared.Arguments.{Arguments}
-use Rattle.workspace.specs.Vectors.{unpack}
-use Rattle.workspace.specs.Kernel.{error-norm}
+use Rattle.workspace.specs.Vectors.{Vectors, unpack}
+use Rattle.workspace.specs.Kernel.{perturbation-of, radius-of, scaled, error-norm}
 use Rattle.driver.specs.declared.Phase.the-variants as P
 use Rattle.driver.specs.declared.Figures.{Figures}
 use Rattle.driver.specs.Answers.{case-number}
@@ -87,6 +87,10 @@ passes-of x = x .kept .iteration .pass
 abbrev pub scaled-radius-of : Held → Float
 scaled-radius-of x = x .kept .iteration .«scaled_radius»
 
+-- r, as the state and the eigenvector that an attempt leaves tell it: from the first stage on it moves neither
+unfoldable pub radius-left : Arguments → Vectors → Float
+radius-left a v = scaled (a .step) (radius-of (perturbation-of v) v)
+
 -- what holds of k, s and r once an attempt has them
 pub record Suits (family k s : ℕ) (r : Float) : Type 0 where
   pub one-pass : 1 ≤ k
@@ -102,7 +106,7 @@ pub record Demand-three (g : Orthogonal) (r : Float) (s : ℕ) : Type 0 where
   pub stable : Stable g s
 
 -- The last of these calls from h on is answered "finished", and told are its norm, s, k and r; x is what it leaves. An attempt was taken, and the calls taken
--- since are s + k replies and no other call, answered by evaluations and at last by finished, with the norm of the vectors that are left.
+-- since are s + k replies and no other call, answered by evaluations and at last by finished, with norm and r of the vectors that are left.
 pub record Concluded (h : Held) (calls : List Call) (told : Figures) (x : Held) : Type 0 where
   pub start : Latest-start h calls
   pub family-is : x .kept .family ≡ start .family
@@ -116,6 +120,7 @@ pub record Concluded (h : Held) (calls : List Call) (told : Figures) (x : Held) 
   pub replies-are : length replies ≡ told .stages + told .passes
   pub answers-are : cases-since attempt ≡ replicate (length replies - 1) 1 ++ 2 ∷ []
   pub norm-is : told .norm ≡ error-norm (setting (start .family)) (start .n) (told .stages) arguments (unpack (start .n) (x .area))
+  pub radius-is : told .«scaled_radius» ≡ radius-left arguments (unpack (start .n) (x .area))
   pub suits : Suits (start .family) (told .passes) (told .stages) (told .«scaled_radius»)
   pub evaluations-are : x .counters .evaluations ≡ found attempt .counters .evaluations + (told .stages + told .passes)
   pub attempts-are : x .counters .«finished_attempts» ≡ found attempt .counters .«finished_attempts» + 1
