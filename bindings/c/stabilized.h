@@ -98,8 +98,9 @@ enum {
  * engine reads them fastest.
  *
  * stages, pass and scaled_radius are s, k and r of a finished answer from that answer until the next attempt that is taken:
- * accept, a callback and its reply, start, abandon and every call that is turned away keep them. Such an attempt sets pass to 1
- * and scaled_radius to 0; stages stands until its own stages begin. */
+ * accept, a callback and its reply, start, abandon and every call that is turned away keep them. Such an attempt sets pass
+ * to 1 and scaled_radius to 0; stages stands until its own stages begin. An attempt that is abandoned or turned away with 9
+ * or 10 leaves the three as they stood at that call; they are then not those of a finished answer. */
 typedef struct {
   uint64_t family;
   uint64_t n;

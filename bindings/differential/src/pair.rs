@@ -1,6 +1,6 @@
 //! The engine and the Rust side by side: each call goes to both, and time, point, answer, counts, norm, s, k, r and all eleven
-//! vectors are compared, bit for bit with NaN matching NaN. s, k and r of the Rust are its own: the evaluations of its power
-//! iteration and of the rest of the attempt, and what that iteration comes to.
+//! vectors are compared, bit for bit with NaN matching NaN. k and s of the Rust are the evaluations of its power iteration and
+//! of the rest of its attempt; r is |step| times what `spectral_radius` gives, multiplied here as driver.rs does.
 //!
 //! The Rust evaluates inside a call. To see its vectors at an evaluation, it is run again from a copy up to there, where
 //! the right-hand side stops it before a derivative is written. That is done at each evaluation of an attempt with up to 200
@@ -19,9 +19,6 @@ use stabilized::calls::{self, Answer, Counters, Record, VECTORS, Wholes, code, p
 use std::cell::{Cell, RefCell};
 use std::collections::BTreeMap;
 
-/// From this r on the Rust's stage count of RKC overflows: a listed difference.
-pub const RKC_OVERFLOW: f64 = f64::from_bits(0x47E4_C77B_0353_1DEC);
-
 /// The largest count of the families but RKMC2. Above it attempts are long: fewer are made, and less often all is looked at.
 pub const SHORT: usize = 200;
 
@@ -36,7 +33,41 @@ pub enum Ending {
     /// Left with an evaluation pending, for a start in the middle.
     Pending,
     /// RKC with an r at which the Rust's count overflows: of the Rust only the power iteration was run.
-    LeftOut,
+    LeftOut(Alone),
+}
+
+/// How an attempt ended whose stages the engine ran alone.
+#[derive(Clone, Copy, Debug, PartialEq)]
+pub enum Alone {
+    Finished,
+    BadDerivative,
+    BadCandidate,
+}
+
+impl Alone {
+    pub const ALL: [Self; 3] = [Self::Finished, Self::BadDerivative, Self::BadCandidate];
+
+    /// What it is counted as.
+    pub const fn name(self) -> &'static str {
+        match self {
+            Self::Finished => "left out, finished",
+            Self::BadDerivative => "left out, ended with 9",
+            Self::BadCandidate => "left out, ended with 10",
+        }
+    }
+
+    /// Whether it made as many evaluations as it must: all of the s + k, or all but that of the candidate. A bad derivative
+    /// may come at each.
+    fn made(self, evaluations: u64, all: u64) -> Result<(), String> {
+        let right = match self {
+            Self::Finished => evaluations == all,
+            Self::BadCandidate => evaluations + 1 == all,
+            Self::BadDerivative => evaluations <= all,
+        };
+        right
+            .then_some(())
+            .ok_or_else(|| format!("{evaluations} evaluations of {all}, {self:?} at an overflow"))
+    }
 }
 
 /// What is done at an evaluation instead of replying.
@@ -109,6 +140,7 @@ impl Pair {
         if self.strict
             && let Some(mut trace) = trace.take()
         {
+            assert_eq!(self.record, Record::default());
             trace.begin(&self.counters, &self.area);
             self.trace = Some(trace);
         }
@@ -163,12 +195,10 @@ impl Pair {
     ) -> Compared {
         let iteration = self.iteration(arguments, replies);
         let outcome = self.engine(&Call::Attempt(arguments_of(arguments)))?;
-        match iteration {
-            Ok(iteration) if self.overflows(iteration) => {
-                self.left_out(outcome, replies, iteration)
-            }
+        match &iteration {
+            Ok(ended) if self.overflows(ended) => self.left_out(outcome, replies, ended),
             _ => self.follow(outcome, replies, stop, |oracle, rhs| {
-                oracle.figures(iteration, arguments, rhs).map(Some)
+                oracle.figures(&iteration, arguments, rhs).map(Some)
             }),
         }
     }
@@ -200,7 +230,7 @@ impl Pair {
     /// How many evaluations the Rust makes in an attempt; 1 where its count overflows, since it is not run there.
     pub fn evaluations(&self, arguments: oracle::Arguments, replies: &Replies) -> usize {
         let iteration = self.iteration(arguments, replies);
-        if iteration.is_ok_and(|iteration| self.overflows(iteration)) {
+        if iteration.is_ok_and(|ended| self.overflows(&ended)) {
             return 1;
         }
         let run = |oracle: &mut Oracle, rhs: &Rhs| oracle.attempt(arguments, rhs).map(|_| None);
@@ -208,8 +238,8 @@ impl Pair {
     }
 
     /// Whether the Rust's stage count overflows after this iteration.
-    fn overflows(&self, iteration: Iteration) -> bool {
-        self.record.wholes.family == 1 && iteration.scaled_radius >= RKC_OVERFLOW
+    fn overflows(&self, iteration: &Iteration) -> bool {
+        oracle::overflows(self.record.wholes.family, iteration.scaled_radius)
     }
 
     /// The Rust's power iteration in the attempt that follows.
@@ -392,8 +422,9 @@ impl Pair {
     }
 
     /// RKC where the Rust's count overflows: the engine alone, which runs 200 stages. k and r are still the Rust's.
-    fn left_out(&mut self, first: Outcome, replies: &Replies, iteration: Iteration) -> Compared {
-        let mut outcome = first;
+    fn left_out(&mut self, first: Outcome, replies: &Replies, iteration: &Iteration) -> Compared {
+        let (mut outcome, mut passes) = (first, 0);
+        let before = self.counters.evaluations;
         let mut derivative = vec![0.0; self.n()];
         let expected = Kept {
             stages: 200,
@@ -404,6 +435,7 @@ impl Pair {
             if outcome.answer.code != code::EVALUATE {
                 break;
             }
+            passes += u64::from(self.record.wholes.phase == phase::PASS);
             let point = self.vector(outcome.answer.number as usize).to_vec();
             replies.evaluate(place, &mut derivative, &point, outcome.answer.time);
             outcome = self.engine(&Call::Reply {
@@ -414,7 +446,36 @@ impl Pair {
                 return Err(format!("at an overflow {held:?}, expected {expected:?}"));
             }
         }
-        Ok(Ending::LeftOut)
+        let alone = self.alone(&outcome.answer, &expected, &derivative, passes)?;
+        let evaluations = self.counters.evaluations - before;
+        alone.made(evaluations, expected.stages + expected.passes)?;
+        Ok(Ending::LeftOut(alone))
+    }
+
+    /// How an attempt ended whose stages the engine ran alone, by its answer and the last reply. The norm is the answer's own.
+    fn alone(
+        &mut self,
+        answer: &Answer,
+        expected: &Kept,
+        last: &[f64],
+        passes: u64,
+    ) -> Result<Alone, String> {
+        if answer.code == code::FINISHED {
+            let figures = Figures {
+                norm: answer.norm,
+                stages: expected.stages,
+                passes: expected.passes,
+                scaled_radius: expected.scaled_radius,
+            };
+            self.finished(answer, figures, passes)?;
+            return Ok(Alone::Finished);
+        }
+        if last.iter().all(|value| value.is_finite()) {
+            expect(answer, &refused(10))?;
+            return Ok(Alone::BadCandidate);
+        }
+        expect(answer, &refused(9))?;
+        Ok(Alone::BadDerivative)
     }
 
     /// The engine's vectors against the Rust's: all of them, or those that an attempt reads.
@@ -438,7 +499,7 @@ impl Pair {
         Ok(())
     }
 
-    /// Now and then a call that is turned away and changes nothing.
+    /// Now and then one of the calls of [`bad_calls`], where it is turned away and changes nothing.
     pub fn something_turned_away(&mut self) -> Result<(), String> {
         if !self.random.chance(3) {
             return Ok(());
@@ -447,12 +508,12 @@ impl Pair {
         self.turn_away(which)
     }
 
-    /// Every such call that is turned away here.
+    /// All calls of [`bad_calls`] that are turned away here.
     pub fn all_turned_away(&mut self) -> Result<(), String> {
         (0..BAD_CALLS).try_for_each(|which| self.turn_away(which))
     }
 
-    /// One of the calls that are turned away in most phases, if it is in this one.
+    /// One of the calls of [`bad_calls`], if it is turned away in this phase.
     fn turn_away(&mut self, which: usize) -> Result<(), String> {
         let n = self.n();
         let (one_too_long, infinite) = (vec![0.0; n + 1], vec![f64::INFINITY; n]);
@@ -470,9 +531,10 @@ impl Pair {
     }
 }
 
-const BAD_CALLS: usize = 10;
+const BAD_CALLS: usize = 15;
 
-/// Calls that are turned away, in every phase or in most: each brings something bad, or comes out of turn.
+/// Calls that are turned away in every phase or in some: each brings something bad, or comes out of turn. Together they
+/// are turned away with 1 to 7; with 8, for full counters, the random calls alone are.
 fn bad_calls<'a>(one_too_long: &'a [f64], infinite: &'a [f64]) -> [Call<'a>; BAD_CALLS] {
     let n = infinite.len();
     let good = Start {
@@ -488,21 +550,26 @@ fn bad_calls<'a>(one_too_long: &'a [f64], infinite: &'a [f64]) -> [Call<'a>; BAD
             ..Arguments::default()
         })
     };
-    let (state, derivative, time) = (one_too_long, one_too_long, f64::NAN);
+    let start = |state| Call::Start(Start { state, ..good });
+    let reply = |derivative| Call::Reply { derivative };
+    let callback = |state, time| Call::AcceptWithCallback { state, time };
+    let time = f64::NAN;
     [
         Call::Start(Start { family: 7, ..good }),
         Call::Start(Start { n: 513, ..good }),
-        Call::Start(Start { state, ..good }),
+        start(one_too_long),
         Call::Start(Start { time, ..good }),
-        Call::Start(Start {
-            state: infinite,
-            ..good
-        }),
+        start(infinite),
         attempt(0.0),
         attempt(1.0),
-        Call::Reply { derivative },
-        Call::AcceptWithCallback { state, time: 0.0 },
+        reply(one_too_long),
+        reply(good.state),
+        callback(one_too_long, 0.0),
+        callback(infinite, 0.0),
+        callback(good.state, time),
+        callback(good.state, 0.0),
         Call::Accept,
+        Call::Abandon,
     ]
 }
 

@@ -18,8 +18,8 @@ pub struct Answers {
     families: BTreeSet<u64>,
     /// Family and stage count of records in the candidate's phase whose reply was turned away with 4 for that count.
     stages: BTreeSet<(u64, u64)>,
-    /// The pass of records in that phase for which alone a call was turned away with 4, or was not, by name, pass and
-    /// whether it was.
+    /// Replies and abandons in that phase with a permitted stage count, by name, the record's pass, and whether they were
+    /// turned away with 4, which is then for the pass alone.
     passes: BTreeSet<(&'static str, u64, bool)>,
 }
 
@@ -33,7 +33,8 @@ fn outside(family: u64) -> [u64; 2] {
 }
 
 impl Answers {
-    /// The numbers of the lists that no call gave, and the families and counts next to the permitted ones that none had.
+    /// The numbers of the lists that no call gave; the families and counts next to the permitted ones that none had; and the
+    /// passes of [`PASSES`] that no reply or no abandon had.
     pub fn missing(&self) -> Vec<String> {
         let all = self.lists.iter();
         let numbers = all
@@ -84,7 +85,7 @@ impl Answers {
         }
     }
 
-    /// A reply or abandon in the candidate's phase, where at most one of the pass and the count of stages is bad.
+    /// A reply or abandon in the candidate's phase: counted only if at most one of the pass and the count of stages is bad.
     fn count_candidate(&mut self, name: &'static str, record: &Record, turned_away: bool) {
         let kept = record.wholes;
         if permitted(kept.family, kept.stages) {

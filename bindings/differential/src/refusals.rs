@@ -1,12 +1,15 @@
-//! Document 01, "When a call is turned away", stated anew from the document alone, with what each call leaves; families 1
-//! to 6 by document 02, CR 1, and by CR 2 what a finished answer carries and the record keeps.
+//! Document 01, "When a call is turned away", stated anew, with what each call leaves; families 1 to 6 by document 02, CR 1,
+//! and by CR 2 what a finished answer carries and the record keeps. It is stated from the documents alone, but for the stage
+//! count, which is the Rust's, and RKMC2's, which is by the stored thresholds.
 //!
 //! [`number`] gives the number of the first test from 1 to 9 that a call fails. [`check`] compares what an engine answered
 //! and left with what the document settles, number 10 included: whether a candidate is finite is seen in the area.
-use crate::pair::RKC_OVERFLOW;
+use crate::build::stored_thresholds;
 use crate::random::{all_same, same};
 use oracle::RKMC2;
+use oracle::thresholds::count_by;
 use stabilized::calls::{Answer, Counters, Doubles, Record, code, phase, vector};
+use std::sync::LazyLock;
 
 /// What start brings.
 #[derive(Clone, Copy, Debug)]
@@ -370,12 +373,19 @@ fn last_pass(record: &Record, radius: f64) -> bool {
     radius == 0.0 || (pass >= 2 && change <= 0.01 * radius.max(1.0)) || pass == 12
 }
 
-/// The Rust's count for r, and 200 where that overflows in RKC.
+/// RKMC2's, as they are stored: read once.
+static THRESHOLDS: LazyLock<Vec<f64>> = LazyLock::new(stored_thresholds);
+
+/// The count for r: RKMC2's by the thresholds, 200 where the Rust's overflows in RKC, and else the Rust's.
 fn stages_for(family: u64, scaled_radius: f64) -> u64 {
-    if family == 1 && scaled_radius >= RKC_OVERFLOW {
+    if oracle::overflows(family, scaled_radius) {
         return 200;
     }
-    oracle::stages(family, scaled_radius) as u64
+    let stages = match family {
+        RKMC2 => count_by(&THRESHOLDS, scaled_radius),
+        _ => oracle::stages(family, scaled_radius),
+    };
+    stages as u64
 }
 
 /// With the position among the stages of another record, and what they carry on.

@@ -1,15 +1,20 @@
 //! Seeded scenarios: the stage counts and pass counts one by one, radii that are no finite numbers, and random sessions of
 //! starts, attempts, rejections, accepts, callbacks and failures.
 use crate::model::{Bad, Model, Replies};
-use crate::pair::{Ending, Pair, SHORT, Stop};
+use crate::pair::{Alone, Ending, Pair, SHORT, Stop};
 use crate::random::{Random, mixed};
 use crate::trace::Trace;
-use oracle::{Arguments, Figures};
+use oracle::{Arguments, Figures, RKC};
 use stabilized::calls::{VECTORS, Wholes, phase, vector};
 use std::collections::BTreeMap;
 use std::fmt::{Display, Formatter};
 
 pub const DIMENSIONS: [usize; 8] = [1, 2, 3, 5, 8, 16, 64, 512];
+
+/// What a finished attempt with such a radius is counted as.
+pub const RADIUS_NAN: &str = "radius NaN";
+pub const RADIUS_INFINITE: &str = "radius infinite";
+const RADIUS_ZERO: &str = "radius zero";
 
 /// What every run reaches.
 const WANTED: [&str; 23] = [
@@ -28,9 +33,9 @@ const WANTED: [&str; 23] = [
     "negative steps",
     "norm not finite",
     "positive steps",
-    "radius NaN",
-    "radius infinite",
-    "radius zero",
+    RADIUS_NAN,
+    RADIUS_INFINITE,
+    RADIUS_ZERO,
     "rejected attempts",
     "starts",
     "starts not brought to an end",
@@ -38,9 +43,9 @@ const WANTED: [&str; 23] = [
     "tiny steps",
 ];
 
-/// The calls that a record keeps s, k and r through in every run, by name and number: those that are taken (0), those that are
-/// turned away and leave everything, and a reply that is turned away with 9.
-const KEPT_THROUGH: [(&str, u64); 19] = [
+/// The calls that a record keeps s, k and r through in every run, by name and number: those that are taken (0), the calls of
+/// `bad_calls`, which leave everything, and a reply that is turned away with 9. With 8 the random calls alone are turned away.
+const KEPT_THROUGH: [(&str, u64); 24] = [
     ("accept", 0),
     ("accept with callback", 0),
     ("reply to callback", 0),
@@ -56,8 +61,13 @@ const KEPT_THROUGH: [(&str, u64); 19] = [
     ("attempt", 6),
     ("attempt", 7),
     ("reply", 3),
+    ("reply", 4),
     ("accept", 4),
     ("accept with callback", 3),
+    ("accept with callback", 4),
+    ("accept with callback", 5),
+    ("accept with callback", 6),
+    ("abandon", 4),
     ("reply to callback", 9),
     ("reply to start", 9),
 ];
@@ -156,20 +166,29 @@ impl Coverage {
             .map(|(name, number)| format!("s, k and r kept through {name}, {number}"))
     }
 
-    /// How many finished attempts there were.
-    pub fn finished(&self) -> u64 {
-        self.kinds.get("finished attempts").copied().unwrap_or(0)
+    /// How often this was counted.
+    pub fn counted(&self, kind: &str) -> u64 {
+        self.kinds.get(kind).copied().unwrap_or(0)
     }
 
-    /// How many of them had a radius of this kind.
-    pub fn radius(&self, kind: &str) -> u64 {
-        let found = self
-            .kinds
-            .iter()
-            .find(|(name, _)| **name == format!("radius {kind}"));
-        found.map_or(0, |(_, count)| *count)
+    /// How many finished attempts there were, and how many of them had a special radius.
+    pub fn finished(&self) -> String {
+        format!(
+            "{} finished attempts: r NaN in {}, infinite in {}, zero in {}",
+            self.counted("finished attempts"),
+            self.counted(RADIUS_NAN),
+            self.counted(RADIUS_INFINITE),
+            self.counted(RADIUS_ZERO)
+        )
     }
 
+    /// Whether the stages of an attempt were run by the engine alone.
+    pub fn left_out(&self) -> bool {
+        let mut ends = Alone::ALL.into_iter();
+        ends.any(|alone| self.counted(alone.name()) > 0)
+    }
+
+    /// Of RKC also that an attempt is finished where the Rust's count overflows.
     fn missing_of(&self, family: u64) -> Vec<String> {
         let norms = oracle::permitted(family)
             .filter(|stages| !self.norms.contains_key(&(family, *stages as u64)))
@@ -179,6 +198,7 @@ impl Coverage {
             .map(|passes| format!("{passes} passes"));
         let endings = ENDINGS
             .into_iter()
+            .chain((family == RKC).then_some(Alone::Finished.name()))
             .filter(|ending| !self.endings.contains_key(&(family, ending)))
             .map(str::to_string);
         let early = early_of(family)
@@ -253,9 +273,9 @@ impl Coverage {
     /// The radius and norm of a finished attempt, where they are special.
     fn values(&mut self, scaled_radius: f64, norm: f64) {
         match scaled_radius {
-            r if r.is_nan() => self.count("radius NaN"),
-            0.0 => self.count("radius zero"),
-            f64::INFINITY => self.count("radius infinite"),
+            r if r.is_nan() => self.count(RADIUS_NAN),
+            0.0 => self.count(RADIUS_ZERO),
+            f64::INFINITY => self.count(RADIUS_INFINITE),
             _ => {}
         }
         if !norm.is_finite() {
@@ -272,7 +292,7 @@ fn named(ending: &Ending) -> Option<&'static str> {
         Ending::BadCandidate => Some("ended with 10"),
         Ending::Abandoned => Some("abandoned"),
         Ending::Pending => Some("left for a start in the middle"),
-        Ending::LeftOut => Some("left out: the overflow in RKC"),
+        Ending::LeftOut(alone) => Some(alone.name()),
         Ending::Ready => None,
     }
 }
@@ -462,8 +482,9 @@ impl Unbounded {
     }
 }
 
-/// Attempts with such a radius, and after each what keeps its s, k and r: every call that is turned away, accept, a callback
-/// and its reply, good and bad, a start abandoned and a start.
+/// Attempts with such a radius, and after each what keeps its s, k and r: the calls of `bad_calls`, accept, a callback and its
+/// reply, good and bad, a start abandoned and a start. In RKC an infinite one ends it after the first attempt, whose stages the
+/// engine runs alone, since the Rust's count overflows.
 pub struct Keeping {
     pub family: u64,
     pub radius: Unbounded,
@@ -471,8 +492,8 @@ pub struct Keeping {
 }
 
 impl Keeping {
-    /// The replies are drawn for each place and no function of the point. So the passes never agree, and end with the twelfth,
-    /// if the first derivative is of another seed.
+    /// The replies are drawn for each place and no function of the point. Every radius is infinite or a NaN, so no change is
+    /// small and twelve passes run. The first derivative is of another seed, or else the first departure would be 0.
     fn replies(&self, seed: u64) -> Replies {
         Replies::of(&Model::Noise {
             seed,
@@ -491,6 +512,10 @@ impl Keeping {
             .collect()
     }
 
+    fn overflows(&self) -> bool {
+        (self.family, self.radius) == (RKC, Unbounded::Infinite)
+    }
+
     /// An attempt whose step is so short that the stages stay finite.
     fn attempt(
         &self,
@@ -507,12 +532,15 @@ impl Keeping {
         };
         let ending = pair.attempt(arguments, replies, None)?;
         coverage.attempt(pair, &arguments, &ending);
-        match ending {
-            Ending::Finished(figures) if self.radius.is(figures.scaled_radius) => {
-                pair.all_turned_away()
-            }
-            other => Err(format!("got {other:?}")),
+        let finished = match ending {
+            Ending::LeftOut(Alone::Finished) => self.overflows(),
+            Ending::Finished(_) => !self.overflows(),
+            _ => false,
+        };
+        if !finished || !self.radius.is(pair.record.doubles.scaled_radius) {
+            return Err(format!("got {ending:?}"));
         }
+        pair.all_turned_away()
     }
 
     fn follow(
@@ -535,6 +563,9 @@ impl Keeping {
         };
         ended(start(pair, &good, None)?, Ending::Ready)?;
         self.attempt(pair, &drawn, coverage)?;
+        if self.overflows() {
+            return Ok(());
+        }
         pair.accept()?;
         pair.all_turned_away()?;
         self.attempt(pair, &drawn, coverage)?;
@@ -750,7 +781,8 @@ fn starts(
             coverage.count("starts not brought to an end");
             continue;
         }
-        if attempts(pair, random, wild, &model, coverage)? == Ending::LeftOut {
+        let ending = attempts(pair, random, wild, &model, coverage)?;
+        if matches!(ending, Ending::LeftOut(_)) {
             return Ok(());
         }
     }

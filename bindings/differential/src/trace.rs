@@ -63,7 +63,7 @@ impl Trace {
         self.words.extend(kept.into_iter().flatten());
     }
 
-    /// A session begins, with a record that holds zeros.
+    /// A session begins, with the default record, which holds zeros.
     pub fn begin(&mut self, counters: &Counters, area: &[f64]) {
         let n = area.len() / VECTORS;
         self.words.extend([

@@ -23,12 +23,14 @@ pub struct Arguments {
 }
 
 /// What the power iteration of an attempt comes to.
-#[derive(Clone, Copy, Debug, PartialEq)]
+#[derive(Clone, Debug, PartialEq)]
 pub struct Iteration {
     /// k.
     pub passes: u64,
-    /// r, |step| × 1.2 × radius.
+    /// r: |step| times what `spectral_radius` gives, multiplied here as driver.rs does.
     pub scaled_radius: f64,
+    /// As its last pass leaves it.
+    eigenvector: Vec<f64>,
 }
 
 /// What a finished attempt comes to: its error norm, s, k and r.
@@ -199,23 +201,30 @@ impl Oracle {
         Ok(Iteration {
             passes: copy.evaluations() - self.evaluations(),
             scaled_radius: arguments.step.abs() * radius,
+            eigenvector: copy.kernel.eigenvector,
         })
     }
 
     /// `attempt` after `iteration` on the same replies. What it evaluates beside the passes are its stages, stages 2 to s and
-    /// the candidate; that these are as many as the Rust's rule gives for r shows that both ran the same iteration.
+    /// the candidate, as many as the Rust's rule gives for r. `attempt_step` writes the eigenvector in the power iteration
+    /// alone, so that the same bits afterwards show the same last pass.
     pub fn figures<F: RightHandSide + ?Sized>(
         &mut self,
-        iteration: Result<Iteration, SolveError>,
+        iteration: &Result<Iteration, SolveError>,
         arguments: Arguments,
         rhs: &F,
     ) -> Result<Figures, SolveError> {
         let before = self.evaluations();
         let norm = self.attempt(arguments, rhs)?;
+        let ended = iteration.as_ref();
         let Iteration {
             passes,
             scaled_radius,
-        } = iteration.expect("a finished attempt has ended its iteration");
+            ref eigenvector,
+        } = *ended.expect("a finished attempt has ended its iteration");
+        let bits = |vector: &[f64]| -> Vec<u64> { vector.iter().map(|x| x.to_bits()).collect() };
+        let last_pass = bits(&self.kernel.eigenvector);
+        assert_eq!(last_pass, bits(eigenvector), "the eigenvector");
         let stages = self.evaluations() - before - passes;
         let by_rule = self.kernel.family.stages(scaled_radius);
         assert_eq!(by_rule, Some(stages as usize), "stages for {scaled_radius}");

@@ -104,8 +104,8 @@ impl<F: FnMut(&mut [f64], &[f64], f64)> Stepper<F> {
         Ok(())
     }
 
-    /// Steps from the kept state. The step is good when the norm is at most 1. A step that is not wanted needs no call:
-    /// attempt again.
+    /// Steps from the kept state. Gives back the figures of the finished attempt, or why it was turned away. The step is good
+    /// when the norm is at most 1. A step that is not wanted needs no call: attempt again.
     pub fn attempt(&mut self, attempt: Attempt) -> Result<Figures, Refusal> {
         let answer = calls::attempt(
             &mut self.record,

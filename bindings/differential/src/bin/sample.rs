@@ -3,10 +3,12 @@
 //! Each session is run on both sides at once, and what is written was compared with the Rust's at every call: a difference
 //! ends the program. Sessions are drawn one after another for each family, and one is kept if it holds a kind of call, ending
 //! or number that no session of that family before it held, and is short. To them come the least and the largest count of
-//! stages of every family, attempts whose scaled radius is NaN with all that keeps s, k and r after them, and one attempt at
-//! n = 64 and at n = 512.
+//! stages of every family, attempts whose scaled radius is NaN with what [`Keeping`] makes after them, and one attempt at
+//! n = 64 and at n = 512. Sessions in which the engine ran the stages of an attempt alone are left out.
 use differential::random::mixed;
-use differential::scenarios::{self, Counted, Coverage, Keeping, Unbounded};
+use differential::scenarios::{
+    self, Counted, Coverage, Keeping, RADIUS_INFINITE, RADIUS_NAN, Unbounded,
+};
 use differential::trace::Trace;
 use std::collections::BTreeSet;
 use std::io::Write;
@@ -19,8 +21,6 @@ const DRAWN: u64 = 4000;
 
 /// The room that `replay` has for the traces, in words.
 const ROOM: usize = 1_048_576 / 8;
-
-const LEFT_OUT: &str = "left out: the overflow in RKC";
 
 /// What is written, and what it reaches.
 #[derive(Default)]
@@ -56,10 +56,12 @@ impl Sample {
         for index in 0..DRAWN {
             let seed = mixed(family ^ mixed(index));
             let mut coverage = fresh();
-            scenarios::session(seed, 8, &[family], &mut coverage)
-                .map_err(|difference| format!("scenario {seed} 8: {difference}"))?;
+            scenarios::session(seed, 8, &[family], &mut coverage).map_err(|difference| {
+                let name = oracle::name(family);
+                format!("session of {name}, seed {seed}: {difference}")
+            })?;
             let length = coverage.trace.as_ref().map_or(0, |trace| trace.words.len());
-            let usable = (1..=LONGEST).contains(&length) && !coverage.kinds.contains_key(LEFT_OUT);
+            let usable = (1..=LONGEST).contains(&length) && !coverage.left_out();
             if usable && coverage.kinds.keys().any(|kind| !held.contains(kind)) {
                 held.extend(coverage.kinds.keys().copied());
                 self.add(coverage);
@@ -109,10 +111,10 @@ impl Sample {
 
     /// What the traces must hold and do not, and whether they fit.
     fn missing(&self) -> Vec<String> {
-        let radii = ["NaN", "infinite"].into_iter();
+        let radii = [RADIUS_NAN, RADIUS_INFINITE].into_iter();
         let radii = radii
-            .filter(|kind| self.reached.radius(kind) == 0)
-            .map(|kind| format!("a radius {kind}"));
+            .filter(|kind| self.reached.counted(kind) == 0)
+            .map(str::to_string);
         let room = (self.words.len() > ROOM).then(|| format!("room for {}", self.words.len()));
         radii
             .chain(self.reached.kept_missing())
@@ -129,12 +131,9 @@ fn main() {
     assert!(missing.is_empty(), "missing: {}", missing.join(", "));
     let reached = &sample.reached;
     eprintln!(
-        "{} of {ROOM} words, {} finished attempts: r NaN in {}, infinite in {}, zero in {}",
+        "{} of {ROOM} words, {}",
         sample.words.len(),
-        reached.finished(),
-        reached.radius("NaN"),
-        reached.radius("infinite"),
-        reached.radius("zero")
+        reached.finished()
     );
     let bytes: Vec<u8> = sample
         .words

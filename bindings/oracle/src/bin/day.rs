@@ -1,12 +1,13 @@
 //! A day driven through the Rust: what the program `day` writes of the text on standard input (a day that is not
 //! malformed), or with the argument `minutes` the lines that the program `days` writes of its minutes: the junction's bits
-//! and s, k and the bits of r, or 0 0 and no bits where the minute is not finished.
+//! and s, k and the bits of r, or 0, 0 and the bits of 0 where the minute is not finished.
 //!
 //! The same model and the same order of calls: each minute begins with `accept_step`, or with `initialize` on a kernel made
 //! anew where the last attempt was refused, and goes on with one attempt of 60 seconds. The candidate is evaluated with the
-//! next finite reading. A minute whose reading is not finite calls nothing: it is refused with 9, and the kernel stands.
+//! next finite reading. It is known as the last of the attempt's s + k evaluations, and not by its time, since RKMC2's last
+//! stage may have the same. A minute whose reading is not finite calls nothing: it is refused with 9, and the kernel stands.
 use oracle::{Arguments, Figures, Oracle, RightHandSide, SolveError};
-use std::cell::RefCell;
+use std::cell::{Cell, RefCell};
 use std::io::Read;
 
 #[derive(Clone, Copy)]
@@ -92,8 +93,8 @@ impl Day {
         }
     }
 
-    /// A kernel at the beginning of a minute: after `accept_step`, or made anew where the last attempt was refused; and its
-    /// evaluations before the minute.
+    /// A kernel at the beginning of a minute: after `accept_step`, or made anew where the last attempt was refused; its
+    /// evaluations before the minute; and how `initialize` ended on the one made anew.
     fn begun(
         &mut self,
         start: f64,
@@ -119,15 +120,25 @@ impl Day {
     fn entered(&mut self, minute: usize, reading: f64, upcoming: f64) -> Ended {
         let start = (60 * minute) as f64;
         let (inverter, last) = (self.inverter, RefCell::new(Vec::new()));
-        let rhs = |derivative: &mut [f64], point: &[f64], time: f64| {
-            let at_the_end = time >= start + 60.0;
-            let watts = if at_the_end { upcoming } else { reading };
+        // evaluations up to the candidate's, and more than there can be until they are known
+        let left = Cell::new(u64::MAX);
+        let rhs = |derivative: &mut [f64], point: &[f64], _: f64| {
+            left.set(left.get() - 1);
+            let watts = if left.get() == 0 { upcoming } else { reading };
             inverter.rates(derivative, point, watts);
             *last.borrow_mut() = derivative.to_vec();
             Ok(())
         };
         let (mut oracle, before, begun) = self.begun(start, &rhs);
-        let end = begun.and_then(|()| attempt(&mut oracle, start, &rhs));
+        let end = begun.and_then(|()| {
+            let arguments = arguments(start);
+            let iteration = oracle.iteration(arguments, &rhs);
+            if let Ok(ended) = &iteration {
+                let stages = oracle::stages(inverter.family, ended.scaled_radius);
+                left.set(stages as u64 + ended.passes);
+            }
+            oracle.figures(&iteration, arguments, &rhs)
+        });
         self.evaluations += oracle.evaluations() - before;
         match end {
             Ok(figures) => {
@@ -183,21 +194,15 @@ impl Day {
     }
 }
 
-/// The attempt of a minute that starts at this time, from the kernel's state.
-fn attempt(
-    oracle: &mut Oracle,
-    start: f64,
-    rhs: &impl RightHandSide,
-) -> Result<Figures, SolveError> {
-    let arguments = Arguments {
+/// The attempt of a minute that starts at this time.
+fn arguments(start: f64) -> Arguments {
+    Arguments {
         time: start,
         step: 60.0,
         absolute_tolerance: 1.0,
         relative_tolerance: 1.0,
         adaptive: false,
-    };
-    let iteration = oracle.iteration(arguments, rhs);
-    oracle.figures(iteration, arguments, rhs)
+    }
 }
 
 /// A double's bits; one pattern for every NaN.

@@ -171,7 +171,7 @@ fn rkmc2_case(step: f64, state: [f64; 2], rates: [f64; 2]) {
         adaptive: true,
     };
     let iteration = rust.iteration(arguments, &rhs);
-    let figures = rust.figures(iteration, arguments, &printed);
+    let figures = rust.figures(&iteration, arguments, &printed);
     let figures = figures.expect("a candidate that is finite");
     let (stages, passes) = (figures.stages, figures.passes);
     let [radius, norm] = [figures.scaled_radius, figures.norm].map(|x| bits(&[x]));
