@@ -143,11 +143,11 @@ typedef struct {
 typedef struct {
   uint64_t code;
   uint64_t number;      /* of the vector to evaluate, or of the cause */
-  double time;          /* to evaluate it at */
   double norm;          /* of the error; 0 without adaptive */
   uint64_t stages;      /* s */
   uint64_t passes;      /* k, those of the power iteration, 1 to 12 */
   double scaled_radius; /* r, which may be infinite, or a NaN, for which s is chosen as for 0 */
+  double time;          /* to evaluate the vector at */
 } stabilized_answer;
 
 /* Begins anew, in any phase: keeps the state and asks for the first derivative. */

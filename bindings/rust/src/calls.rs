@@ -113,11 +113,11 @@ pub mod vector {
 pub struct Answer {
     pub code: u64,
     pub number: u64,
-    pub time: f64,
     pub norm: f64,
     pub stages: u64,
     pub passes: u64,
     pub scaled_radius: f64,
+    pub time: f64,
 }
 
 mod library {

@@ -78,30 +78,25 @@ pub fn good_stage(setting: Setting, stages: u64, stage: u64) -> bool
     stage <= stages
 }
 
-// The reply in phase Candidate tells k and s, and so uses the pass and s.
-fn good_end(setting: Setting, pass: u64, stages: u64) -> bool
-    ensures { λ r. ⌜ r ≡ calls.good-end setting pass stages ⌝ }
-{
-    if !good_pass(pass) {
-        return false;
-    }
-    permits(setting, stages)
-}
-
-// Whether what the phase uses of the record is in range.
+// Whether what the phase uses of the record is in range. The tests are made before the phase is asked for, each once, so
+// that the compiler puts them where they are used.
 pub fn in_range(record: Record) -> bool
     ensures { λ r. ⌜ r ≡ calls.in-range («record» .phase) «record» ⌝ }
 {
-    let setting = setting_of(record);
     let phase = record.phase;
+    let stages = record.staging.stages;
+    let stage = record.staging.stage;
+    let pass = good_pass(record.iteration.pass);
+    let permitted = permits(setting_of(record), stages);
+    let place = (2 <= stage) & (stage <= stages);
     if same_phase(phase, Phase::Pass) {
-        return good_pass(record.iteration.pass);
+        return pass;
     }
     if same_phase(phase, Phase::Stage) {
-        return good_stage(setting, record.staging.stages, record.staging.stage);
+        return permitted & place;
     }
     if same_phase(phase, Phase::Candidate) {
-        return good_end(setting, record.iteration.pass, record.staging.stages);
+        return pass & permitted;
     }
     true
 }

@@ -27,11 +27,11 @@ pub const DOUBLES: usize = 19;
 pub struct Answer {
     pub code: u64,
     pub number: u64,
-    pub time: f64,
     pub norm: f64,
     pub stages: u64,
     pub passes: u64,
     pub scaled_radius: f64,
+    pub time: f64,
 }
 
 // By driver's numbers. A number above 7 is a phase in which only start is allowed.
