@@ -98,8 +98,8 @@ enum {
  * engine reads them fastest.
  *
  * stages, pass and scaled_radius are s, k and r of a finished answer from that answer until the next attempt that is taken:
- * accept, a callback and its reply, start, abandon and every call that is turned away keep them. Such an attempt sets pass
- * to 1 and scaled_radius to 0; stages stands until its own stages begin. An attempt that is abandoned or turned away with 9
+ * accept, a callback or a start with its reply, abandon and every call that is turned away keep them. Such an attempt sets
+ * pass to 1 and scaled_radius to 0; stages stands until its own stages begin. An attempt that is abandoned or turned away with 9
  * or 10 leaves the three as they stood at that call; they are then not those of a finished answer. */
 typedef struct {
   uint64_t family;
@@ -139,7 +139,7 @@ typedef struct {
 } stabilized_record;
 
 /* An answer: its code, and what that code names above. All else is 0. The evaluations of a finished attempt are s + k; s was
- * chosen for r, the step's size times the radius that the passes came to. */
+ * chosen for r, the step's size times 1.2 times the radius of the last pass. */
 typedef struct {
   uint64_t code;
   uint64_t number;      /* of the vector to evaluate, or of the cause */

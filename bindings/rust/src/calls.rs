@@ -60,8 +60,8 @@ pub struct Doubles {
 /// All that the engine keeps beside the area. The default one is in the empty phase.
 ///
 /// `stages`, `pass` and `scaled_radius` are s, k and r of a finished answer from that answer until the next attempt that is
-/// taken: accept, a callback and its reply, start, abandon and every call that is turned away keep them. Such an attempt sets
-/// `pass` to 1 and `scaled_radius` to 0; `stages` stands until its own stages begin. An attempt that is abandoned or turned
+/// taken: accept, a callback or a start with its reply, abandon and every call that is turned away keep them. Such an attempt
+/// sets `pass` to 1 and `scaled_radius` to 0; `stages` stands until its own stages begin. An attempt that is abandoned or turned
 /// away with 9 or 10 leaves the three as they stood at that call; they are then not those of a finished answer.
 #[repr(C)]
 #[derive(Clone, Copy, Debug, Default, PartialEq)]

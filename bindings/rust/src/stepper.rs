@@ -51,7 +51,7 @@ pub struct Figures {
     pub stages: u64,
     /// k, the passes of the power iteration, 1 to 12.
     pub passes: u64,
-    /// r, the step's size times the radius that the passes came to. It may be infinite, or a NaN, for which s is chosen as
+    /// r, the step's size times 1.2 times the radius of the last pass. It may be infinite, or a NaN, for which s is chosen as
     /// for 0.
     pub scaled_radius: f64,
 }

@@ -1,6 +1,6 @@
 -- What the report of a day accounts for. docs/DECISIONS.md, "The day": every minute is a finished attempt, or is refused and listed with its number, so
 -- that nothing is left out silently (40); a minute that counts as above is a finished one, and the total is the number of such minutes over 60 (41). Of each
--- minute there is an entry in each of the five lists, and where the minute is refused, s, k and r are 0.
+-- minute there is an entry in each of the five lists, and where the minute is refused, s, k and r are 0; those of a finished one are `day`'s, by its contract.
 -- ⊕ ⊗ ⊘ are operations on doubles: they round.
 use Prim.Native.Nat.{ℕ, _+_, _≤_, _<_}
 use mathlib.Core.Path.{_≡_}

@@ -145,8 +145,8 @@ under-way h f n y t cs q = record {
   pass-from-one = λ e. let is = at P.Pass refl e .2 .pass-is in omega arith;
   pass-to-twelve = λ e. at P.Pass refl e .2 .to-twelve;
   no-radius-yet = λ e. at P.Pass refl e .2 .no-radius-yet;
-  own-in-stages = λ e. at P.Stage refl e .2 .suits;
-  own-at-candidate = λ e. at P.Candidate refl e .2 .suits;
+  own-in-stages = λ e. let p = at P.Stage refl e .2 in record { radius-is = p .radius-is; suits = p .suits };
+  own-at-candidate = λ e. let p = at P.Candidate refl e .2 in record { radius-is = p .radius-is; suits = p .suits };
 }
   where
     x : Held

@@ -146,14 +146,19 @@ pub record Three-stand (h x : Held) : Type 0 where
   pub passes-stand : passes-of x ≡ passes-of h
   pub radius-stands : scaled-radius-of x ≡ scaled-radius-of h
 
+-- k, s and r as this attempt has found them: r by the state and the eigenvector, which its passes left
+pub record Own-figures (x : Held) : Type 0 where
+  pub radius-is : scaled-radius-of x ≡ radius-left (x .kept .arguments) (unpack (x .kept .n) (x .area))
+  pub suits : Suits (x .kept .family) (passes-of x) (stages-of x) (scaled-radius-of x)
+
 -- s, k and r of the record while an attempt is under way, in a sequence. Among the passes k is from 1 to 12 and r is 0; of s nothing is said. From the first
 -- stage on they are the attempt's own.
 pub record Under-way (x : Held) : Type 0 where
   pub pass-from-one : x .kept .phase ≡ P.Pass → 1 ≤ passes-of x
   pub pass-to-twelve : x .kept .phase ≡ P.Pass → passes-of x ≤ 12
   pub no-radius-yet : x .kept .phase ≡ P.Pass → scaled-radius-of x ≡ nought
-  pub own-in-stages : x .kept .phase ≡ P.Stage → Suits (x .kept .family) (passes-of x) (stages-of x) (scaled-radius-of x)
-  pub own-at-candidate : x .kept .phase ≡ P.Candidate → Suits (x .kept .family) (passes-of x) (stages-of x) (scaled-radius-of x)
+  pub own-in-stages : x .kept .phase ≡ P.Stage → Own-figures x
+  pub own-at-candidate : x .kept .phase ≡ P.Candidate → Own-figures x
 
 -- ---- a stage that awaits its derivative, in a sequence
 
