@@ -1,5 +1,6 @@
 pub mod Numbers
 pub mod Range
+pub mod Divided
 pub mod Rule
 pub mod Limits
 pub mod Saturated

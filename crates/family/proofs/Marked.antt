@@ -1,6 +1,6 @@
 -- The rule gives the counts of document 01's twelve marked cases, by computation.
 use lib.Dec.{T}
-use lib.Ieee.{lt, add, sub, mul, div, toUnsigned}
+use lib.Ieee.{lt, add, sub, mul, toUnsigned}
 use Rattle.ieee.specs.Double.{nearest}
 use Rattle.ieee.specs.Sqrt.{sqrt}
 use Rattle.ieee.specs.Whole.{floor, ceil}
@@ -9,6 +9,6 @@ use Rattle.family.specs.Family.{smallest-count, largest-count, odd-only,
 use Rattle.family.specs.Marked.{marked, right, all-right}
 
 pub marked-right : T (all-right marked)
-unfolding all-right right marked stage-count before-limits limited odd-step odd-only smallest-count largest-count Whole.max lt nearest add sub mul div sqrt
+unfolding all-right right marked stage-count before-limits limited odd-step odd-only smallest-count largest-count Whole.max lt nearest add sub mul sqrt
     floor ceil toUnsigned by-rule facts-of
 marked-right = tt

@@ -1,7 +1,8 @@
--- The stage rule of the four families as ⌈(√(offset + slope · r) − shift) / 2⌉: `inner`, the root, `after`. Each step keeps the order of the doubles that are
--- not negative, so a bound of the count at one double is a bound of it at another (`more-from`, `less-to`). Assumes nothing.
+-- The stage rule of the four families as ⌈(√(offset + slope · r) − shift) / 2⌉: `inner`, the root, `after`. (The rule multiplies by 0.5; that it is this one,
+-- `rule-is` has from `Divided`.) Each step keeps the order of the doubles that are not negative, so a bound of the count at one double is a bound of it at
+-- another (`more-from`, `less-to`). Assumes nothing.
 -- ⊕ ⊖ ⊗ ⊘ are operations on doubles: they round.
-use mathlib.Core.Path.{_≡_, refl, sym, subst}
+use mathlib.Core.Path.{_≡_, refl, sym, _∙_, subst}
 use mathlib.Core.Bool.{false}
 use Prim.Native.Nat.{ℕ, suc, _*_, _≤_}
 use lib.IntN.{ℤ, pos}
@@ -15,7 +16,9 @@ use Rattle.ieee.proofs.Monotone.{NonNeg, number, least, Some, some-from, times-
 use Rattle.ieee.proofs.Monotone.{div-by-mono, div-by-nonneg, sqrt-mono, sqrt-nonneg, ceil-mono, ceil-nonneg, round-nonneg, le-both}
 use Rattle.ieee.proofs.Casts.{cast-mono}
 use Rattle.ieee.proofs.RootBounds.{L, root-from, root-to}
-use Rattle.family.specs.Family.{Orthogonal, Legendre1, Legendre2, Gegenbauer1, Gegenbauer2, made-of, before-limits, facts-of, by-rule}
+use Rattle.family.specs.Family.{Orthogonal, Legendre1, Legendre2, Gegenbauer1, Gegenbauer2, made-of, before-limits, facts-of}
+use Rattle.family.specs.Divided.{by-division}
+use Rattle.family.proofs.Divided.{rule-divided}
 
 -- ---- the rule's parameters
 unfoldable pub offset : Orthogonal → Float
@@ -49,12 +52,16 @@ inner f r = offset f ⊕ slope f ⊗ r
 unfoldable pub after : Orthogonal → Float → ℕ
 after f y = toUnsigned 64 (ceil ((y ⊖ shifted f) ⊘ two))
 
+divided-is : (f : Orthogonal) (r : Float) → by-division (facts-of (made-of f) .rule) r ≡ after f (sqrt (inner f r))
+unfolding made-of inner after offset slope shifted by-division facts-of
+divided-is Legendre1 r = refl
+divided-is Legendre2 r = refl
+divided-is Gegenbauer1 r = refl
+divided-is Gegenbauer2 r = refl
+
 pub rule-is : (f : Orthogonal) (r : Float) → before-limits (made-of f) r ≡ after f (sqrt (inner f r))
-unfolding before-limits made-of inner after offset slope shifted by-rule facts-of
-rule-is Legendre1 r = refl
-rule-is Legendre2 r = refl
-rule-is Gegenbauer1 r = refl
-rule-is Gegenbauer2 r = refl
+unfolding before-limits
+rule-is f r = rule-divided (facts-of (made-of f) .rule) r ∙ divided-is f r
 
 -- ---- inner
 module _ (n : ℕ) (d : ℤ) (n' : ℕ) (d' : ℤ) where

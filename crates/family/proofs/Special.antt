@@ -8,7 +8,7 @@ use native.Mathlib.Omega.{arith}
 use mathlib.Core.Bool.{Bool, true, false, _&&_, cond}
 use lib.IntN.{pos}
 use lib.Dec.{T, eqb, eqb→eq, lit≤, lit<}
-use lib.Ieee.{Float, nan, inf, fin, binary64, up, down, lt, le, toUnsigned, add, sub, mul, div, round, ofBits}
+use lib.Ieee.{Float, nan, inf, fin, binary64, up, down, lt, le, toUnsigned, add, sub, mul, round, ofBits}
 use lib.Ieee.Fits.{and-r, down-pos}
 use lib.Ieee.Order.{round-mono}
 use Rattle.ieee.specs.Double.{_⊕_, _⊗_, nearest, nought, one}
@@ -27,7 +27,7 @@ use Rattle.family.proofs.Counts.{stage-count-permitted}
 
 -- ---- an infinite r gives the largest
 pub infinite-count : (f : Family) → stage-count f (inf false) ≡ largest-count f
-unfolding stage-count before-limits limited odd-step odd-only smallest-count largest-count Whole.max lt nearest add sub mul div sqrt floor ceil toUnsigned
+unfolding stage-count before-limits limited odd-step odd-only smallest-count largest-count Whole.max lt nearest add sub mul sqrt floor ceil toUnsigned
     by-rule facts-of smallest threshold ofBits le
 infinite-count RKC = refl
 infinite-count RKL1 = refl

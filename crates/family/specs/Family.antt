@@ -1,10 +1,10 @@
--- The families, and how many stages each runs: family.rs. Document 01, "family.rs: stage counts", and document 02, CR 1.
--- ⊕ ⊖ ⊗ ⊘ are operations on doubles: they round.
+-- The families, and how many stages each runs: family.rs. Document 01, "family.rs: stage counts", and document 02, CR 1 and CR 3.
+-- ⊕ ⊖ ⊗ are operations on doubles: they round.
 use Prim.Native.Nat.{ℕ, _+_, _%_, min, max}
 use mathlib.Core.Bool.{Bool, true, false, cond, not, _&&_, _||_}
 use lib.Dec.{leb, eqb}
 use lib.Ieee.{Float, toUnsigned}
-use Rattle.ieee.specs.Double.{_⊕_, _⊖_, _⊗_, _⊘_, nearest, nought, one, two, three, four, eight, nine, ten, sixteen, twenty-four, twenty-five}
+use Rattle.ieee.specs.Double.{_⊕_, _⊖_, _⊗_, nearest, nought, half, one, three, four, eight, nine, ten, sixteen, twenty-four, twenty-five}
 use Rattle.ieee.specs.Sqrt.{sqrt}
 use Rattle.ieee.specs.Whole.{floor, ceil}
 use Rattle.ieee.specs.Whole as Whole
@@ -119,7 +119,7 @@ keeps-older f = facts-of f .«keeps_older»
 -- the whole number before limits, of the scaled radius r; by thresholds the smallest count from 3 to 999 whose threshold is at least r, else 1000
 unfoldable pub by-rule : StageRule → Float → ℕ
 by-rule (RoundedDown slope) r = toUnsigned 64 (floor (sqrt (slope ⊗ r ⊕ one))) + 1
-by-rule (RoundedUp offset slope shift) r = toUnsigned 64 (ceil ((sqrt (offset ⊕ slope ⊗ r) ⊖ shift) ⊘ two))
+by-rule (RoundedUp offset slope shift) r = toUnsigned 64 (ceil ((sqrt (offset ⊕ slope ⊗ r) ⊖ shift) ⊗ half))
 by-rule ByThreshold r = smallest threshold r 997 3
 
 unfoldable pub before-limits : Family → Float → ℕ

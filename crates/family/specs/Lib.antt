@@ -1,3 +1,4 @@
 pub mod Family
 pub mod Reach
 pub mod Marked
+pub mod Divided

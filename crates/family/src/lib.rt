@@ -20,7 +20,7 @@ pub struct Setting {
 pub enum StageRule {
     // floor(sqrt(slope * r + 1)) + 1
     RoundedDown { slope: f64 },
-    // ceil((sqrt(offset + slope * r) - shift) / 2)
+    // ceil((sqrt(offset + slope * r) - shift) * 0.5)
     RoundedUp { offset: f64, slope: f64, shift: f64 },
     // the smallest count from 3 to 999 whose threshold is at least r, else 1000
     ByThreshold,
@@ -216,7 +216,7 @@ fn by_rule(rule: StageRule, r: f64) -> u64
             shift,
         } => {
             let root = ieee::sqrt(offset + slope * r);
-            ieee::saturating_u64(ieee::ceil((root - shift) / 2.0))
+            ieee::saturating_u64(ieee::ceil((root - shift) * 0.5))
         }
         StageRule::ByThreshold => by_threshold(r),
     }
