@@ -1,6 +1,8 @@
-// Loops over the calls whose speed bench/ measures.
+// Loops over the calls whose speed bench/ measures, and the stage rules by themselves, whose compiled code bindings/run
+// searches for a division.
 ghost use mathlib.Core.Path.{_≡_};
 ghost use Prim.Native.Nat.{min};
+ghost use Rattle.family.specs.Family.{family-of, stage-count};
 ghost use Rattle.timed.specs.Left.{roots-over, root-chain};
 
 mod loops;
@@ -62,4 +64,12 @@ pub extern "C" fn timed_root_chain_by_digits(x: &[f64]) -> f64
         i += 1;
     }
     a
+}
+
+// The stage rules of all families.
+#[no_mangle]
+pub extern "C" fn timed_stages(family: u64, scaled_radius: f64) -> u64
+    ensures { λ r. ⌜ r ≡ stage-count (family-of family) «scaled_radius» ⌝ }
+{
+    family::stages(family, scaled_radius)
 }
