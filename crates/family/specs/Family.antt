@@ -116,7 +116,8 @@ keeps-older f = facts-of f .«keeps_older»
 
 -- ---- the stage rule
 
--- the whole number before limits, of the scaled radius r; by thresholds the smallest count from 3 to 999 whose threshold is at least r, else 1000
+-- the whole number before limits, of the scaled radius r; by thresholds the smallest count from 3 to 999 whose threshold is at least r, else 1000.
+-- Where document 01 divides by 2, RKL and RKG multiply by 0.5 (CR 3), which gives the same number: `Divided`
 unfoldable pub by-rule : StageRule → Float → ℕ
 by-rule (RoundedDown slope) r = toUnsigned 64 (floor (sqrt (slope ⊗ r ⊕ one))) + 1
 by-rule (RoundedUp offset slope shift) r = toUnsigned 64 (ceil ((sqrt (offset ⊕ slope ⊗ r) ⊖ shift) ⊗ half))
