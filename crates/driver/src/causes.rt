@@ -19,7 +19,7 @@ pub fn of_start(family: u64, n: usize, area: &[f64], state: &[f64], time: f64) -
     if !checks::both_long(family, n, area, state) {
         return 3;
     }
-    if !workspace::all_finite(state) {
+    if !norm::all_finite(state) {
         return 5;
     }
     if !ieee::is_finite(time) {
@@ -110,7 +110,7 @@ pub fn of_callback(record: Record, area: &[f64], state: &[f64], time: f64) -> u6
     if !checks::may_accept(phase) {
         return 4;
     }
-    if !workspace::all_finite(state) {
+    if !norm::all_finite(state) {
         return 5;
     }
     if !ieee::is_finite(time) {

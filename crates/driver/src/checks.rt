@@ -213,5 +213,5 @@ pub fn stage_taken(record: Record, counters: Counters, area: &[f64], derivative:
     if !second {
         return false;
     }
-    workspace::all_finite(derivative)
+    norm::all_finite(derivative)
 }

@@ -308,7 +308,7 @@ pub fn reply_elsewhere(
     if cause != 0 {
         return turned_away(record, counters, cause);
     }
-    if !workspace::all_finite(derivative) {
+    if !norm::all_finite(derivative) {
         return spoiled(record, counters);
     }
     let next = replies::replied(record, area, derivative);

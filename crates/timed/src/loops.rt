@@ -44,14 +44,14 @@ pub extern "C" fn timed_row(
 pub extern "C" fn timed_finite(v: &[f64]) -> bool
     ensures { λ r. ⌜ r ≡ all-finite (now (v .entry)) ⌝ }
 {
-    workspace::all_finite(v)
+    norm::all_finite(v)
 }
 
 #[no_mangle]
 pub extern "C" fn timed_norm(v: &[f64]) -> f64
     ensures { λ r. ⌜ r ≡ vector-norm (now (v .entry)) ⌝ }
 {
-    workspace::vector_norm(v)
+    norm::vector_norm(v)
 }
 
 // The root alone, for the Rust loops that take the same one.

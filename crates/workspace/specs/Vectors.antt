@@ -1,16 +1,14 @@
 -- The area's vectors by name: workspace.rs's nine in its order, then a copy of the state, then the candidate. Document 01, "one lent area". Last, where the
--- family keeps it, the older state: no family does yet. ⊕ ⊘ are operations on doubles: they round.
+-- family keeps it, the older state: no family does yet.
 use mathlib.Core.Path.{_≡_}
 use Prim.Native.Nat.{ℕ, zero, suc, _+_, _*_}
-use mathlib.Core.Bool.{Bool, true, cond, _&&_}
-use mathlib.Core.List.{List, [], _∷_, _++_, foldl}
+use mathlib.Core.Bool.{cond}
+use mathlib.Core.List.{List, [], _∷_, _++_}
 use lib.Dec.{eqb}
 use lib.ListN.{take, drop, getD}
 use lib.Ieee.{Float, nan}
-use lib.Ieee.Scale.{finite}
-use Rattle.ieee.specs.Double.{_⊕_, _⊘_, nought, one, square}
-use Rattle.ieee.specs.Sqrt.{sqrt}
 use Rattle.family.specs.Family.{Family, keeps-older}
+unfoldable pub use Rattle.norm.specs.Norm.{sum-of-squares, all-finite, root-of-squares, vector-norm}
 
 pub data Vector : Type 0 where
   first-derivative last-derivative derivative previous-two previous-one next-stage : Vector
@@ -101,19 +99,3 @@ tabulate f i (suc n) = f i ∷ tabulate f (suc i) n
 -- a vector worked out index by index: f is handed the column, the vectors' elements at one index
 unfoldable pub each : ℕ → Vectors → ((Vector → Float) → Float) → List Float
 each n v f = tabulate (λ i. f (λ a. getD (v a) i nan)) 0 n
-
--- sums run in index order, from +0.0
-unfoldable pub sum-of-squares : List Float → Float
-sum-of-squares xs = foldl (λ t x. t ⊕ square x) nought xs
-
--- the root of the sum of squares, over a divisor
-unfoldable pub root-of-squares : Float → List Float → Float
-root-of-squares divisor xs = sqrt (sum-of-squares xs ⊘ divisor)
-
--- `vector_norm` (x / 1 is x, for every double)
-unfoldable pub vector-norm : List Float → Float
-vector-norm xs = root-of-squares one xs
-
-unfoldable pub all-finite : List Float → Bool
-all-finite [] = true
-all-finite (x ∷ xs) = finite x && all-finite xs

@@ -4,20 +4,6 @@ ghost use Prim.Native.Nat.{_+_, _*_, _≤_, _<_};
 ghost use lib.ListN.{length, replicate};
 ghost use Rattle.workspace.specs.Vectors.{named, unpack, Becomes, _with_≔_, all-finite};
 
-// x - x is 0 exactly where x is finite. The loop has no way out but its end, so that it is compiled to vector instructions.
-pub fn all_finite(v: &[f64]) -> bool
-    ensures { λ r. ⌜ r ≡ all-finite (now (v .entry)) ⌝ }
-{
-    let mut good = true;
-    let mut i = 0;
-    while i < v.len() {
-        let x = v[i];
-        good = good & (x - x == 0.0);
-        i += 1;
-    }
-    good
-}
-
 pub fn copy_into(to: &mut [f64], from: &[f64])
     requires { ⌜ length (now to) ≡ length (now from) ⌝ }
     ensures { λ _. ⌜ now (to .exit) ≡ now (from .entry) ⌝ }
@@ -86,5 +72,5 @@ pub fn finite_vector(area: &[f64], n: usize, k: usize) -> bool
 {
     let a = k * n;
     let b = a + n;
-    all_finite(&area[a..b])
+    norm::all_finite(&area[a..b])
 }

@@ -1,11 +1,13 @@
 // The end of `attempt_step`: the error vector of each family and its norm.
 ghost use mathlib.Core.Path.{_≡_};
 ghost use Prim.Native.Nat.{_*_, _≤_, _<_};
+ghost use mathlib.Core.List.{map};
 ghost use lib.ListN.{length};
 ghost use Rattle.family.specs.Family.{facts-of, kind};
-ghost use Rattle.workspace.specs.Vectors.{column, unpack, Becomes, _with_≔_, each, sum-of-squares, derivative};
+ghost use Rattle.norm.specs.Norm.{sum-of-squares, all-finite, lowered};
+ghost use Rattle.workspace.specs.Vectors.{column, unpack, Becomes, _with_≔_, each, derivative};
 ghost use Rattle.workspace.specs.Kernel as kernel;
-ghost use Rattle.workspace.specs.Kernel.{with-last, scaled-error, error-norm};
+ghost use Rattle.workspace.specs.Kernel.{with-last, scaled-error, scaled-error-norm, error-norm};
 use crate::Arguments;
 use crate::CANDIDATE;
 use crate::DERIVATIVE;
@@ -13,7 +15,6 @@ use crate::FIRST_DERIVATIVE;
 use crate::LAST_DERIVATIVE;
 use crate::STATE;
 use crate::area::put_vector;
-use crate::iteration::root_of;
 use family::ErrorForm;
 use family::Setting;
 
@@ -97,6 +98,51 @@ fn sum_of_scaled(area: &[f64], n: usize, arguments: Arguments) -> f64
     t
 }
 
+// Whether every entry is finite.
+fn finite_scaled(area: &[f64], n: usize, arguments: Arguments) -> bool
+    requires { ⌜ 11 * n ≤ length (now area) ⌝ }
+    ensures { λ r. ⌜ r ≡ all-finite (each n (unpack n (now (area .entry))) (scaled-error arguments)) ⌝ }
+{
+    let mut good = true;
+    let mut i = 0;
+    while i < n {
+        let x = scaled_error_at(area, n, i, arguments);
+        good = good & (x - x == 0.0);
+        i += 1;
+    }
+    good
+}
+
+// The second sum.
+fn sum_of_lowered(area: &[f64], n: usize, arguments: Arguments) -> f64
+    requires { ⌜ 11 * n ≤ length (now area) ⌝ }
+    ensures { λ r. ⌜ r ≡ sum-of-squares (map lowered (each n (unpack n (now (area .entry))) (scaled-error arguments))) ⌝ }
+{
+    let mut t = 0.0;
+    let mut i = 0;
+    while i < n {
+        let x = norm::lowered(scaled_error_at(area, n, i, arguments));
+        t = t + x * x;
+        i += 1;
+    }
+    t
+}
+
+// A second pass only where the sum is infinite.
+fn scaled_error_norm(area: &[f64], n: usize, arguments: Arguments) -> f64
+    requires { ⌜ 11 * n ≤ length (now area) ⌝ }
+    ensures { λ r. ⌜ r ≡ scaled-error-norm n arguments (unpack n (now (area .entry))) ⌝ }
+{
+    let over = ieee::double_of(n as u64);
+    let sum = sum_of_scaled(area, n, arguments);
+    if norm::is_infinite(sum) {
+        if finite_scaled(area, n, arguments) {
+            return norm::raised_root_of(sum_of_lowered(area, n, arguments), over);
+        }
+    }
+    norm::root_of(sum, over)
+}
+
 // What the norm is divided by.
 fn divisor(form: ErrorForm, stages: u64) -> f64
     ensures { λ r. ⌜ r ≡ kernel.divisor-in form stages ⌝ }
@@ -108,7 +154,7 @@ fn divisor(form: ErrorForm, stages: u64) -> f64
     }
 }
 
-// The scaled error norm; 0 without `adaptive`.
+// The scaled error norm, divided by s last; 0 without `adaptive`.
 pub fn error_norm(
     area: &[f64],
     n: usize,
@@ -120,9 +166,9 @@ pub fn error_norm(
     ensures { λ r. ⌜ r ≡ error-norm setting n stages arguments (unpack n (now (area .entry))) ⌝ }
 {
     if arguments.adaptive {
-        let norm = root_of(sum_of_scaled(area, n, arguments), ieee::double_of(n as u64));
+        let scaled = scaled_error_norm(area, n, arguments);
         let form = error_form(setting);
-        norm / divisor(form, stages)
+        scaled / divisor(form, stages)
     } else {
         0.0
     }

@@ -1,10 +1,8 @@
-// workspace.rs: `vector_norm`, and what `spectral_radius` does before, between and after its evaluations.
+// workspace.rs: what `spectral_radius` does before, between and after its evaluations.
 ghost use mathlib.Core.Path.{_≡_};
 ghost use Prim.Native.Nat.{_*_, _≤_, _<_};
 ghost use lib.ListN.{length};
-ghost use lib.Ieee.{binary64, div};
-ghost use Rattle.ieee.specs.Sqrt.{sqrt};
-ghost use Rattle.workspace.specs.Vectors.{named, unpack, Becomes, eigenvector, sum-of-squares, vector-norm};
+ghost use Rattle.workspace.specs.Vectors.{named, unpack, Becomes, eigenvector, vector-norm};
 ghost use Rattle.workspace.specs.Kernel.{with-direction, perturbation-of, perturbed-by, turned, ended, scaled};
 use crate::EIGENVECTOR;
 use crate::FIRST_DERIVATIVE;
@@ -20,31 +18,6 @@ const MIN_POSITIVE: f64 = 2.2250738585072014e-308;
 
 const ROOT_EPSILON: f64 = 1.4901161193847656e-8;
 
-fn sum_of_squares(v: &[f64]) -> f64
-    ensures { λ r. ⌜ r ≡ sum-of-squares (now (v .entry)) ⌝ }
-{
-    let mut t = 0.0;
-    let mut i = 0;
-    while i < v.len() {
-        t = t + v[i] * v[i];
-        i += 1;
-    }
-    t
-}
-
-// The root of a sum of squares, over a divisor: of a norm, with 1, and of the error norm, with n.
-pub fn root_of(sum: f64, divisor: f64) -> f64
-    ensures { λ r. ⌜ r ≡ sqrt (div binary64 sum divisor) ⌝ }
-{
-    ieee::sqrt(sum / divisor)
-}
-
-pub fn vector_norm(v: &[f64]) -> f64
-    ensures { λ r. ⌜ r ≡ vector-norm (now (v .entry)) ⌝ }
-{
-    root_of(sum_of_squares(v), 1.0)
-}
-
 // The norm of vector k.
 fn norm_of(area: &[f64], n: usize, k: usize) -> f64
     requires { ⌜ 11 * n ≤ length (now area) ⌝ }
@@ -53,7 +26,7 @@ fn norm_of(area: &[f64], n: usize, k: usize) -> f64
 {
     let a = k * n;
     let b = a + n;
-    vector_norm(&area[a..b])
+    norm::vector_norm(&area[a..b])
 }
 
 // The norm of the direction.

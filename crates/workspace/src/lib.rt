@@ -8,7 +8,6 @@ pub mod error;
 pub mod iteration;
 pub mod stages;
 
-pub use area::all_finite;
 pub use area::copy_into;
 pub use area::copy_vector;
 pub use area::fill_vector;
@@ -23,7 +22,6 @@ pub use iteration::perturb;
 pub use iteration::perturbation;
 pub use iteration::scaled_radius;
 pub use iteration::turn;
-pub use iteration::vector_norm;
 pub use stages::first_stage;
 pub use stages::keep_candidate;
 pub use stages::row;

@@ -7,7 +7,7 @@ use lib.Ieee.{ofBits}
 use Rattle.workspace.specs.Vectors.{unpack, each, sum-of-squares}
 use Rattle.workspace.specs.Kernel.{scaled-error}
 use Rattle.workspace.proofs.Areas.{length-each}
-use Rattle.workspace.proofs.Lists.{next-sum}
+use Rattle.norm.proofs.Sums.{next-sum}
 use Rattle.workspace.proofs.Columns.{each-column}
 use native.Mathlib.Omega.{arith}
 use Rattle.workspace.proofs.error.sum_of_scaled.Statement.{statement}

@@ -4,11 +4,11 @@ use Prim.Native.Nat.{_-_, _≤_}
 use lib.ListN.{length, take}
 use lib.Seq.{take-all}
 use lib.Ieee.{ofBits}
-use Rattle.workspace.specs.Vectors.{sum-of-squares}
-use Rattle.workspace.proofs.Lists.{next-sum}
+use Rattle.norm.specs.Norm.{sum-of-squares}
+use Rattle.norm.proofs.Sums.{next-sum}
 use native.Mathlib.Omega.{arith}
-use Rattle.workspace.proofs.iteration.sum_of_squares.Statement.{statement}
-use Rattle.workspace.proofs.iteration.sum_of_squares.Tie as tie
+use Rattle.norm.proofs.sum_of_squares.Statement.{statement}
+use Rattle.norm.proofs.sum_of_squares.Tie as tie
 
 abbrev Inv-loop : tie.InvT-loop
 Inv-loop v t₀ i₀ t i = (i ≤ length v) × (t ≡ sum-of-squares (take i v))

@@ -4,11 +4,11 @@ use Prim.Native.Nat.{_-_, _≤_}
 use lib.ListN.{length, take}
 use lib.Seq.{take-all}
 use lib.Ieee.{ofBits}
-use Rattle.workspace.specs.Vectors.{all-finite}
-use Rattle.workspace.proofs.Finite.{next-flag}
+use Rattle.norm.specs.Norm.{all-finite}
+use Rattle.norm.proofs.Finite.{next-flag}
 use native.Mathlib.Omega.{arith}
-use Rattle.workspace.proofs.area.all_finite.Statement.{statement}
-use Rattle.workspace.proofs.area.all_finite.Tie as tie
+use Rattle.norm.proofs.all_finite.Statement.{statement}
+use Rattle.norm.proofs.all_finite.Tie as tie
 
 abbrev Inv-loop : tie.InvT-loop
 Inv-loop v good₀ i₀ good i = (i ≤ length v) × (good ≡ all-finite (take i v))

@@ -14,7 +14,7 @@ use lib.Ieee.{Float, nan, inf, fin, binary64, sum, add, sub, neg, eq, round, up,
 use lib.Ieee.Fits.{down-pos}
 use lib.Ieee.Scale.{finite}
 use Rattle.ieee.proofs.Value.{round-none}
-use Rattle.workspace.specs.Vectors.{all-finite}
+use Rattle.norm.specs.Norm.{all-finite}
 
 none : (s : Bool) (a c : ℕ) → 0 < c → sum binary64 s a (not s) a c ≡ fin false 0 (pos 0)
 unfolding sum
