@@ -1,1 +1,2 @@
 pub mod Norm
+pub mod Infinite

@@ -1,5 +1,6 @@
 -- Document 01's case, by computation, as a session: RKL1, n = 1, state 1, step 1, every reply 0. A start and its reply, an attempt and four replies, an accept;
--- among them calls that are not taken. And an attempt whose r is a NaN, which its finished answer tells as one (document 02, CR 2).
+-- among them calls that are not taken. An attempt from a hot state, whose norms are finite (document 02, CR 4); and one whose r is a NaN, which its finished
+-- answer tells as one (CR 2).
 use mathlib.Core.Path.{_≡_, refl, ap, ap₂, _∙_}
 use mathlib.Core.Bool.{true, false, cond}
 use mathlib.Core.List.{List, [], _∷_, _++_, map}
@@ -16,6 +17,7 @@ use Rattle.family.specs.Family.{stage-count, by-rule, facts-of}
 use Rattle.coefficients.specs.Rows.{omega-zero, omega-one-of, b-first, first-mu-tilde, first-polynomials, first-polynomials-in, recurrence-of, with-theta}
 use Rattle.coefficients.specs.Rows.{legendre-one, coefficients-of, next-polynomials, next-of}
 use Rattle.workspace.specs.declared.Arguments.{Arguments}
+use Rattle.norm.specs.Norm.{overflows, lowered, raised, root-over}
 use Rattle.workspace.specs.Vectors.{join, vector-count, each, sum-of-squares, root-of-squares, vector-norm, all-finite}
 use Rattle.workspace.specs.Kernel.{with-direction, perturbation-of, perturbed-by, perturbed, turned, radius-of, ended, scaled, first-stage, orthogonal-entry}
 use Rattle.workspace.specs.Kernel.{entry-in, with-row-in, exchanged, with-candidate, candidate-in, error-in, with-last, divisor-in, scaled-error}
@@ -38,8 +40,8 @@ doubles = tt
 
 unfoldable pub attempts : Unit {0}
 unfolding smallest-count largest-count odd-only before-limits odd-step limited stage-count omega-zero omega-one-of b-first first-mu-tilde first-polynomials
-    first-polynomials-in recurrence-of with-theta legendre-one coefficients-of next-polynomials next-of each sum-of-squares root-of-squares vector-norm
-    all-finite with-direction perturbation-of perturbed-by perturbed turned radius-of ended scaled first-stage orthogonal-entry entry-in with-row-in exchanged
+    first-polynomials-in recurrence-of with-theta legendre-one coefficients-of next-polynomials next-of each sum-of-squares overflows lowered raised root-over
+    root-of-squares vector-norm all-finite with-direction perturbation-of perturbed-by perturbed turned radius-of ended scaled first-stage orthogonal-entry entry-in with-row-in exchanged
     with-candidate candidate-in error-in with-last divisor-in scaled-error scaled-error-norm error-norm stage-need _>>=_ evaluate stages-for iterate
     spectral-radius stage-row stage-loop run-recurrence finished-attempt close attempt-step closes by-rule facts-of
 attempts = tt
@@ -111,25 +113,60 @@ pub case-of-calls : (h : Held) → length (h .area) ≡ 11 → h .counters ≡ z
 unfolding calls
 case-of-calls h l e = ap (map numbers) (from-start h 11 2 1 (one ∷ []) nought _ l e starts) ∙ case
 
--- ---- a NaN is told as a NaN: the state 2 ^ 600, whose norm overflows, the first derivative 0, every other reply 2 ^ 600. So is the direction's norm infinite,
--- and the radius infinite over infinite, pass by pass
-
-abbrev huge : List Float
-huge = nearest (2 ^ 600) 1 ∷ []
-
--- without `adaptive`: the norm is 0
-unfoldable without-norm : Arguments
-without-norm = record { time = nought; step = one; «absolute_tolerance» = one; «relative_tolerance» = one; adaptive = false }
-
-pub nan-calls : List Call
-nan-calls = Start 2 1 huge nought ∷ Reply (nought ∷ []) ∷ Attempt without-norm ∷ replicate 15 (Reply huge)
-
 -- the last thing seen
 unfoldable pub last-seen : List Seen → List ℕ
 last-seen [] = []
 last-seen (x ∷ xs) = cond (eqb (length xs) 0) (numbers x) (last-seen xs)
 
+-- a start from this state, the first derivative 0, and an attempt in which every reply is the state
+abbrev from-zero : ℕ → List Float → Arguments → ℕ → List Call
+from-zero n state arguments replies = Start 2 n state nought ∷ Reply (replicate n nought) ∷ Attempt arguments ∷ replicate replies (Reply state)
+
+-- ---- a hot vector's norms are finite (document 02, CR 4): the state 2 ^ 600, whose square overflows. The perturbation is 2 ^ 574, the direction's norm
+-- 2 ^ 600, the radius 2 ^ 26; and the errors over their tolerances are about 2 ^ 577, with a norm that is a double too
+
+abbrev hot : List Float
+hot = nearest (2 ^ 600) 1 ∷ []
+
+unfoldable hot-arguments : Arguments
+hot-arguments = record {
+  time = nought;
+  step = nearest 1 (2 ^ 22);
+  «absolute_tolerance» = one;
+  «relative_tolerance» = nearest 1 (2 ^ 600);
+  adaptive = true;
+}
+
+pub hot-calls : List Call
+hot-calls = from-zero 1 hot hot-arguments 7
+
+-- 8 evaluations and a finished attempt; finished: the norm 8.387e172, s = 5, k = 2, r = 19.2, and the candidate
+pub hot-told : last-seen (session 11 (fresh zeroes) hot-calls)
+    ≡ 8 ∷ 1 ∷ 2 ∷ 0x63d5b3fef2004ce2 ∷ 5 ∷ 2 ∷ 0x4033333333333333 ∷ 0x657000003641fdb9 ∷ []
+unfolding last-seen numbers kind bits hot-calls hot-arguments zeroes doubles attempts sessions
+hot-told = refl
+
+-- ---- a NaN is told as a NaN: four entries of 2 ^ 1023, whose norm is no double, so that the perturbation is infinite; so is the direction's norm, and the
+-- radius is infinite over infinite, pass by pass
+
+abbrev huge : List Float
+huge = replicate 4 (nearest (2 ^ 1023) 1)
+
+-- without `adaptive`: the norm is 0
+unfoldable without-norm : Arguments
+without-norm = record {
+  time = nought;
+  step = nearest 1 (2 ^ 20);
+  «absolute_tolerance» = one;
+  «relative_tolerance» = one;
+  adaptive = false;
+}
+
+pub nan-calls : List Call
+nan-calls = from-zero 4 huge without-norm 15
+
 -- 16 evaluations and a finished attempt; finished: norm 0, s = 3, k = 12, r a NaN, and the candidate
-pub nan-told : last-seen (session 11 (fresh zeroes) nan-calls) ≡ 16 ∷ 1 ∷ 2 ∷ 0 ∷ 3 ∷ 12 ∷ 0x7ff8000000000000 ∷ 0x657b1c71c71c71c8 ∷ []
+pub nan-told : last-seen (session 44 (fresh zeroes) nan-calls)
+    ≡ 16 ∷ 1 ∷ 2 ∷ 0 ∷ 3 ∷ 12 ∷ 0x7ff8000000000000 ∷ replicate 4 0x7fe00000b1c71c73
 unfolding last-seen numbers kind bits nan-calls without-norm zeroes doubles attempts sessions
 nan-told = refl

@@ -2,7 +2,7 @@
 -- ⊕ ⊗ ⊘ are operations on doubles: they round.
 use mathlib.Core.Path.{_≡_, refl}
 use mathlib.Core.Bool.{Bool, true, false, cond}
-use mathlib.Core.List.{List, [], _∷_, foldl}
+use mathlib.Core.List.{List, [], _∷_, foldl, map}
 use Prim.Native.Nat.{ℕ, zero, suc, _+_, _*_, _^_}
 use native.Mathlib.Omega.{arith}
 use lib.Dec.{eqb}
@@ -13,7 +13,8 @@ use Rattle.ieee.specs.Double.{_⊕_, _⊗_, _⊘_, nearest, nought, one, square
 use Rattle.ieee.specs.Sqrt.{halves, root-units, in-units, sqrt}
 use Rattle.ieee.specs.Whole.{abs, max}
 use Rattle.ieee.proofs.Monotone.{NonNeg, infinite, number, round-nonneg}
-use Rattle.workspace.specs.Vectors.{Vectors, sum-of-squares, root-of-squares, vector-norm, eigenvector, state}
+use Rattle.norm.specs.Norm.{sum-of-squares, overflows, lowered, raised, root-over, root-of-squares}
+use Rattle.workspace.specs.Vectors.{Vectors, vector-norm, eigenvector, state}
 use Rattle.workspace.specs.Kernel.{perturbation-of, radius-of, scaled}
 
 pub data Plus : Float → Type 0 where
@@ -97,9 +98,13 @@ summed : (t : Float) (xs : List Float) → Plus t → Plus (foldl (λ t x. t ⊕
 summed t [] p = p
 summed t (x ∷ xs) p = summed (t ⊕ square x) xs (plus t (square x) p (squared x))
 
+over-one : (xs : List Float) → Plus (root-over one (sum-of-squares xs))
+unfolding root-over sum-of-squares
+over-one xs = rooted _ (over _ one (summed nought xs (unsigned (number 0 (pos 0)))) (unsigned (number 1 (pos 0))))
+
 norm-plus : (xs : List Float) → Plus (vector-norm xs)
-unfolding vector-norm root-of-squares sum-of-squares
-norm-plus xs = rooted _ (over _ one (summed nought xs (unsigned (number 0 (pos 0)))) (unsigned (number 1 (pos 0))))
+unfolding vector-norm root-of-squares raised
+norm-plus xs = either (overflows xs) (times _ _ (over-one (map lowered xs)) (unsigned (number 1 (pos 520)))) (over-one xs)
 
 pub perturbation-plus : (v : Vectors) → Plus (perturbation-of v)
 unfolding perturbation-of root-epsilon nearest

@@ -3,6 +3,7 @@ pub mod Candidate
 pub mod Lists
 pub mod Parts
 pub mod Front
+pub mod Infinite
 pub mod Columns
 pub mod Taking
 pub mod Rows
