@@ -111,8 +111,11 @@ root-fits m e = round-fits binary64 false (halves (in-units (fin false (suc m) e
 
 rooted : (x : Float) → NonNeg x → T (finite x) → T (fits binary64 x) → Finite-double (sqrt x)
 rooted x (number zero e) t f = record { not-negative = unfold sqrt in number 0 e; is-finite = unfold sqrt in tt; is-double = unfold sqrt in f }
-rooted x (number (suc m) e) t f = record { not-negative = n; is-finite = under (sqrt y) 1 (pos 512) n (subst (λ (z : Float). T (le (sqrt y) z)) root-of-top small);
-    is-double = root-fits m e }
+rooted x (number (suc m) e) t f = record {
+  not-negative = n;
+  is-finite = under (sqrt y) 1 (pos 512) n (subst (λ (z : Float). T (le (sqrt y) z)) root-of-top small);
+  is-double = root-fits m e;
+}
   where
     y : Float
     y = fin false (suc m) e

@@ -11,7 +11,7 @@ use lib.Seq.{paste, paste-zero}
 use lib.Ieee.{Float, nan, binary64, add}
 use Rattle.ieee.specs.Double.{_⊕_, two}
 use Rattle.ieee.specs.Sqrt.{sqrt}
-use Rattle.workspace.proofs.Lists.{fold-suc}
+use Rattle.norm.proofs.Sums.{fold-suc}
 use Rattle.workspace.proofs.Front.{pasted}
 use Rattle.timed.specs.Left.{roots-over, root-chain}
 
