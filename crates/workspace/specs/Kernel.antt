@@ -1,5 +1,6 @@
 -- What the kernel does to its vectors between two evaluations: the loops over the entries in workspace.rs, orthogonal.rs, chebyshev.rs and driver.rs.
--- Document 01, "workspace.rs: norms and the power iteration" and "driver.rs: the calls", and document 02, CR 1. ⊕ ⊖ ⊗ ⊘ are operations on doubles: they round.
+-- Document 01, "workspace.rs: norms and the power iteration" and "driver.rs: the calls", and document 02, CR 1; every norm is one of norm/specs/Norm (CR 4).
+-- ⊕ ⊖ ⊗ ⊘ are operations on doubles: they round.
 use Prim.Native.Nat.{ℕ}
 use mathlib.Core.Bool.{Bool, cond, _&&_, _||_}
 use mathlib.Core.List.{List}

@@ -1,4 +1,4 @@
-// workspace.rs: the vectors of the lent area, norms, the power iteration's steps, the rows and the error.
+// workspace.rs: the vectors of the lent area, the power iteration's steps, the rows and the error.
 ghost use mathlib.Core.Path.{_≡_};
 ghost use Rattle.family.specs.Family.{family-of};
 ghost use Rattle.workspace.specs.Vectors.{vector-count};
