@@ -1,10 +1,14 @@
-//! The proved engine held against the Rust: [`pair`] runs both side by side on the scenarios of [`scenarios`], and
-//! [`random_calls`] holds the engine's refusals against [`refusals`], a statement of document 01's table.
+//! The proved engine held against the Rust: [`pair`] runs it on the scenarios of [`scenarios`] beside the other side, which
+//! [`other`] has: the Rust, and where that does not count, the definition as [`stated`] has it. [`random_calls`] holds the
+//! engine's refusals against [`refusals`], a statement of document 01's table.
 pub mod build;
+pub mod hot;
 pub mod model;
+pub mod other;
 pub mod pair;
 pub mod random;
 pub mod random_calls;
 pub mod refusals;
 pub mod scenarios;
+pub mod stated;
 pub mod trace;

@@ -3,12 +3,16 @@
 //! differential scenario SEED LARGEST, differential call SEED: a random one again, as a difference names it; LARGEST is the
 //! largest n that the scenario was drawn with. Of a scenario every finished attempt is told.
 use differential::build::{self, Departure};
-use differential::pair::{Alone, SHORT};
+use differential::hot::{Hot, Keeping, Overflowing};
+use differential::other::Cause;
+use differential::pair::SHORT;
 use differential::random::mixed;
 use differential::random_calls::{self, Answers};
 use differential::scenarios::{
-    self, Counted, Coverage, DIMENSIONS, EARLY, ENDINGS, Keeping, Unbounded,
+    self, BY_THE_DEFINITION, Counted, Coverage, DIMENSIONS, EARLY, ENDINGS, NORM_HOT, OVERFLOWED,
+    WITH_THE_RUST,
 };
+use oracle::RKC;
 use oracle::thresholds::{self, Disagreement, UNITS};
 use std::ops::RangeInclusive;
 use std::process::ExitCode;
@@ -148,7 +152,9 @@ fn run_scenarios(size: &Size, seed: u64, departures: &[Departure]) -> Result<(),
     every_count(size, seed, departures, &mut coverage)?;
     every_early_ending(seed, departures, &mut coverage)?;
     let families = as_stored(departures);
+    every_hot_run(seed, &families, &mut coverage)?;
     every_unbounded_radius(size, seed, &families, &mut coverage)?;
+    every_overflow(seed, &families, &mut coverage)?;
     let mut index = 0;
     while coverage.attempts < size.attempts {
         let seed = mixed(seed ^ mixed(index));
@@ -243,6 +249,12 @@ fn every_early_ending(
     Ok(())
 }
 
+/// Failed sensors in every family.
+fn every_hot_run(seed: u64, families: &[u64], coverage: &mut Coverage) -> Result<(), String> {
+    let mut runs = families.iter().flat_map(|family| Hot::all_of(*family));
+    runs.try_for_each(|hot| hot.run(seed, coverage))
+}
+
 /// Radii that are no finite numbers, in every family.
 fn every_unbounded_radius(
     size: &Size,
@@ -250,14 +262,16 @@ fn every_unbounded_radius(
     families: &[u64],
     coverage: &mut Coverage,
 ) -> Result<(), String> {
-    for &family in families {
-        for &n in size.dimensions.iter().filter(|n| **n <= 8) {
-            for radius in [Unbounded::Nan, Unbounded::Infinite] {
-                Keeping { family, radius, n }.run(seed, coverage)?;
-            }
-        }
-    }
-    Ok(())
+    let of_family = |family: &u64| Keeping::all_of(*family, size.dimensions);
+    let mut runs = families.iter().flat_map(of_family);
+    runs.try_for_each(|keeping| keeping.run(seed, coverage))
+}
+
+/// RKC's count where the Rust's overflows.
+fn every_overflow(seed: u64, families: &[u64], coverage: &mut Coverage) -> Result<(), String> {
+    let steps = Overflowing::STEPS.into_iter();
+    let mut steps = steps.filter(|_| families.contains(&RKC));
+    steps.try_for_each(|step| Overflowing { step, n: 3 }.run(seed, coverage))
 }
 
 fn report(coverage: &Coverage) {
@@ -279,14 +293,8 @@ fn report(coverage: &Coverage) {
 
 /// Finished attempts whose norm, s, k and r were compared, and what their records kept the three through.
 fn report_figures(coverage: &Coverage) {
-    println!(
-        "norm, s, k and r compared with the Rust's in {}",
-        coverage.finished()
-    );
-    println!(
-        "s = 200 and the Rust's k and r in {} finished attempts of RKC where the Rust's count overflows",
-        coverage.counted(Alone::Finished.name())
-    );
+    println!("norm, s, k and r compared in {}", coverage.finished());
+    report_compared(coverage);
     let kept = coverage
         .kept
         .iter()
@@ -296,6 +304,24 @@ fn report_figures(coverage: &Coverage) {
         });
     let kept: Vec<String> = kept.collect();
     println!("s, k and r kept through: {}", kept.join(", "));
+}
+
+/// What the attempts were compared with, and the runs that went over from the Rust to the definition, by their causes.
+fn report_compared(coverage: &Coverage) {
+    let counted = |kind| coverage.counted(kind);
+    println!(
+        "attempts compared with the Rust {}, with the definition alone {}",
+        counted(WITH_THE_RUST),
+        counted(BY_THE_DEFINITION)
+    );
+    for cause in Cause::ALL {
+        println!("{} runs {}", counted(cause.name()), cause.name());
+    }
+    println!(
+        "{} finished attempts with a {NORM_HOT}, {} with {OVERFLOWED}",
+        counted(NORM_HOT),
+        counted(OVERFLOWED)
+    );
 }
 
 fn report_family(coverage: &Coverage, family: u64) {
@@ -323,6 +349,9 @@ fn report_family(coverage: &Coverage, family: u64) {
 
 fn report_calls(answers: &Answers) {
     println!("{} random calls", answers.calls);
+    for (norm, count) in &answers.hot {
+        println!("a hot norm of the {norm}: {count}");
+    }
     for ((name, answer), count) in &answers.given {
         match answer {
             0 => println!("{name}, not turned away: {count}"),

@@ -1,5 +1,9 @@
 //! Right-hand sides that both sides are given: functions of time, point and the evaluation's place in the attempt.
+use crate::other::Replying;
 use crate::random::{mixed, unit};
+use crate::stated::perturbation;
+use oracle::RightHandSide;
+use std::cell::Cell;
 
 /// A model of n temperatures.
 #[derive(Clone, Debug)]
@@ -16,8 +20,13 @@ pub enum Model {
     Cubic { rate: f64 },
     /// The same derivative everywhere: radius 0.
     Constant { value: f64 },
-    /// No function at all: numbers drawn for each place, of magnitude 2^least to 2^most.
-    Noise { seed: u64, least: f64, most: f64 },
+    /// No function at all: numbers drawn for each place, of magnitude 2^least to 2^most and of a sign, if it is given.
+    Noise {
+        seed: u64,
+        least: f64,
+        most: f64,
+        sign: Option<f64>,
+    },
 }
 
 impl Model {
@@ -38,10 +47,16 @@ impl Model {
                 Model::Forced { rate } => rate * (time / (1.0 + time * time) - y),
                 Model::Cubic { rate } => rate * y * y * y,
                 Model::Constant { value } => value,
-                Model::Noise { seed, least, most } => {
+                Model::Noise {
+                    seed,
+                    least,
+                    most,
+                    sign,
+                } => {
                     let draw = mixed(seed ^ mixed((place * n + i) as u64));
                     let magnitude = (least + (most - least) * unit(mixed(draw))).exp2();
-                    if draw & 1 == 0 { magnitude } else { -magnitude }
+                    let drawn = if draw & 1 == 0 { 1.0 } else { -1.0 };
+                    sign.unwrap_or(drawn) * magnitude
                 }
             };
         }
@@ -77,8 +92,7 @@ impl Replies {
     /// Gives the passes these radii: each reply departs from the first derivative, in its first entry, by radius times
     /// perturbation.
     pub fn with_radii(mut self, radii: Vec<f64>, first: &[f64], state: &[f64]) -> Self {
-        let norm = state.iter().map(|value| value * value).sum::<f64>().sqrt();
-        self.perturbation = f64::EPSILON.sqrt() * norm.max(1.0);
+        self.perturbation = perturbation(state);
         self.base = first.to_vec();
         self.radii = radii;
         self
@@ -96,6 +110,16 @@ impl Replies {
             && at == place
         {
             derivative[entry % point.len()] = value;
+        }
+    }
+}
+
+impl Replying for Replies {
+    fn in_turn(&self) -> impl RightHandSide {
+        let place = Cell::new(0);
+        move |derivative: &mut [f64], point: &[f64], time| {
+            self.evaluate(place.replace(place.get() + 1), derivative, point, time);
+            Ok(())
         }
     }
 }

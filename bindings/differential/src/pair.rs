@@ -1,22 +1,28 @@
-//! The engine and the Rust side by side: each call goes to both, and time, point, answer, counts, norm, s, k, r and all eleven
-//! vectors are compared, bit for bit with NaN matching NaN. k and s of the Rust are the evaluations of its power iteration and
-//! of the rest of its attempt; r is |step| times what `spectral_radius` gives, multiplied here as driver.rs does.
+//! The engine and the other side, side by side: each call goes to both, and time, point, answer, counts, norm, s, k, r and all
+//! eleven vectors are compared, bit for bit with NaN matching NaN.
 //!
-//! The Rust evaluates inside a call. To see its vectors at an evaluation, it is run again from a copy up to there, where
+//! The other side is the Rust. k and s of the Rust are the evaluations of its power iteration and of the rest of its attempt;
+//! r is |step| times what `spectral_radius` gives, multiplied there as driver.rs does. Before the first attempt in which the
+//! Rust does not count ([`cause`]) a run goes over to the definition, and goes on against that to its end. Until then the
+//! definition is held against the Rust at the end of every call that evaluates: it is shown to be right where the Rust counts.
+//!
+//! Both sides evaluate inside a call. To see the vectors at an evaluation, the call is made again from a copy up to there, where
 //! the right-hand side stops it before a derivative is written. That is done at each evaluation of an attempt with up to 200
 //! stages. Of a longer one it is done at every pass, at the candidate and at some stages (`looked_at`). At the other stages
 //! [`check`] settles every vector but previous_one, and that is the point, which is compared; so all eleven are settled at
 //! each evaluation.
 use crate::model::Replies;
+use crate::other::{Cause, End, Made, Other, Rhs, cause, stopped_at};
 use crate::random::{Random, all_same, same};
 use crate::refusals::{
     Arguments, Call, Given, Held, Kept, Outcome, Start, check, evaluate, finished, name, number,
     refused, same_answer, stands, without_values,
 };
+use crate::stated::{Stated, finite};
 use crate::trace::Trace;
-use oracle::{Figures, Iteration, Oracle, SolveError};
+use oracle::{Figures, Oracle, SolveError};
 use stabilized::calls::{self, Answer, Counters, Record, VECTORS, Wholes, code, phase, vector};
-use std::cell::{Cell, RefCell};
+use std::array;
 use std::collections::BTreeMap;
 
 /// The largest count of the families but RKMC2. Above it attempts are long: fewer are made, and less often all is looked at.
@@ -32,42 +38,6 @@ pub enum Ending {
     Abandoned,
     /// Left with an evaluation pending, for a start in the middle.
     Pending,
-    /// RKC with an r at which the Rust's count overflows: of the Rust only the power iteration was run.
-    LeftOut(Alone),
-}
-
-/// How an attempt ended whose stages the engine ran alone.
-#[derive(Clone, Copy, Debug, PartialEq)]
-pub enum Alone {
-    Finished,
-    BadDerivative,
-    BadCandidate,
-}
-
-impl Alone {
-    pub const ALL: [Self; 3] = [Self::Finished, Self::BadDerivative, Self::BadCandidate];
-
-    /// What it is counted as.
-    pub const fn name(self) -> &'static str {
-        match self {
-            Self::Finished => "left out, finished",
-            Self::BadDerivative => "left out, ended with 9",
-            Self::BadCandidate => "left out, ended with 10",
-        }
-    }
-
-    /// Whether it made as many evaluations as it must: all of the s + k, or all but that of the candidate. A bad derivative
-    /// may come at each.
-    fn made(self, evaluations: u64, all: u64) -> Result<(), String> {
-        let right = match self {
-            Self::Finished => evaluations == all,
-            Self::BadCandidate => evaluations + 1 == all,
-            Self::BadDerivative => evaluations <= all,
-        };
-        right
-            .then_some(())
-            .ok_or_else(|| format!("{evaluations} evaluations of {all}, {self:?} at an overflow"))
-    }
 }
 
 /// What is done at an evaluation instead of replying.
@@ -85,13 +55,15 @@ pub struct Pair {
     pub area: Vec<f64>,
     /// The record's whole numbers at the latest evaluation.
     pub evaluated: Wholes,
-    oracle: Oracle,
-    /// Evaluations counted before this oracle began.
+    other: Other,
+    /// Evaluations counted before this other side began.
     counted: u64,
     finished: u64,
-    /// False while the oracle's vectors began as zeros and the engine's did not: then only what an attempt reads is
+    /// False while the other side's vectors began as zeros and the engine's did not: then only what an attempt reads is
     /// compared at an evaluation.
     strict: bool,
+    /// Why the definition alone counts, once it does.
+    pub went_over: Option<Cause>,
     /// Of the latest finished answer, until an attempt is taken: what the record keeps.
     told: Option<Kept>,
     /// How many calls it was kept through, by name and the number that the call was turned away with, or 0.
@@ -122,10 +94,11 @@ impl Pair {
             counters: Counters::default(),
             area,
             evaluated: Wholes::default(),
-            oracle: Oracle::new(1, n),
+            other: Other::Rust(Oracle::new(1, n)),
             counted: 0,
             finished: 0,
             strict,
+            went_over: None,
             told: None,
             kept: BTreeMap::new(),
             random: Random::new(seed),
@@ -135,7 +108,7 @@ impl Pair {
     }
 
     /// From here on writes down every call. Only where the vectors of both sides began alike, so that all that is written
-    /// is compared with the Rust's.
+    /// is compared.
     pub fn write_down(&mut self, trace: &mut Option<Trace>) {
         if self.strict
             && let Some(mut trace) = trace.take()
@@ -160,6 +133,11 @@ impl Pair {
         &self.area[number * n..(number + 1) * n]
     }
 
+    /// The definition with the engine's vectors.
+    fn stated(&self, family: u64) -> Stated {
+        Stated::with_vectors(family, array::from_fn(|number| self.vector(number)))
+    }
+
     pub fn start(
         &mut self,
         family: u64,
@@ -170,10 +148,12 @@ impl Pair {
     ) -> Compared {
         let n = self.n();
         self.counted = self.counters.evaluations;
-        self.oracle = if self.strict {
-            Oracle::with_vectors(family, n, &self.area)
-        } else {
-            Oracle::new(family, n)
+        self.other = match self.other {
+            Other::Stated(_) => Other::Stated(self.stated(family)),
+            Other::Rust(_) if self.strict => {
+                Other::Rust(Oracle::with_vectors(family, n, &self.area))
+            }
+            Other::Rust(_) => Other::Rust(Oracle::new(family, n)),
         };
         let call = Call::Start(Start {
             family,
@@ -182,8 +162,8 @@ impl Pair {
             time,
         });
         let outcome = self.engine(&call)?;
-        self.follow(outcome, replies, stop, |oracle, rhs| {
-            oracle.initialize(state, time, rhs).map(|()| None)
+        self.follow(outcome, replies, stop, |other, rhs| {
+            other.initialize(state, time, rhs)
         })
     }
 
@@ -193,22 +173,20 @@ impl Pair {
         replies: &Replies,
         stop: Option<(usize, Stop)>,
     ) -> Compared {
-        let iteration = self.iteration(arguments, replies);
+        self.go_over(arguments, replies, stop);
+        let iteration = self.other.iteration(arguments, replies);
         let outcome = self.engine(&Call::Attempt(arguments_of(arguments)))?;
-        match &iteration {
-            Ok(ended) if self.overflows(ended) => self.left_out(outcome, replies, ended),
-            _ => self.follow(outcome, replies, stop, |oracle, rhs| {
-                oracle.figures(&iteration, arguments, rhs).map(Some)
-            }),
-        }
+        self.follow(outcome, replies, stop, |other, rhs| {
+            other.attempt(&iteration, arguments, rhs)
+        })
     }
 
     pub fn accept(&mut self) -> Result<(), String> {
         let kept = self.record.doubles;
         let outcome = self.engine(&Call::Accept)?;
-        self.oracle.accept(kept.time, kept.step);
-        expect(&outcome.answer, &without_values(code::READY))?;
-        self.compare(&self.oracle, true, "accept")
+        self.other.accept(kept.time, kept.step);
+        self.expect(&outcome.answer, &without_values(code::READY))?;
+        self.compare(&self.other, true, "accept")
     }
 
     pub fn accept_with_callback(
@@ -220,43 +198,36 @@ impl Pair {
     ) -> Compared {
         let step = self.record.doubles.step;
         let outcome = self.engine(&Call::AcceptWithCallback { state, time })?;
-        self.follow(outcome, replies, stop, |oracle, rhs| {
-            oracle
-                .accept_with_callback(state, time, step, rhs)
-                .map(|()| None)
+        self.follow(outcome, replies, stop, |other, rhs| {
+            other.accept_with_callback(state, time, step, rhs)
         })
     }
 
-    /// How many evaluations the Rust makes in an attempt; 1 where its count overflows, since it is not run there.
+    /// How many evaluations an attempt makes by the definition.
     pub fn evaluations(&self, arguments: oracle::Arguments, replies: &Replies) -> usize {
-        let iteration = self.iteration(arguments, replies);
-        if iteration.is_ok_and(|ended| self.overflows(&ended)) {
-            return 1;
-        }
-        let run = |oracle: &mut Oracle, rhs: &Rhs| oracle.attempt(arguments, rhs).map(|_| None);
-        Whole::of(&self.oracle, replies, &run).evaluated.len()
+        let stated = self.stated(self.record.wholes.family);
+        let attempt = |stated: &mut Stated, rhs: &Rhs| stated.attempt(arguments, rhs);
+        let made = Made::on(&stated, replies, None, &attempt);
+        made.evaluated.len()
     }
 
-    /// Whether the Rust's stage count overflows after this iteration.
-    fn overflows(&self, iteration: &Iteration) -> bool {
-        oracle::overflows(self.record.wholes.family, iteration.scaled_radius)
-    }
-
-    /// The Rust's power iteration in the attempt that follows.
-    fn iteration(
-        &self,
+    /// Goes over to the definition, if the Rust does not count in the attempt that follows. It begins with the engine's vectors,
+    /// which were compared with the Rust's.
+    fn go_over(
+        &mut self,
         arguments: oracle::Arguments,
         replies: &Replies,
-    ) -> Result<Iteration, SolveError> {
-        let place = Cell::new(0);
-        self.oracle.iteration(
-            arguments,
-            &|derivative: &mut [f64], point: &[f64], time: f64| {
-                replies.evaluate(place.get(), derivative, point, time);
-                place.set(place.get() + 1);
-                Ok(())
-            },
-        )
+        stop: Option<(usize, Stop)>,
+    ) {
+        let family = self.record.wholes.family;
+        if let Other::Rust(rust) = &self.other
+            && let Some(cause) = cause(rust, family, arguments, replies, place_of(stop))
+        {
+            self.other = Other::Stated(self.stated(family));
+            self.counted = self.counters.evaluations;
+            self.strict = true;
+            self.went_over = Some(cause);
+        }
     }
 
     /// One call of the engine; what document 01's table settles of it is checked.
@@ -317,34 +288,30 @@ impl Pair {
         }
     }
 
-    /// Drives the engine through all evaluations of one call of the Rust.
+    /// Drives the engine through all evaluations of one call of the other side.
     fn follow(
         &mut self,
         first: Outcome,
         replies: &Replies,
         stop: Option<(usize, Stop)>,
-        run: impl Fn(&mut Oracle, &Rhs) -> End,
+        call: impl Fn(&mut Other, &Rhs) -> End,
     ) -> Compared {
-        let whole = Whole::of(&self.oracle, replies, &run);
+        let made = Made::on(&self.other, replies, place_of(stop), &call);
+        self.hold_definition(&made, replies, stop, &call)?;
         let (mut outcome, mut passes) = (first, 0);
         let mut derivative = vec![0.0; self.n()];
-        let mut at = self.oracle.clone();
-        for (place, (time, point)) in whole.evaluated.iter().enumerate() {
-            self.evaluated = self.record.wholes;
-            let number = asked(self.evaluated.phase);
-            expect(&outcome.answer, &evaluate(number, *time))?;
-            if !all_same(self.vector(number), point) {
-                return Err(format!("another point at evaluation {place}"));
-            }
+        let mut at = self.other.clone();
+        for (place, (time, point)) in made.evaluated.iter().enumerate() {
+            let number = self.asks(&outcome.answer, *time, point, place)?;
             let stop = stop.filter(|(there, _)| *there == place);
-            if stop.is_some() || looked_at(place, whole.evaluated.len()) {
-                at = stopped_at(place, &self.oracle, replies, &run);
+            if stop.is_some() || looked_at(place, made.evaluated.len()) {
+                at = stopped_at(place, &self.other, replies, &call);
                 self.compare(&at, self.strict, &format!("evaluation {place}"))?;
             }
             passes += u64::from(self.evaluated.phase == phase::PASS);
             self.something_turned_away()?;
             if let Some((_, stop)) = stop {
-                self.oracle = at;
+                self.other = at;
                 return self.stopped(stop);
             }
             let point = self.vector(number).to_vec();
@@ -353,9 +320,42 @@ impl Pair {
                 derivative: &derivative,
             })?;
         }
-        let ending = self.ending(&outcome, &whole, &derivative, passes)?;
-        self.take_over(whole.oracle, at, ending)?;
+        let ending = self.ending(&outcome, &made, &derivative, passes)?;
+        self.take_over(made.kernel, at, ending)?;
         Ok(ending)
+    }
+
+    /// The vector that the engine asks to evaluate, at the same time and point as the other side.
+    fn asks(
+        &mut self,
+        answer: &Answer,
+        time: f64,
+        point: &[f64],
+        place: usize,
+    ) -> Result<usize, String> {
+        self.evaluated = self.record.wholes;
+        let number = asked(self.evaluated.phase);
+        self.expect(answer, &evaluate(number, time))?;
+        all_same(self.vector(number), point)
+            .then_some(number)
+            .ok_or_else(|| format!("another point at evaluation {place}"))
+    }
+
+    /// While the Rust counts: the same call by the definition, from the Rust's vectors, comes to the same.
+    fn hold_definition(
+        &self,
+        made: &Made<Other, Option<Figures>>,
+        replies: &Replies,
+        stop: Option<(usize, Stop)>,
+        call: &impl Fn(&mut Other, &Rhs) -> End,
+    ) -> Result<(), String> {
+        if let Other::Stated(_) = self.other {
+            return Ok(());
+        }
+        let family = self.record.wholes.family;
+        let stated = Other::Stated(Stated::with_vectors(family, self.other.vectors()));
+        let stated = Made::on(&stated, replies, place_of(stop), call);
+        stated.compare(made)
     }
 
     fn stopped(&mut self, stop: Stop) -> Compared {
@@ -368,47 +368,53 @@ impl Pair {
         }
     }
 
-    /// Goes on with the Rust's kernel as it is after the call; where number 9 turned a derivative away, as it was before
-    /// that derivative was written.
-    fn take_over(&mut self, whole: Oracle, before: Oracle, ending: Ending) -> Result<(), String> {
-        let counted = self.counted + whole.evaluations();
+    /// Goes on with the other side as it is after the call; where number 9 turned a derivative away, as it was before that
+    /// derivative was written.
+    fn take_over(&mut self, after: Other, before: Other, ending: Ending) -> Result<(), String> {
+        let counted = self.counted + after.evaluations();
         if self.counters.evaluations != counted {
-            let ours = self.counters.evaluations;
-            return Err(format!("{ours} evaluations, the Rust's {counted}"));
+            let (ours, theirs) = (self.counters.evaluations, after.name());
+            return Err(format!("{ours} evaluations, by {theirs} {counted}"));
         }
-        self.oracle = if ending == Ending::BadDerivative {
+        self.other = if ending == Ending::BadDerivative {
             before
         } else {
-            whole
+            after
         };
-        self.counted = counted - self.oracle.evaluations();
+        self.counted = counted - self.other.evaluations();
         self.strict |= matches!(ending, Ending::Finished(_));
-        self.compare(&self.oracle, self.strict, "the end")
+        self.compare(&self.other, self.strict, "the end")
     }
 
-    fn ending(&mut self, outcome: &Outcome, whole: &Whole, last: &[f64], passes: u64) -> Compared {
+    fn ending(
+        &mut self,
+        outcome: &Outcome,
+        made: &Made<Other, Option<Figures>>,
+        last: &[f64],
+        passes: u64,
+    ) -> Compared {
         let answer = &outcome.answer;
-        match whole.end {
+        match made.end {
             Ok(None) => {
-                expect(answer, &without_values(code::READY))?;
+                self.expect(answer, &without_values(code::READY))?;
                 Ok(Ending::Ready)
             }
             Ok(Some(figures)) => self.finished(answer, figures, passes),
-            Err(SolveError::NonFiniteDerivative) if last.iter().all(|value| value.is_finite()) => {
-                expect(answer, &refused(10))?;
+            Err(SolveError::NonFiniteDerivative) if finite(last) => {
+                self.expect(answer, &refused(10))?;
                 Ok(Ending::BadCandidate)
             }
             Err(SolveError::NonFiniteDerivative) => {
-                expect(answer, &refused(9))?;
+                self.expect(answer, &refused(9))?;
                 Ok(Ending::BadDerivative)
             }
-            Err(error) => Err(format!("the Rust ended with {error:?}")),
+            Err(error) => Err(format!("{} ended with {error:?}", made.kernel.name())),
         }
     }
 
-    /// A finished answer beside what the Rust's attempt comes to, and beside the passes that the engine asked for.
+    /// A finished answer beside what the other side's attempt comes to, and beside the passes that the engine asked for.
     fn finished(&mut self, answer: &Answer, figures: Figures, passes: u64) -> Compared {
-        expect(answer, &finished(figures.norm, &kept_of(&figures)))?;
+        self.expect(answer, &finished(figures.norm, &kept_of(&figures)))?;
         if passes != figures.passes {
             return Err(format!(
                 "asked for {passes} passes, finished with {figures}"
@@ -421,69 +427,19 @@ impl Pair {
         Ok(Ending::Finished(figures))
     }
 
-    /// RKC where the Rust's count overflows: the engine alone, which runs 200 stages. k and r are still the Rust's.
-    fn left_out(&mut self, first: Outcome, replies: &Replies, iteration: &Iteration) -> Compared {
-        let (mut outcome, mut passes) = (first, 0);
-        let before = self.counters.evaluations;
-        let mut derivative = vec![0.0; self.n()];
-        let expected = Kept {
-            stages: 200,
-            passes: iteration.passes,
-            scaled_radius: iteration.scaled_radius,
-        };
-        for place in 0.. {
-            if outcome.answer.code != code::EVALUATE {
-                break;
-            }
-            passes += u64::from(self.record.wholes.phase == phase::PASS);
-            let point = self.vector(outcome.answer.number as usize).to_vec();
-            replies.evaluate(place, &mut derivative, &point, outcome.answer.time);
-            outcome = self.engine(&Call::Reply {
-                derivative: &derivative,
-            })?;
-            let held = Kept::in_record(&self.record);
-            if self.record.wholes.phase == phase::STAGE && !held.is(&expected) {
-                return Err(format!("at an overflow {held:?}, expected {expected:?}"));
-            }
-        }
-        let alone = self.alone(&outcome.answer, &expected, &derivative, passes)?;
-        let evaluations = self.counters.evaluations - before;
-        alone.made(evaluations, expected.stages + expected.passes)?;
-        Ok(Ending::LeftOut(alone))
+    fn expect(&self, answer: &Answer, expected: &Answer) -> Result<(), String> {
+        let theirs = self.other.name();
+        same_answer(answer, expected)
+            .then_some(())
+            .ok_or_else(|| format!("answered {answer:?}, by {theirs} {expected:?}"))
     }
 
-    /// How an attempt ended whose stages the engine ran alone, by its answer and the last reply. The norm is the answer's own.
-    fn alone(
-        &mut self,
-        answer: &Answer,
-        expected: &Kept,
-        last: &[f64],
-        passes: u64,
-    ) -> Result<Alone, String> {
-        if answer.code == code::FINISHED {
-            let figures = Figures {
-                norm: answer.norm,
-                stages: expected.stages,
-                passes: expected.passes,
-                scaled_radius: expected.scaled_radius,
-            };
-            self.finished(answer, figures, passes)?;
-            return Ok(Alone::Finished);
-        }
-        if last.iter().all(|value| value.is_finite()) {
-            expect(answer, &refused(10))?;
-            return Ok(Alone::BadCandidate);
-        }
-        expect(answer, &refused(9))?;
-        Ok(Alone::BadDerivative)
-    }
-
-    /// The engine's vectors against the Rust's: all of them, or those that an attempt reads.
-    fn compare(&self, oracle: &Oracle, all: bool, place: &str) -> Result<(), String> {
+    /// The engine's vectors against the other side's: all of them, or those that an attempt reads.
+    fn compare(&self, other: &Other, all: bool, place: &str) -> Result<(), String> {
         const READ: [usize; 3] = [vector::EIGENVECTOR, vector::STATE, vector::FIRST_DERIVATIVE];
         let begun = ![phase::FIRST, phase::EMPTY].contains(&self.record.wholes.phase);
         let read = if begun { &READ[..] } else { &READ[..2] };
-        for (number, theirs) in oracle.vectors().into_iter().enumerate() {
+        for (number, theirs) in other.vectors().into_iter().enumerate() {
             if !all && !read.contains(&number) {
                 continue;
             }
@@ -491,8 +447,9 @@ impl Pair {
             if let Some((i, (ours, theirs))) =
                 entries.into_iter().find(|(_, (a, b))| !same(**a, **b))
             {
+                let by = other.name();
                 return Err(format!(
-                    "entry {i} of vector {number} at {place}: {ours:?}, the Rust's {theirs:?}"
+                    "entry {i} of vector {number} at {place}: {ours:?}, by {by} {theirs:?}"
                 ));
             }
         }
@@ -573,35 +530,9 @@ fn bad_calls<'a>(one_too_long: &'a [f64], infinite: &'a [f64]) -> [Call<'a>; BAD
     ]
 }
 
-type Rhs<'a> = dyn Fn(&mut [f64], &[f64], f64) -> Result<(), SolveError> + 'a;
-
-/// What a call of the Rust gives: of an attempt its figures.
-type End = Result<Option<Figures>, SolveError>;
-
-/// One whole call of the Rust: its kernel afterwards, what it gave, and where it evaluated.
-struct Whole {
-    oracle: Oracle,
-    end: End,
-    evaluated: Vec<(f64, Vec<f64>)>,
-}
-
-impl Whole {
-    fn of(oracle: &Oracle, replies: &Replies, run: &impl Fn(&mut Oracle, &Rhs) -> End) -> Self {
-        let evaluated = RefCell::new(Vec::new());
-        let mut oracle = oracle.clone();
-        let end = run(&mut oracle, &|derivative, point, time| {
-            let place = evaluated.borrow().len();
-            replies.evaluate(place, derivative, point, time);
-            evaluated.borrow_mut().push((time, point.to_vec()));
-            Ok(())
-        });
-        let evaluated = evaluated.into_inner();
-        Self {
-            oracle,
-            end,
-            evaluated,
-        }
-    }
+/// The place of a stop, if there is one.
+fn place_of(stop: Option<(usize, Stop)>) -> Option<usize> {
+    stop.map(|(place, _)| place)
 }
 
 /// The most passes.
@@ -614,34 +545,13 @@ const LAST: usize = 4;
 /// And between them one in so many.
 const EVERY: usize = 16;
 
-/// Whether the Rust is run again up to an evaluation, to see all its vectors there: at each of a short attempt, of a long
-/// one at some, since all would take the square of their number.
+/// Whether a call is made again up to an evaluation, to see all vectors there: at each of a short attempt, of a long one at
+/// some, since all would take the square of their number.
 fn looked_at(place: usize, evaluations: usize) -> bool {
     evaluations <= SHORT + PASSES
         || place < FIRST
         || place + LAST >= evaluations
         || place.is_multiple_of(EVERY)
-}
-
-/// The Rust's kernel inside a call, at an evaluation whose derivative is not yet written.
-fn stopped_at(
-    place: usize,
-    oracle: &Oracle,
-    replies: &Replies,
-    run: &impl Fn(&mut Oracle, &Rhs) -> End,
-) -> Oracle {
-    let mut oracle = oracle.clone();
-    let reached = Cell::new(0);
-    let end = run(&mut oracle, &|derivative, point, time| {
-        if reached.get() == place {
-            return Err(SolveError::Stopped);
-        }
-        replies.evaluate(reached.get(), derivative, point, time);
-        reached.set(reached.get() + 1);
-        Ok(())
-    });
-    assert_eq!(end, Err(SolveError::Stopped));
-    oracle
 }
 
 /// The vector that is evaluated in a phase.
@@ -652,12 +562,6 @@ fn asked(at: u64) -> usize {
         phase::CANDIDATE => vector::CANDIDATE,
         _ => vector::STATE,
     }
-}
-
-fn expect(answer: &Answer, rusts: &Answer) -> Result<(), String> {
-    same_answer(answer, rusts)
-        .then_some(())
-        .ok_or_else(|| format!("answered {answer:?}, the Rust's {rusts:?}"))
 }
 
 /// A call's name; of a reply outside an attempt with what it replies to.

@@ -1,10 +1,12 @@
 //! Calls with any record, lengths, counters and doubles, each held against document 01's table.
+use crate::hot::is_hot;
 use crate::pair::{answer_number, make};
 use crate::random::Random;
 use crate::refusals::{
     Arguments, Call, Given, Held, Start, check, good_pass, name, numbers, permitted,
 };
-use stabilized::calls::{Answer, Counters, Doubles, Record, VECTORS, Wholes, phase};
+use crate::stated::overflows;
+use stabilized::calls::{Counters, Doubles, Record, VECTORS, Wholes, code, phase, vector};
 use std::collections::{BTreeMap, BTreeSet};
 
 /// How often each call gave each answer: 0 for a call that was not turned away, else the number.
@@ -21,6 +23,28 @@ pub struct Answers {
     /// Replies and abandons in that phase with a permitted stage count, by name, the record's pass, and whether they were
     /// turned away with 4, which is then for the pass alone.
     passes: BTreeSet<(&'static str, u64, bool)>,
+    /// Calls with one of [`HOT_NORMS`].
+    pub hot: BTreeMap<&'static str, u64>,
+}
+
+/// The norms that are of finite entries whose sum of squares overflows, in some calls of every run: an attempt has the
+/// state's, a reply to a pass the direction's, and a reply to the candidate the error's.
+const HOT_NORMS: [&str; 3] = ["state", "direction", "error"];
+
+/// The hot norm of a call that was taken, if it has one, by the area that it left.
+fn hot_norm(call: &Call, given: &Given, before: &Record) -> Option<&'static str> {
+    let answer = &given.outcome.answer;
+    let n = given.area.len() / VECTORS;
+    let [state, direction, error] = HOT_NORMS;
+    let overflows = |vector: usize| overflows(&given.area[vector * n..(vector + 1) * n]);
+    match (call, before.wholes.phase, answer.code) {
+        (Call::Attempt(_), _, code::EVALUATE) => overflows(vector::STATE).then_some(state),
+        (Call::Reply { .. }, phase::PASS, code::EVALUATE) => {
+            overflows(vector::EIGENVECTOR).then_some(direction)
+        }
+        (Call::Reply { .. }, _, code::FINISHED) => is_hot(answer.norm).then_some(error),
+        _ => None,
+    }
 }
 
 /// The passes that a record in the candidate's phase has in every run.
@@ -33,8 +57,8 @@ fn outside(family: u64) -> [u64; 2] {
 }
 
 impl Answers {
-    /// The numbers of the lists that no call gave; the families and counts next to the permitted ones that none had; and the
-    /// passes of [`PASSES`] that no reply or no abandon had.
+    /// The numbers of the lists that no call gave; the families and counts next to the permitted ones that none had; the
+    /// passes of [`PASSES`] that no reply or no abandon had; and the norms of [`HOT_NORMS`] that none had.
     pub fn missing(&self) -> Vec<String> {
         let all = self.lists.iter();
         let numbers = all
@@ -59,17 +83,25 @@ impl Answers {
             .map(|(name, pass, bad)| {
                 format!("{name} in the candidate's phase with pass {pass}, turned away: {bad}")
             });
+        let hot = HOT_NORMS
+            .into_iter()
+            .filter(|norm| !self.hot.contains_key(norm))
+            .map(|norm| format!("a hot norm of the {norm}"));
         numbers
             .chain(families)
             .chain(counts)
             .chain(passes)
+            .chain(hot)
             .collect()
     }
 
     /// Counts a call by its answer.
-    fn count(&mut self, call: &Call, record: &Record, answer: &Answer) {
-        let (name, number) = (name(call), answer_number(answer));
+    fn count(&mut self, call: &Call, record: &Record, given: &Given) {
+        let (name, number) = (name(call), answer_number(&given.outcome.answer));
         self.calls += 1;
+        if let Some(norm) = hot_norm(call, given, record) {
+            *self.hot.entry(norm).or_default() += 1;
+        }
         *self.given.entry((name, number)).or_default() += 1;
         self.lists.insert(name, numbers(call));
         match (call, number) {
@@ -106,17 +138,15 @@ fn number(random: &mut Random, usual: u64, about: u64) -> u64 {
     }
 }
 
+/// Ordinary doubles; one time in four any doubles, and now and then about half of them hot.
 fn doubles(random: &mut Random, length: usize) -> Vec<f64> {
-    let any = random.chance(25);
-    (0..length)
-        .map(|_| {
-            if any {
-                random.any_double()
-            } else {
-                random.between(-2.0, 2.0)
-            }
-        })
-        .collect()
+    let kind = random.below(20);
+    let mut double = || match kind {
+        0..5 => random.any_double(),
+        5 if random.chance(50) => random.sign() * random.magnitude(155.0, 305.0),
+        _ => random.between(-2.0, 2.0),
+    };
+    (0..length).map(|_| double()).collect()
 }
 
 fn double(random: &mut Random) -> f64 {
@@ -270,7 +300,6 @@ pub fn call(seed: u64, answers: &mut Answers) -> Result<(), String> {
     let call = any_call(random, family, n as u64, &brought);
     let (mut area, mut left) = (before.clone(), counters);
     let outcome = make(record, &mut left, &mut area, &call);
-    answers.count(&call, &record, &outcome.answer);
     let held = Held {
         record,
         counters,
@@ -281,6 +310,7 @@ pub fn call(seed: u64, answers: &mut Answers) -> Result<(), String> {
         counters: left,
         area: &area,
     };
+    answers.count(&call, &record, &given);
     check(&held, &call, &given)
         .map_err(|difference| format!("{difference}\n{call:?}\n{record:?}\n{counters:?}"))
 }

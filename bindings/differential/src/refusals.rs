@@ -1,15 +1,15 @@
 //! Document 01, "When a call is turned away", stated anew, with what each call leaves; families 1 to 6 by document 02, CR 1,
-//! and by CR 2 what a finished answer carries and the record keeps. It is stated from the documents alone, but for the stage
-//! count, which is the Rust's, and RKMC2's, which is by the stored thresholds.
+//! by CR 2 what a finished answer carries and the record keeps, and by CR 4 the norms, which [`crate::stated`] has. It is
+//! stated from the documents alone, but for the stage count, which is the Rust's, and RKMC2's, which is by the stored
+//! thresholds.
 //!
 //! [`number`] gives the number of the first test from 1 to 9 that a call fails. [`check`] compares what an engine answered
 //! and left with what the document settles, number 10 included: whether a candidate is finite is seen in the area.
-use crate::build::stored_thresholds;
 use crate::random::{all_same, same};
+use crate::stated::{Combination, Stated, finite, last_pass, scaled, stages_for};
 use oracle::RKMC2;
-use oracle::thresholds::count_by;
 use stabilized::calls::{Answer, Counters, Doubles, Record, code, phase, vector};
-use std::sync::LazyLock;
+use std::array;
 
 /// What start brings.
 #[derive(Clone, Copy, Debug)]
@@ -80,10 +80,6 @@ pub fn stands(number: u64) -> bool {
 
 const VECTORS: u64 = 11;
 const LIMIT: u64 = u64::MAX;
-
-fn finite(values: &[f64]) -> bool {
-    values.iter().all(|value| value.is_finite())
-}
 
 pub fn permitted(family: u64, stages: u64) -> bool {
     match family {
@@ -325,8 +321,8 @@ pub fn without_values(code: u64) -> Answer {
     }
 }
 
-/// What the document settles of a call: the answer, the record, the counters, and the area with the vectors that are settled
-/// apart.
+/// What the document settles of a call: the answer, the record, the counters, and the area but for the stage that a reply
+/// makes.
 struct Settled {
     answer: Option<Answer>,
     record: Record,
@@ -356,36 +352,6 @@ fn at_pass(record: Record, pass: u64, perturbation: f64, previous_radius: f64) -
     after.doubles.previous_radius = previous_radius;
     after.doubles.scaled_radius = 0.0;
     after
-}
-
-/// "Perturbation is 2^-26 × max(norm of state, 1)."
-const PERTURBATION: f64 = 1.0 / (1 << 26) as f64;
-
-fn norm(values: &[f64]) -> f64 {
-    values.iter().map(|value| value * value).sum::<f64>().sqrt()
-}
-
-/// "It ends at radius 0, after the second or a later pass when the change is at most 0.01 × max(radius, 1), and always after
-/// 12 passes."
-fn last_pass(record: &Record, radius: f64) -> bool {
-    let change = (radius - record.doubles.previous_radius).abs();
-    let pass = record.wholes.pass;
-    radius == 0.0 || (pass >= 2 && change <= 0.01 * radius.max(1.0)) || pass == 12
-}
-
-/// RKMC2's, as they are stored: read once.
-static THRESHOLDS: LazyLock<Vec<f64>> = LazyLock::new(stored_thresholds);
-
-/// The count for r: RKMC2's by the thresholds, 200 where the Rust's overflows in RKC, and else the Rust's.
-fn stages_for(family: u64, scaled_radius: f64) -> u64 {
-    if oracle::overflows(family, scaled_radius) {
-        return 200;
-    }
-    let stages = match family {
-        RKMC2 => count_by(&THRESHOLDS, scaled_radius),
-        _ => oracle::stages(family, scaled_radius),
-    };
-    stages as u64
 }
 
 /// With the position among the stages of another record, and what they carry on.
@@ -430,6 +396,16 @@ impl Settled {
 
     fn copy(&mut self, from: usize, to: usize, n: usize) {
         self.area.copy_within(from * n..(from + 1) * n, to * n);
+    }
+
+    /// The area as part of an attempt leaves it, and what that part gives.
+    fn by_definition<T>(&mut self, record: &Record, part: impl Fn(&mut Stated) -> T) -> T {
+        let n = record.wholes.n as usize;
+        let vectors = array::from_fn(|vector| self.vector(vector, n));
+        let mut stated = Stated::with_vectors(record.wholes.family, vectors);
+        let given = part(&mut stated);
+        self.area = stated.vectors().concat();
+        given
     }
 }
 
@@ -476,9 +452,8 @@ fn settle_attempt(s: &mut Settled, record: Record, arguments: Arguments) {
     after.doubles.absolute_tolerance = arguments.absolute_tolerance;
     after.doubles.relative_tolerance = arguments.relative_tolerance;
     after.wholes.adaptive = arguments.adaptive;
-    let state = norm(s.vector(vector::STATE, record.wholes.n as usize));
-    s.record = at_pass(after, 1, PERTURBATION * state.max(1.0), 0.0);
-    s.open = &[vector::EIGENVECTOR, vector::PERTURBED_STATE];
+    let perturbation = s.by_definition(&record, Stated::begin_passes);
+    s.record = at_pass(after, 1, perturbation, 0.0);
 }
 
 fn settle_reply(s: &mut Settled, record: Record, derivative: &[f64], given: &Given) {
@@ -495,52 +470,49 @@ fn settle_reply(s: &mut Settled, record: Record, derivative: &[f64], given: &Giv
         }
         phase::PASS => {
             s.put(vector::PERTURBED_DERIVATIVE, derivative);
-            let direction: Vec<f64> = derivative
-                .iter()
-                .zip(&s.area[..n])
-                .map(|(d, first)| d - first)
-                .collect();
-            s.put(vector::EIGENVECTOR, &direction);
             settle_pass(s, record, given);
         }
         phase::STAGE => {
             s.put(vector::DERIVATIVE, derivative);
             settle_stage(s, record, given, n);
         }
-        _ => settle_candidate(s, record, derivative, given),
+        _ => {
+            s.put(vector::LAST_DERIVATIVE, derivative);
+            settle_candidate(s, record);
+        }
     }
 }
 
-/// The attempt is finished. The norm is left to the differential run, with the error that it is of.
-fn settle_candidate(s: &mut Settled, record: Record, derivative: &[f64], given: &Given) {
-    let adaptive = record.wholes.adaptive != 0;
-    let norm = if adaptive {
-        given.outcome.answer.norm
-    } else {
-        0.0
+/// The attempt is finished.
+fn settle_candidate(s: &mut Settled, record: Record) {
+    let arguments = oracle::Arguments {
+        time: record.doubles.time,
+        step: record.doubles.step,
+        absolute_tolerance: record.doubles.absolute_tolerance,
+        relative_tolerance: record.doubles.relative_tolerance,
+        adaptive: record.wholes.adaptive != 0,
     };
+    let stages = record.wholes.stages;
+    let norm = s.by_definition(&record, |stated| stated.error_norm(&arguments, stages));
     s.answer = Some(finished(norm, &Kept::in_record(&record)));
     s.record = with_phase(record, phase::FINISHED);
     s.counters.finished_attempts += 1;
-    s.put(vector::LAST_DERIVATIVE, derivative);
-    if adaptive {
-        s.open = &[vector::DERIVATIVE];
-    }
 }
 
 /// On to the next pass, or to stage 2.
 fn settle_pass(s: &mut Settled, record: Record, given: &Given) {
     let n = record.wholes.n as usize;
-    let perturbation = record.doubles.perturbation;
-    let radius = norm(s.vector(vector::EIGENVECTOR, n)) / perturbation;
-    let (time, step) = (record.doubles.time, record.doubles.step);
-    if !last_pass(&record, radius) {
+    let (pass, doubles) = (record.wholes.pass, record.doubles);
+    let perturbation = doubles.perturbation;
+    let radius = s.by_definition(&record, |stated| stated.end_pass(perturbation));
+    let (time, step) = (doubles.time, doubles.step);
+    if !last_pass(pass, radius, doubles.previous_radius) {
         s.answer = Some(evaluate(vector::PERTURBED_STATE, time));
-        s.record = at_pass(record, record.wholes.pass + 1, perturbation, radius);
-        s.open = &[vector::PERTURBED_STATE];
+        s.record = at_pass(record, pass + 1, perturbation, radius);
+        s.by_definition(&record, |stated| stated.perturb(perturbation));
         return;
     }
-    let scaled_radius = step.abs() * (1.2 * radius);
+    let scaled_radius = scaled(step, radius);
     let mut begun = with_stages(record, &given.outcome.record);
     begun.wholes.phase = phase::STAGE;
     begun.wholes.stages = stages_for(record.wholes.family, scaled_radius);
@@ -590,17 +562,23 @@ fn settle_stage(s: &mut Settled, record: Record, given: &Given, n: usize) {
 fn combination(record: &Record, area: &[f64], n: usize) -> Vec<f64> {
     let carried = &record.doubles;
     let value = 2.0 * carried.omega_zero * carried.value_previous - carried.value_previous_two;
-    let b_final = 1.0 / (1.0 + value);
-    let degree = record.wholes.stages as f64;
-    let gamma = carried.b_previous / (2.0 * degree * carried.omega_one);
-    let delta = -carried.b_previous / (2.0 * (degree - 2.0) * carried.omega_one);
-    let entry = |i: usize| {
-        let at = |vector: usize| area[vector * n + i];
-        (1.0 - gamma / b_final - delta / carried.b_previous_two) * at(vector::STATE)
-            + (gamma / b_final) * at(vector::NEXT_STAGE)
-            + (delta / carried.b_previous_two) * at(vector::PREVIOUS_TWO)
-            + carried.step * carried.b_previous * at(vector::FIRST_DERIVATIVE)
+    let combination = Combination {
+        stages: record.wholes.stages,
+        step: carried.step,
+        omega_one: carried.omega_one,
+        b: [
+            1.0 / (1.0 + value),
+            carried.b_previous,
+            carried.b_previous_two,
+        ],
     };
+    let from = [
+        vector::STATE,
+        vector::NEXT_STAGE,
+        vector::PREVIOUS_TWO,
+        vector::FIRST_DERIVATIVE,
+    ];
+    let entry = |i: usize| combination.entry(from.map(|of| area[of * n + i]));
     (0..n).map(entry).collect()
 }
 

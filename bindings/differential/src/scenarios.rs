@@ -1,7 +1,10 @@
-//! Seeded scenarios: the stage counts and pass counts one by one, radii that are no finite numbers, and random sessions of
-//! starts, attempts, rejections, accepts, callbacks and failures.
+//! Seeded scenarios: the stage counts and pass counts one by one, and random sessions of starts, attempts, rejections,
+//! accepts, callbacks and failures. [`crate::hot`] has those in which the Rust does not count. Here stands also what all of
+//! them reach.
+use crate::hot::{Placement, SENSORS, is_hot};
 use crate::model::{Bad, Model, Replies};
-use crate::pair::{Alone, Ending, Pair, SHORT, Stop};
+use crate::other::Cause;
+use crate::pair::{Ending, Pair, SHORT, Stop};
 use crate::random::{Random, mixed};
 use crate::trace::Trace;
 use oracle::{Arguments, Figures, RKC};
@@ -16,8 +19,21 @@ pub const RADIUS_NAN: &str = "radius NaN";
 pub const RADIUS_INFINITE: &str = "radius infinite";
 const RADIUS_ZERO: &str = "radius zero";
 
+/// What a finished attempt is counted as where the Rust's count overflows.
+pub const OVERFLOWED: &str = "200 stages at an overflow of RKC's count";
+
+/// What an attempt is counted as, and a finished one once more, by what it was compared with: the Rust, or after its run went
+/// over the definition alone.
+pub const WITH_THE_RUST: &str = "attempts compared with the Rust";
+pub const BY_THE_DEFINITION: &str = "attempts compared with the definition alone";
+pub const FINISHED_WITH_THE_RUST: &str = "finished attempts compared with the Rust";
+pub const FINISHED_BY_THE_DEFINITION: &str = "finished attempts compared with the definition alone";
+
+/// What a finished attempt is counted as whose norm is hot.
+pub const NORM_HOT: &str = "norm finite and above 1e155";
+
 /// What every run reaches.
-const WANTED: [&str; 23] = [
+const WANTED: [&str; 24] = [
     "abandoned",
     "accepted attempts",
     "areas of any doubles",
@@ -31,6 +47,7 @@ const WANTED: [&str; 23] = [
     "huge states",
     "left for a start in the middle",
     "negative steps",
+    NORM_HOT,
     "norm not finite",
     "positive steps",
     RADIUS_NAN,
@@ -71,6 +88,14 @@ const KEPT_THROUGH: [(&str, u64); 24] = [
     ("reply to callback", 9),
     ("reply to start", 9),
 ];
+
+/// What every run reaches of hot runs: each norm that can be infinite first, and each kind of sensor.
+pub fn wanted_of_hot() -> impl Iterator<Item = &'static str> {
+    let causes = [Cause::Direction, Cause::State, Cause::Error].map(Cause::name);
+    let placements = Placement::ALL.map(Placement::name);
+    let sensors = SENSORS.map(|(_, name)| name);
+    causes.into_iter().chain(placements).chain(sensors)
+}
 
 /// How attempts of every family end in every run.
 pub const ENDINGS: [&str; 5] = [
@@ -118,13 +143,13 @@ pub struct Coverage {
     pub attempts: u64,
     pub evaluations: u64,
     pub turned_away: u64,
-    /// Finished attempts whose norm was compared, by family and stages.
+    /// Finished attempts whose norm was compared with the Rust's, by family and stages.
     pub norms: BTreeMap<(u64, u64), u64>,
-    /// Finished attempts by family and passes.
+    /// Finished attempts that were compared with the Rust, by family and passes.
     pub passes: BTreeMap<(u64, u64), u64>,
-    /// Attempts by family and ending.
+    /// Attempts by family and ending, whatever they were compared with; and by that.
     pub endings: BTreeMap<(u64, &'static str), u64>,
-    /// Attempts that were ended early, by family, ending and place.
+    /// Attempts that were ended early, whatever they were compared with, by family, ending and place.
     pub early: BTreeMap<(u64, &'static str, &'static str), u64>,
     /// By dimension.
     pub dimensions: BTreeMap<usize, u64>,
@@ -142,10 +167,7 @@ impl Coverage {
     /// What is wanted of a run with these families and was not reached.
     pub fn missing(&self, families: &[u64]) -> Vec<String> {
         let of_families = families.iter().flat_map(|family| self.missing_of(*family));
-        let kinds = WANTED
-            .into_iter()
-            .filter(|kind| !self.kinds.contains_key(kind))
-            .map(str::to_string);
+        let kinds = self.kinds_missing(WANTED.into_iter().chain(wanted_of_hot()));
         let dimensions = DIMENSIONS
             .into_iter()
             .filter(|n| !self.dimensions.contains_key(n))
@@ -156,6 +178,16 @@ impl Coverage {
             .chain(dimensions)
             .chain(kept)
             .collect()
+    }
+
+    /// Those of these kinds that were not counted.
+    pub fn kinds_missing(
+        &self,
+        kinds: impl Iterator<Item = &'static str>,
+    ) -> impl Iterator<Item = String> {
+        kinds
+            .filter(|kind| self.counted(kind) == 0)
+            .map(str::to_string)
     }
 
     /// What s, k and r were kept through in no scenario.
@@ -171,24 +203,20 @@ impl Coverage {
         self.kinds.get(kind).copied().unwrap_or(0)
     }
 
-    /// How many finished attempts there were, and how many of them had a special radius.
+    /// How many finished attempts there were, what they were compared with, and how many of them had a special radius.
     pub fn finished(&self) -> String {
         format!(
-            "{} finished attempts: r NaN in {}, infinite in {}, zero in {}",
+            "{} finished attempts, with the Rust in {}, with the definition alone in {}: r NaN in {}, infinite in {}, zero in {}",
             self.counted("finished attempts"),
+            self.counted(FINISHED_WITH_THE_RUST),
+            self.counted(FINISHED_BY_THE_DEFINITION),
             self.counted(RADIUS_NAN),
             self.counted(RADIUS_INFINITE),
             self.counted(RADIUS_ZERO)
         )
     }
 
-    /// Whether the stages of an attempt were run by the engine alone.
-    pub fn left_out(&self) -> bool {
-        let mut ends = Alone::ALL.into_iter();
-        ends.any(|alone| self.counted(alone.name()) > 0)
-    }
-
-    /// Of RKC also that an attempt is finished where the Rust's count overflows.
+    /// Of RKC also that a run goes over where the Rust's count overflows, and that an attempt is finished there.
     fn missing_of(&self, family: u64) -> Vec<String> {
         let norms = oracle::permitted(family)
             .filter(|stages| !self.norms.contains_key(&(family, *stages as u64)))
@@ -196,26 +224,44 @@ impl Coverage {
         let passes = (1..=12)
             .filter(|passes| !self.passes.contains_key(&(family, *passes)))
             .map(|passes| format!("{passes} passes"));
+        let compared = [
+            WITH_THE_RUST,
+            BY_THE_DEFINITION,
+            FINISHED_WITH_THE_RUST,
+            FINISHED_BY_THE_DEFINITION,
+        ];
         let endings = ENDINGS
             .into_iter()
-            .chain((family == RKC).then_some(Alone::Finished.name()))
+            .chain(compared)
             .filter(|ending| !self.endings.contains_key(&(family, ending)))
             .map(str::to_string);
+        let overflows = [OVERFLOWED, Cause::Count.name()].into_iter();
+        let overflows = self.kinds_missing(overflows.filter(|_| family == RKC));
         let early = early_of(family)
             .filter(|(ending, place)| !self.early.contains_key(&(family, ending, place)))
             .map(|(ending, place)| format!("{ending} {place}"));
-        let all = norms.chain(passes).chain(endings).chain(early);
+        let all = norms.chain(passes).chain(endings).chain(overflows);
+        let all = all.chain(early);
         let name = oracle::name(family);
         all.map(|what| format!("{name}, {what}")).collect()
     }
 
-    fn count(&mut self, kind: &'static str) {
+    pub fn count(&mut self, kind: &'static str) {
         *self.kinds.entry(kind).or_default() += 1;
     }
 
+    /// The same, and of a family.
+    fn count_of(&mut self, family: u64, kind: &'static str) {
+        self.count(kind);
+        *self.endings.entry((family, kind)).or_default() += 1;
+    }
+
     /// A scenario at its end.
-    fn scenario(&mut self, pair: Pair) {
+    pub fn scenario(&mut self, pair: Pair) {
         self.scenarios += 1;
+        if let Some(cause) = pair.went_over {
+            self.count(cause.name());
+        }
         self.evaluations += pair.counters.evaluations;
         self.turned_away += pair.turned_away;
         for (through, count) in &pair.kept {
@@ -225,8 +271,13 @@ impl Coverage {
     }
 
     /// An attempt at its end.
-    fn attempt(&mut self, pair: &Pair, arguments: &Arguments, ending: &Ending) {
+    pub fn attempt(&mut self, pair: &Pair, arguments: &Arguments, ending: &Ending) {
         self.attempts += 1;
+        let compared = match pair.went_over {
+            None => WITH_THE_RUST,
+            Some(_) => BY_THE_DEFINITION,
+        };
+        self.count_of(pair.record.wholes.family, compared);
         *self.dimensions.entry(pair.n()).or_default() += 1;
         self.count(if arguments.step < 0.0 {
             "negative steps"
@@ -252,17 +303,21 @@ impl Coverage {
         if self.told {
             eprintln!("{}, n {}: {figures}", oracle::name(family), pair.n());
         }
-        if arguments.adaptive {
-            *self.norms.entry((family, figures.stages)).or_default() += 1;
+        if pair.went_over.is_some() {
+            self.count_of(family, FINISHED_BY_THE_DEFINITION);
+        } else {
+            self.count_of(family, FINISHED_WITH_THE_RUST);
+            *self.passes.entry((family, figures.passes)).or_default() += 1;
+            if arguments.adaptive {
+                *self.norms.entry((family, figures.stages)).or_default() += 1;
+            }
         }
-        *self.passes.entry((family, figures.passes)).or_default() += 1;
-        self.values(figures.scaled_radius, figures.norm);
+        self.values(family, figures.scaled_radius, figures.norm);
     }
 
     fn ended(&mut self, pair: &Pair, name: &'static str) {
         let family = pair.record.wholes.family;
-        self.count(name);
-        *self.endings.entry((family, name)).or_default() += 1;
+        self.count_of(family, name);
         if EARLY.contains(&name) {
             for place in places(&pair.evaluated) {
                 *self.early.entry((family, name, place)).or_default() += 1;
@@ -271,7 +326,10 @@ impl Coverage {
     }
 
     /// The radius and norm of a finished attempt, where they are special.
-    fn values(&mut self, scaled_radius: f64, norm: f64) {
+    fn values(&mut self, family: u64, scaled_radius: f64, norm: f64) {
+        if oracle::overflows(family, scaled_radius) {
+            self.count(OVERFLOWED);
+        }
         match scaled_radius {
             r if r.is_nan() => self.count(RADIUS_NAN),
             0.0 => self.count(RADIUS_ZERO),
@@ -280,6 +338,8 @@ impl Coverage {
         }
         if !norm.is_finite() {
             self.count("norm not finite");
+        } else if is_hot(norm) {
+            self.count(NORM_HOT);
         }
     }
 }
@@ -292,7 +352,6 @@ fn named(ending: &Ending) -> Option<&'static str> {
         Ending::BadCandidate => Some("ended with 10"),
         Ending::Abandoned => Some("abandoned"),
         Ending::Pending => Some("left for a start in the middle"),
-        Ending::LeftOut(alone) => Some(alone.name()),
         Ending::Ready => None,
     }
 }
@@ -322,7 +381,7 @@ fn radius_for(family: u64, stages: usize) -> f64 {
 }
 
 /// Radii that end the power iteration after just these passes, at the last of them.
-fn radii_for(passes: usize, last: f64) -> Vec<f64> {
+pub fn radii_for(passes: usize, last: f64) -> Vec<f64> {
     (1..=passes)
         .map(|pass| match passes - pass {
             0 => last,
@@ -333,7 +392,7 @@ fn radii_for(passes: usize, last: f64) -> Vec<f64> {
 }
 
 /// The replies with these radii in the passes of the attempt that follows.
-fn with_radii(replies: Replies, radii: Vec<f64>, pair: &Pair) -> Replies {
+pub fn with_radii(replies: Replies, radii: Vec<f64>, pair: &Pair) -> Replies {
     replies.with_radii(
         radii,
         pair.vector(vector::FIRST_DERIVATIVE),
@@ -457,143 +516,12 @@ pub fn early_attempts(counted: &Counted, seed: u64, coverage: &mut Coverage) -> 
     Ok(())
 }
 
-fn ended(ending: Ending, meant: Ending) -> Result<(), String> {
+/// That a run of evaluations ended as it was meant to.
+pub fn ended(ending: Ending, meant: Ending) -> Result<(), String> {
     if ending == meant {
         return Ok(());
     }
     Err(format!("got {ending:?}, and not {meant:?}"))
-}
-
-/// A scaled radius that is no finite number.
-#[derive(Clone, Copy, Debug, PartialEq)]
-pub enum Unbounded {
-    /// The norms of the direction and of the state overflow, and with it the perturbation.
-    Nan,
-    /// The direction's alone.
-    Infinite,
-}
-
-impl Unbounded {
-    fn is(self, radius: f64) -> bool {
-        match self {
-            Self::Nan => radius.is_nan(),
-            Self::Infinite => radius == f64::INFINITY,
-        }
-    }
-}
-
-/// Attempts with such a radius, and after each what keeps its s, k and r: the calls of `bad_calls`, accept, a callback and its
-/// reply, good and bad, a start abandoned and a start. In RKC an infinite one ends it after the first attempt, whose stages the
-/// engine runs alone, since the Rust's count overflows.
-pub struct Keeping {
-    pub family: u64,
-    pub radius: Unbounded,
-    pub n: usize,
-}
-
-impl Keeping {
-    /// The replies are drawn for each place and no function of the point. Every radius is infinite or a NaN, so no change is
-    /// small and twelve passes run. The first derivative is of another seed, or else the first departure would be 0.
-    fn replies(&self, seed: u64) -> Replies {
-        Replies::of(&Model::Noise {
-            seed,
-            least: 600.0,
-            most: 604.0,
-        })
-    }
-
-    fn state(&self, random: &mut Random) -> Vec<f64> {
-        let scale = match self.radius {
-            Unbounded::Nan => 1e200,
-            Unbounded::Infinite => 1.0,
-        };
-        (0..self.n)
-            .map(|_| random.sign() * random.between(0.5, 1.0) * scale)
-            .collect()
-    }
-
-    fn overflows(&self) -> bool {
-        (self.family, self.radius) == (RKC, Unbounded::Infinite)
-    }
-
-    /// An attempt whose step is so short that the stages stay finite.
-    fn attempt(
-        &self,
-        pair: &mut Pair,
-        replies: &Replies,
-        coverage: &mut Coverage,
-    ) -> Result<(), String> {
-        let arguments = Arguments {
-            time: 0.5,
-            step: 1e-190,
-            absolute_tolerance: 1e-6,
-            relative_tolerance: 1e-3,
-            adaptive: true,
-        };
-        let ending = pair.attempt(arguments, replies, None)?;
-        coverage.attempt(pair, &arguments, &ending);
-        let finished = match ending {
-            Ending::LeftOut(Alone::Finished) => self.overflows(),
-            Ending::Finished(_) => !self.overflows(),
-            _ => false,
-        };
-        if !finished || !self.radius.is(pair.record.doubles.scaled_radius) {
-            return Err(format!("got {ending:?}"));
-        }
-        pair.all_turned_away()
-    }
-
-    fn follow(
-        &self,
-        pair: &mut Pair,
-        random: &mut Random,
-        coverage: &mut Coverage,
-    ) -> Result<(), String> {
-        let state = self.state(random);
-        let (good, drawn) = (self.replies(random.draw()), self.replies(random.draw()));
-        let bad = Replies {
-            bad: Some((0, 0, f64::NAN)),
-            ..good.clone()
-        };
-        let start = |pair: &mut Pair, replies: &Replies, stop| {
-            pair.start(self.family, &state, 0.5, replies, stop)
-        };
-        let callback = |pair: &mut Pair, replies: &Replies| {
-            pair.accept_with_callback(&state, 0.25, replies, None)
-        };
-        ended(start(pair, &good, None)?, Ending::Ready)?;
-        self.attempt(pair, &drawn, coverage)?;
-        if self.overflows() {
-            return Ok(());
-        }
-        pair.accept()?;
-        pair.all_turned_away()?;
-        self.attempt(pair, &drawn, coverage)?;
-        ended(callback(pair, &good)?, Ending::Ready)?;
-        let abandoned = Some((0, Stop::Abandon));
-        ended(start(pair, &good, abandoned)?, Ending::Abandoned)?;
-        pair.all_turned_away()?;
-        ended(start(pair, &good, None)?, Ending::Ready)?;
-        self.attempt(pair, &drawn, coverage)?;
-        ended(callback(pair, &bad)?, Ending::BadDerivative)?;
-        ended(start(pair, &bad, None)?, Ending::BadDerivative)
-    }
-
-    pub fn run(&self, seed: u64, coverage: &mut Coverage) -> Result<(), String> {
-        let Self { family, radius, n } = *self;
-        let random = &mut Random::new(mixed(seed ^ mixed(family)));
-        let mut pair = Pair::new(n, vec![0.0; VECTORS * n], true, random.draw());
-        pair.write_down(&mut coverage.trace);
-        self.follow(&mut pair, random, coverage)
-            .map_err(|difference| {
-                format!(
-                    "{}, radius {radius:?}, n {n}: {difference}",
-                    oracle::name(family)
-                )
-            })?;
-        coverage.scenario(pair);
-        Ok(())
-    }
 }
 
 fn model(random: &mut Random, wild: bool) -> Model {
@@ -628,6 +556,7 @@ fn model(random: &mut Random, wild: bool) -> Model {
                 seed: random.draw(),
                 least,
                 most,
+                sign: None,
             }
         }
     }
@@ -781,10 +710,7 @@ fn starts(
             coverage.count("starts not brought to an end");
             continue;
         }
-        let ending = attempts(pair, random, wild, &model, coverage)?;
-        if matches!(ending, Ending::LeftOut(_)) {
-            return Ok(());
-        }
+        attempts(pair, random, wild, &model, coverage)?;
     }
     Ok(())
 }
@@ -796,7 +722,7 @@ fn attempts(
     wild: bool,
     model: &Model,
     coverage: &mut Coverage,
-) -> Result<Ending, String> {
+) -> Result<(), String> {
     for _ in 0..random.below(10) + 1 {
         let arguments = arguments(random, wild);
         let replies = replies(pair, random, wild, model);
@@ -805,15 +731,14 @@ fn attempts(
         let ending = pair.attempt(arguments, &Replies { bad, ..replies }, stop)?;
         coverage.attempt(pair, &arguments, &ending);
         if !matches!(ending, Ending::Finished(_)) {
-            return Ok(ending);
+            return Ok(());
         }
         pair.something_turned_away()?;
-        let ending = afterwards(pair, random, wild, model, coverage)?;
-        if ending != Ending::Ready {
-            return Ok(ending);
+        if afterwards(pair, random, wild, model, coverage)? != Ending::Ready {
+            return Ok(());
         }
     }
-    Ok(Ending::Ready)
+    Ok(())
 }
 
 fn arguments(random: &mut Random, wild: bool) -> Arguments {

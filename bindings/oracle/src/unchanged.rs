@@ -185,22 +185,32 @@ impl Oracle {
         )
     }
 
-    /// The power iteration of an attempt, by `spectral_radius` on a copy of this kernel. What it evaluates are its passes.
+    /// The power iteration of an attempt by itself, which is `spectral_radius`: r.
+    pub fn iterate<F: RightHandSide + ?Sized>(
+        &mut self,
+        arguments: Arguments,
+        rhs: &F,
+    ) -> Result<f64, SolveError> {
+        let radius = self.kernel.spectral_radius(
+            &problem(rhs),
+            &self.state,
+            arguments.time,
+            &mut self.stats,
+        )?;
+        Ok(arguments.step.abs() * radius)
+    }
+
+    /// The same on a copy of this kernel. What it evaluates are its passes.
     pub fn iteration<F: RightHandSide + ?Sized>(
         &self,
         arguments: Arguments,
         rhs: &F,
     ) -> Result<Iteration, SolveError> {
         let mut copy = self.clone();
-        let radius = copy.kernel.spectral_radius(
-            &problem(rhs),
-            &copy.state,
-            arguments.time,
-            &mut copy.stats,
-        )?;
+        let scaled_radius = copy.iterate(arguments, rhs)?;
         Ok(Iteration {
             passes: copy.evaluations() - self.evaluations(),
-            scaled_radius: arguments.step.abs() * radius,
+            scaled_radius,
             eigenvector: copy.kernel.eigenvector,
         })
     }

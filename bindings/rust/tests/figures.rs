@@ -1,5 +1,5 @@
-//! What a finished attempt tells: its evaluations are s + k, and the record keeps s, k and r until the next attempt that is
-//! taken.
+//! What a finished attempt tells: its evaluations are s + k, r and norm are finite though squares overflow, and the record
+//! keeps s, k and r until the next attempt that is taken.
 use stabilized::calls::Record;
 use stabilized::{Attempt, Error, Family, Figures, Refusal, Stepper};
 use std::cell::Cell;
@@ -66,17 +66,33 @@ fn the_radius_gives_the_stages() {
     assert_eq!(figures.stages, by_rule | 1);
 }
 
+/// A sensor that sends 1e200, and an ordinary state whose rates are so fast that its derivative is as hot: the squares
+/// overflow, and yet radius and norm are finite, and the stages are those that a stiff rod needs.
+#[test]
+fn hot_vectors_have_finite_figures() {
+    for family in FAMILIES {
+        for (sensor, rate, step) in [(1.0e200, 500.0, 0.1), (60.0, 5.0e202, 1.0e-201)] {
+            let state = [20.0, sensor, 40.0, 5.0];
+            let mut stepper = Stepper::start(family, &state, 0.0, rod(rate)).unwrap();
+            let figures = stepper.attempt(Attempt::new(0.0, step)).unwrap();
+            let r = figures.scaled_radius;
+            assert!((100.0..=240.0).contains(&r), "{family:?}, {figures:?}");
+            assert!(figures.norm.is_finite(), "{family:?}, {figures:?}");
+            assert!(figures.stages > 9, "{family:?}, {figures:?}");
+        }
+    }
+}
+
 #[test]
 fn not_a_number_and_infinity_are_told() {
-    // The norm of every pass's departure from the first derivative is infinite; that of the state is, or is not.
-    for (entry, nan) in [(1.0e200, true), (1.0, false)] {
-        let replies = Cell::new(0.0);
+    // The norm of every pass's departure from the first derivative, 2e308, is no double; that of the state is not, or is.
+    for (entry, nan) in [(1.0e308, true), (1.0, false)] {
+        let first = Cell::new(true);
         let rhs = move |derivative: &mut [f64], _: &[f64], _: f64| {
-            replies.set(replies.get() + 1.0);
-            derivative.fill(1.0e180 * replies.get());
+            derivative.fill(if first.take() { -0.5e308 } else { 0.5e308 });
         };
-        let mut stepper = Stepper::start(Family::Rkl1, &[entry; 2], 0.0, rhs).unwrap();
-        let figures = stepper.attempt(Attempt::new(0.0, 1.0e-170)).unwrap();
+        let mut stepper = Stepper::start(Family::Rkl1, &[entry; 4], 0.0, rhs).unwrap();
+        let figures = stepper.attempt(Attempt::new(0.0, 1.0e-306)).unwrap();
         let r = figures.scaled_radius;
         assert_eq!((r.is_nan(), r.is_infinite()), (nan, !nan), "{r}");
         assert_eq!(figures.stages, if nan { 3 } else { 199 });

@@ -1,24 +1,23 @@
--- Bounds of what is rounded: a fraction up to p / q, where p / q is a double, rounds to a double up to p / q (`round-upto`). So are the second sum's parts
--- bounded: a lowered entry by 2 ^ 504, its square by 2 ^ 1008, and k of them by k × 2 ^ 1008 (`second-upto`). Assumes nothing. ⊕ ⊗ ⊘ are operations on doubles:
--- they round.
+-- Bounds of what is rounded: a fraction up to p / q, where p / q is a double, rounds to a double up to p / q (`round-upto`). So the second sum's parts are
+-- bounded: a lowered entry by 2 ^ 504, its square by 2 ^ 1008, and k of them by k × 2 ^ 1008 (`second-upto`). Assumes nothing. ⊕ is an operation on doubles:
+-- it rounds.
 use mathlib.Core.Path.{_≡_, refl, sym, ap, ap₂, _∙_, subst}
-use mathlib.Core.Logic.{_⊎_, inl, inr}
-use mathlib.Core.Bool.{Bool, true, false, cond, _&&_, _||_}
+use mathlib.Core.Bool.{Bool, true, false, cond}
 use mathlib.Core.List.{List, [], _∷_, foldl, map}
 use Prim.Native.Nat.{ℕ, zero, suc, _+_, _*_, _^_, _≤_, _<_}
-use native.Mathlib.Nat.{le-trans, le-of-eq, le-of-lt, lt-of-lt-of-le, mul-pos, mul-le-mul, mul-le-mul-right, mul-le-mul-left, add-le-add, le-of-mul-le-mul-right}
-use native.Mathlib.Nat.{mul-assoc, mul-comm, mul-left-comm, mul-right-comm, mul-one, one-mul, zero-mul, add-mul, suc-mul, mul-lt-mul-of-pos-right, add-zero, zero-add}
+use native.Mathlib.Nat.{le-trans, le-of-eq, le-of-lt, lt-of-lt-of-le, mul-pos, mul-le-mul, mul-le-mul-right, add-le-add, le-of-mul-le-mul-right}
+use native.Mathlib.Nat.{mul-assoc, mul-comm, mul-left-comm, mul-right-comm, mul-one, one-mul, add-mul, suc-mul, mul-lt-mul-of-pos-right, add-zero, zero-add}
 use native.Mathlib.Omega.{arith}
-use lib.Dec.{T, ltb, eqb, eqb→eq, lit<, eqb·suc-zero}
-use lib.IntN.{ℤ, pos, negsuc}
+use lib.Dec.{T, ltb, lit<}
+use lib.IntN.{ℤ, pos}
 use lib.ListN.{length}
 use lib.Pow.{pow-add, pow-pos}
-use lib.Ieee.{Float, nan, inf, fin, Format, binary64, prec, emax, low, up, down, unlike, odd, units, round, sum, add, mul, div, lt, eq, le, fits}
+use lib.Ieee.{Float, nan, inf, fin, binary64, prec, emax, low, up, down, unlike, odd, units, round, sum, add, mul, le, fits}
 use lib.Ieee.Fits.{down-pos, and-l, and-r, round-is}
 use lib.Ieee.Exact.{HasValue, round-exact}
 use lib.Ieee.Order.{round-mono}
 use lib.Ieee.Scale.{finite}
-use Rattle.ieee.specs.Double.{_⊕_, _⊗_, _⊘_, nought, one, square}
+use Rattle.ieee.specs.Double.{_⊕_, nought, square}
 use Rattle.ieee.proofs.Value.{says}
 use Rattle.ieee.proofs.Monotone.{NonNeg, infinite, number, round-nonneg, cross}
 use Rattle.norm.specs.Norm.{sum-of-squares, all-finite, lowered}
@@ -101,7 +100,8 @@ lowered-upto (fin s m e) f t =
     (go (m * up e) (down e) (2 ^ 504) (2 ^ 520) (2 ^ 1024) (pow-add 2 504 520) (below-top s m e f))
   where
     go : (a d P Q R : ℕ) → R ≡ P * Q → a ≤ R * d → a * (1 * 1) * 1 ≤ P * (d * Q)
-    go a d P Q R e h = le-trans (le-of-eq (simp (mul-one, one-mul))) (le-trans h (le-of-eq (ap (λ (z : ℕ). z * d) e ∙ simp (mul-assoc, mul-comm, mul-left-comm))))
+    go a d P Q R e h =
+        le-trans (le-of-eq (simp (mul-one))) (le-trans h (le-of-eq (ap (λ (z : ℕ). z * d) e ∙ simp (mul-assoc, mul-comm, mul-left-comm))))
 
 -- ---- its square, and the sum
 
@@ -121,7 +121,7 @@ square-upto y (sized-up-to s m e h) =
   where
     go : (a d P Q : ℕ) → Q ≡ P * P → a * 1 ≤ P * d → a * a * 1 ≤ 1 * Q * (d * d)
     go a d P Q e h =
-        le-trans (le-of-eq (simp (mul-one, one-mul)))
+        le-trans (le-of-eq (simp (mul-one)))
         (le-trans (mul-le-mul (le-trans (le-of-eq (sym (mul-one a))) h) (le-trans (le-of-eq (sym (mul-one a))) h))
         (le-of-eq (sym (ap (λ (z : ℕ). 1 * z * (d * d)) e ∙ ap (λ (z : ℕ). z * (d * d)) (one-mul (P * P)) ∙ simp (mul-assoc, mul-comm, mul-left-comm)))))
 

@@ -2,26 +2,25 @@
 -- product overflows (`infinite-only-if`). From the bounds of proofs/Bounds. Assumes nothing. ⊕ ⊗ ⊘ are operations on doubles: they round.
 use mathlib.Core.Path.{_≡_, refl, sym, ap, _∙_, subst}
 use mathlib.Core.Logic.{_⊎_, inl, inr, ⊎-elim}
-use mathlib.Core.Bool.{Bool, true, false, cond, _&&_, _||_}
+use mathlib.Core.Bool.{Bool, true, false, cond, _&&_}
 use mathlib.Core.List.{List, [], _∷_, foldl, map}
 use Prim.Native.Nat.{ℕ, zero, suc, _+_, _*_, _^_, _≤_, _<_}
 use native.Mathlib.Nat.{le-trans, le-of-eq, lt-of-lt-of-le, mul-pos, mul-le-mul-right, mul-le-mul-left, mul-lt-mul-of-pos-right, zero-mul, zero-lt-suc}
 use native.Mathlib.Nat.{mul-assoc, mul-comm, mul-left-comm, mul-right-comm, mul-one, one-mul}
 use native.Mathlib.Omega.{arith}
-use lib.Dec.{T, ltb, eqb, eqb→eq, lit<, lit≤, eqb·suc-zero}
+use lib.Dec.{T, eqb, eqb→eq, lit<, lit≤, eqb·suc-zero}
 use lib.IntN.{ℤ, pos, negsuc}
 use lib.ListN.{length}
 use lib.Pow.{pow-add, pow-pos, pow-mono}
 use lib.Count.{trailingZeros}
-use lib.Ieee.{Float, nan, inf, fin, binary64, low, up, down, unlike, size, span, climb, odd, units, round, sum, add, mul, div, lt, eq, le, fits}
+use lib.Ieee.{Float, nan, inf, fin, binary64, low, up, down, size, span, climb, odd, units, round, sum, add, mul, div, lt, eq, le, fits}
 use lib.Ieee.Fits.{up-pos, down-pos, and-l, and-r, add-fits, mul-fits, div-fits, round-fits}
-use lib.Ieee.Bits.{is-true, is-false}
 use lib.Ieee.Exact.{HasValue, round-exact}
 use lib.Ieee.Order.{le-of-values}
 use lib.Ieee.Scale.{finite}
 use Rattle.ieee.specs.Double.{_⊕_, _⊗_, _⊘_, nought, one, square, nearest}
 use Rattle.ieee.specs.Sqrt.{root-below, root, halves, root-units, in-units, sqrt}
-use Rattle.ieee.proofs.Logic.{yes, le-or-lt}
+use Rattle.ieee.proofs.Logic.{yes, and-right, le-or-lt}
 use Rattle.ieee.proofs.Value.{says, spot, bounded, round-own}
 use Rattle.ieee.proofs.Monotone.{NonNeg, infinite, number, round-nonneg, cross, le-of-cross, sqrt-mono, sqrt-nonneg}
 use Rattle.norm.specs.Norm.{sum-of-squares, all-finite, overflows, lowered, raised, root-over, root-of-squares}
@@ -30,11 +29,11 @@ use Rattle.norm.proofs.Bounds.{Upto, up-to, upto-finite, upto-nonneg, K
 
 -- ---- a quotient by a divisor from 1 on
 
-from-one : (d : Float) → T (le one d) → NonNeg d
+nonneg-from-one : (d : Float) → T (le one d) → NonNeg d
 unfolding le lt eq
-from-one (inf false) h = infinite
-from-one (fin false n c) h = number n c
-from-one (fin true n c) h = absurd (none (down c) (down-pos c) (eqb→eq (1 * 1 * down c) 0 (and-r (eqb (1 * 1 * down c) (n * up c * 1)) _ h)))
+nonneg-from-one (inf false) h = infinite
+nonneg-from-one (fin false n c) h = number n c
+nonneg-from-one (fin true n c) h = absurd (none (down c) (down-pos c) (eqb→eq (1 * 1 * down c) 0 (and-r (eqb (1 * 1 * down c) (n * up c * 1)) _ h)))
   where
     none : (d : ℕ) → 0 < d → 1 * 1 * d ≡ 0 → ⊥
     none d p e = omega arith
@@ -77,10 +76,10 @@ quotient-finite x d p l = go x (p .not-negative) (p .is-finite) (p .is-double)
   where
     go : (x : Float) → NonNeg x → T (finite x) → T (fits binary64 x) → Finite-double (x ⊘ d)
     go x (number m e) t f =
-        let q = over-upto (m * up e) (down e) (fin false m e) d (down-pos e) (own-kept m e f) (up-to m e (le-of-eq refl)) (from-one d l) l in
+        let q = over-upto (m * up e) (down e) (fin false m e) d (down-pos e) (own-kept m e f) (up-to m e (le-of-eq refl)) (nonneg-from-one d l) l in
         record { not-negative = upto-nonneg q; is-finite = upto-finite q; is-double = div-fits binary64 (fin false m e) d }
 
--- and a product with 2 ^ -k
+-- and a product with 2 ^ -(k + 1)
 pub product-finite : (k : ℕ) (x : Float) → Finite-double x → Finite-double (fin false 1 (negsuc k) ⊗ x)
 unfolding mul
 product-finite k x p = go x (p .not-negative) (p .is-finite) (p .is-double)
@@ -232,9 +231,9 @@ first-finite xs f e = go (sum-of-squares xs) (all-finite xs) (first-nonneg xs f)
 -- ---- the theorems
 
 -- the root over a divisor from 1 on, of a sum that is a finite double
-root-finite : (d s : Float) → T (le one d) → Finite-double s → Finite-double (root-over d s)
+root-is-finite : (d s : Float) → T (le one d) → Finite-double s → Finite-double (root-over d s)
 unfolding root-over
-root-finite d s l p = let q = quotient-finite s d p l in rooted (s ⊘ d) (q .not-negative) (q .is-finite) (q .is-double)
+root-is-finite d s l p = let q = quotient-finite s d p l in rooted (s ⊘ d) (q .not-negative) (q .is-finite) (q .is-double)
 
 -- "the second sum never overflows": of n finite doubles, n below 2 ^ 16, it is n × 2 ^ 1008 at most, which is a double
 pub second-sum-bounded : (xs : List Float) → Doubles xs → T (all-finite xs) → length xs < 2 ^ 16
@@ -245,9 +244,14 @@ second-sum-bounded xs d f h = go (second-sum xs) (second-upto xs d f h)
     go : (s : Float) → Upto (length xs * 2 ^ 1008) 1 s → T (finite s) × T (le s (round binary64 false (length xs * 2 ^ 1008) 1))
     go s (up-to m e l) = (
       tt,
-      le-of-values (fin false m e) (round binary64 false (length xs * 2 ^ 1008) 1) (m * up e) (down e) (length xs * 2 ^ 1008) 1 (down-pos e) (lit< tt) (refl, refl)
-          (kept-multiple (length xs) h) l,
+      le-of-values (fin false m e) (round binary64 false (length xs * 2 ^ 1008) 1) (m * up e) (down e) (length xs * 2 ^ 1008) 1 (down-pos e) (lit< tt)
+          (refl, refl) (kept-multiple (length xs) h) l,
     )
+
+-- so wherever the second sum is taken it is finite: that is what the test on the entries is for
+pub second-sum-taken : (xs : List Float) → Doubles xs → length xs < 2 ^ 16 → overflows xs ≡ true → T (finite (second-sum xs))
+unfolding overflows
+second-sum-taken xs d h e = second-sum-bounded xs d (yes (and-right (eq (sum-of-squares xs) (inf false)) (all-finite xs) e)) h .0
 
 -- of finite doubles the norm over a divisor from 1 on is a finite double, or its last product overflows
 pub finite-or-overflows : (d : Float) (xs : List Float) → T (le one d) → Doubles xs → length xs < 2 ^ 16 → T (all-finite xs)
@@ -261,7 +265,7 @@ finite-or-overflows d xs l b h f = go (overflows xs) refl
     go : (t : Bool) → overflows xs ≡ t
         → Finite-double (cond t (raised (root-over d (second-sum xs))) (root-over d (sum-of-squares xs))) ⊎ Last-product-overflows d xs
     go true e =
-        let r = root-finite d (second-sum xs) l
+        let r = root-is-finite d (second-sum xs) l
         record { not-negative = upto-nonneg second; is-finite = upto-finite second; is-double = sum-fits (map lowered xs) } in
         ⊎-elim (λ f. inl f) (λ o. inr record {
           first-sum-overflows = e;
@@ -270,7 +274,7 @@ finite-or-overflows d xs l b h f = go (overflows xs) refl
           root-from = o .0;
           product-infinite = o .1;
         }) (raised-is (root-over d (second-sum xs)) (r .not-negative) (r .is-finite) (r .is-double))
-    go false e = inl (root-finite d (sum-of-squares xs) l
+    go false e = inl (root-is-finite d (sum-of-squares xs) l
         record { not-negative = first-nonneg xs f; is-finite = first-finite xs f e; is-double = sum-fits xs })
 
 -- document 02, CR 4: "The norm is then infinite only if an entry is not finite or that last product overflows."

@@ -29,7 +29,7 @@ lowered x = x ⊗ fin false 1 (negsuc 519)
 unfoldable pub raised : Float → Float
 raised x = x ⊗ fin false 1 (pos 520)
 
--- of a sum
+-- the root of a sum over a divisor
 unfoldable pub root-over : Float → Float → Float
 root-over divisor sum = sqrt (sum ⊘ divisor)
 

@@ -41,9 +41,9 @@ doubles = tt
 unfoldable pub attempts : Unit {0}
 unfolding smallest-count largest-count odd-only before-limits odd-step limited stage-count omega-zero omega-one-of b-first first-mu-tilde first-polynomials
     first-polynomials-in recurrence-of with-theta legendre-one coefficients-of next-polynomials next-of each sum-of-squares overflows lowered raised root-over
-    root-of-squares vector-norm all-finite with-direction perturbation-of perturbed-by perturbed turned radius-of ended scaled first-stage orthogonal-entry entry-in with-row-in exchanged
-    with-candidate candidate-in error-in with-last divisor-in scaled-error scaled-error-norm error-norm stage-need _>>=_ evaluate stages-for iterate
-    spectral-radius stage-row stage-loop run-recurrence finished-attempt close attempt-step closes by-rule facts-of
+    root-of-squares vector-norm all-finite with-direction perturbation-of perturbed-by perturbed turned radius-of ended scaled first-stage orthogonal-entry
+    entry-in with-row-in exchanged with-candidate candidate-in error-in with-last divisor-in scaled-error scaled-error-norm error-norm stage-need _>>=_
+    evaluate stages-for iterate spectral-radius stage-row stage-loop run-recurrence finished-attempt close attempt-step closes by-rule facts-of
 attempts = tt
 
 unfoldable pub sessions : Unit {0}
@@ -140,10 +140,20 @@ hot-arguments = record {
 pub hot-calls : List Call
 hot-calls = from-zero 1 hot hot-arguments 7
 
--- 8 evaluations and a finished attempt; finished: the norm 8.387e172, s = 5, k = 2, r = 19.2, and the candidate
-pub hot-told : last-seen (session 11 (fresh zeroes) hot-calls)
-    ≡ 8 ∷ 1 ∷ 2 ∷ 0x63d5b3fef2004ce2 ∷ 5 ∷ 2 ∷ 0x4033333333333333 ∷ 0x657000003641fdb9 ∷ []
-unfolding last-seen numbers kind bits hot-calls hot-arguments zeroes doubles attempts sessions
+-- As `numbers` tells it: both passes are at 2 ^ 600 + 2 ^ 574; finished: the norm 8.387e172, s = 5, k = 2, r = 19.2, and the candidate.
+pub hot-told : map numbers (session 11 (fresh zeroes) hot-calls)
+    ≡ (0 ∷ 0 ∷ 1 ∷ 0 ∷ 0x6570000000000000 ∷ [])
+    ∷ (1 ∷ 0 ∷ 3 ∷ 0x6570000000000000 ∷ 0 ∷ [])
+    ∷ (1 ∷ 0 ∷ 1 ∷ 0 ∷ 0x6570000004000000 ∷ [])
+    ∷ (2 ∷ 0 ∷ 1 ∷ 0 ∷ 0x6570000004000000 ∷ [])
+    ∷ (3 ∷ 0 ∷ 1 ∷ 0x3e51111111111111 ∷ 0x6570000000000000 ∷ [])
+    ∷ (4 ∷ 0 ∷ 1 ∷ 0x3e6999999999999a ∷ 0x6570000006666666 ∷ [])
+    ∷ (5 ∷ 0 ∷ 1 ∷ 0x3e7999999999999a ∷ 0x6570000011c71c71 ∷ [])
+    ∷ (6 ∷ 0 ∷ 1 ∷ 0x3e85555555555556 ∷ 0x6570000021c71c71 ∷ [])
+    ∷ (7 ∷ 0 ∷ 1 ∷ 0x3e90000000000000 ∷ 0x657000003641fdb9 ∷ [])
+    ∷ (8 ∷ 1 ∷ 2 ∷ 0x63d5b3fef2004ce2 ∷ 5 ∷ 2 ∷ 0x4033333333333333 ∷ 0x657000003641fdb9 ∷ [])
+    ∷ []
+unfolding numbers kind bits hot-calls hot-arguments zeroes doubles attempts sessions
 hot-told = refl
 
 -- ---- a NaN is told as a NaN: four entries of 2 ^ 1023, whose norm is no double, so that the perturbation is infinite; so is the direction's norm, and the

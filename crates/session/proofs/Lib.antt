@@ -35,7 +35,7 @@ pub mod Served
 -- Families 2 to 5: demand 3 of the rows of the stages that are run, and of a finished attempt's multiplier: `stage-close`, `first-close`, `rows-close`,
 -- `finished-stable`.
 pub mod Close
--- Document 01's case, by computation: `case-of-calls`; and an attempt whose r is a NaN, told as one: `nan-told`.
+-- Document 01's case, by computation: `case-of-calls`; an attempt from a hot state: `hot-told`; and one whose r is a NaN, told as one: `nan-told`.
 pub mod Case
 -- Two cases of the Rust in RKMC2, by computation: `rkmc2-of-calls`.
 pub mod RustCase

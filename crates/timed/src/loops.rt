@@ -1,4 +1,4 @@
-// The loops of `workspace`, each behind the tests that its lengths want.
+// The loops of `workspace` and `norm`, each behind the tests that its lengths want.
 ghost use mathlib.Core.Path.{_≡_};
 ghost use Rattle.ieee.specs.Sqrt.{sqrt};
 ghost use Rattle.family.specs.Family.{setting};

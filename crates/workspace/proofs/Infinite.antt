@@ -1,16 +1,16 @@
--- When the kernel's norms are infinite: the perturbation and the error norm only if an entry is not finite or the last product of the norm overflows (document 02,
--- CR 4). From norm's theorem. ⊗ ⊘ are operations on doubles: they round.
+-- When the kernel's norms are infinite: the perturbation and the error norm only if an entry is not finite or the last product of the norm overflows
+-- (document 02, CR 4). From norm's theorem. ⊘ is an operation on doubles: it rounds.
 use mathlib.Core.Path.{_≡_, refl, sym, subst}
 use mathlib.Core.Logic.{_⊎_, inl, inr, ⊎-elim}
 use mathlib.Core.Bool.{Bool, true, false, cond}
-use mathlib.Core.List.{List, [], _∷_}
-use Prim.Native.Nat.{ℕ, zero, suc, _*_, _^_, _≤_, _<_}
+use mathlib.Core.List.{List}
+use Prim.Native.Nat.{ℕ, zero, suc, _^_, _≤_, _<_}
 use native.Mathlib.Omega.{arith}
 use lib.Dec.{T, lit<}
 use lib.ListN.{length}
 use lib.Count.{trailingZeros}
 use lib.IntN.{pos}
-use lib.Ieee.{Float, inf, fin, binary64, ofInt, size, span, climb, odd, units, round, lt, le, isNan, fits}
+use lib.Ieee.{Float, inf, binary64, ofInt, size, span, climb, odd, units, round, lt, le, isNan, fits}
 use lib.Ieee.Fits.{div-fits}
 use lib.Ieee.Order.{round-mono}
 use lib.Ieee.Scale.{finite}
@@ -26,7 +26,7 @@ use Rattle.family.specs.declared.ErrorForm.{ErrorForm}
 use Rattle.family.specs.declared.ErrorForm.the-variants.{FirstDerivative, BothDerivatives, LastDerivative}
 use Rattle.family.specs.Family.{facts-of, kind}
 use Rattle.workspace.specs.declared.Arguments.{Arguments}
-use Rattle.workspace.specs.Vectors.{Vector, Vectors, tabulate, each, state}
+use Rattle.workspace.specs.Vectors.{Vectors, tabulate, each, state}
 use Rattle.workspace.specs.Kernel.{perturbation-of, divisor-in, scaled-error, scaled-error-norm, error-norm}
 use Rattle.workspace.proofs.Areas.{length-each}
 
@@ -59,7 +59,8 @@ perturbation-infinite-only-if v d h e = go (all-finite (v state)) refl
     go : (t : Bool) → all-finite (v state) ≡ t → (t ≡ false) ⊎ Last-product-overflows one (v state)
     go false g = inl refl
     go true g = ⊎-elim
-        (λ p. absurd (subst (λ (x : Float). T (finite x)) e (product-finite 25 (max (vector-norm (v state)) one) (larger (vector-norm (v state)) p) .is-finite)))
+        (λ p. let q = product-finite 25 (max (vector-norm (v state)) one) (larger (vector-norm (v state)) p) in
+        absurd (subst (λ (x : Float). T (finite x)) e (q .is-finite)))
         (λ o. inr o) (finite-or-overflows one (v state) tt d h (yes g))
 
 -- ---- the error norm
@@ -73,15 +74,15 @@ scaled-doubles : (n : ℕ) (a : Arguments) (v : Vectors) → Doubles (each n v (
 unfolding each scaled-error
 scaled-doubles n a v = tabulated _ (λ i. div-fits binary64 _ _) 0 n
 
-from-one : (n : ℕ) → 1 ≤ n → T (le one (double n))
+double-from-one : (n : ℕ) → 1 ≤ n → T (le one (double n))
 unfolding double ofInt
-from-one n h = round-mono binary64 1 1 n 1 (lit< tt) (lit< tt) (omega arith)
+double-from-one n h = round-mono binary64 1 1 n 1 (lit< tt) (lit< tt) (omega arith)
 
 -- the divisor of the norm: 1 or s
 divisor-from-one : (form : ErrorForm) (s : ℕ) → 1 ≤ s → T (le one (divisor-in form s))
 unfolding divisor-in le lt
 divisor-from-one BothDerivatives s h = tt
-divisor-from-one FirstDerivative s h = from-one s h
+divisor-from-one FirstDerivative s h = double-from-one s h
 divisor-from-one (LastDerivative over) s h = tt
 
 pub error-infinite-only-if : (m : Setting) (n s : ℕ) (a : Arguments) (v : Vectors) → 1 ≤ n → n < 2 ^ 16 → 1 ≤ s → error-norm m n s a v ≡ inf false
@@ -92,12 +93,15 @@ error-infinite-only-if m n s a v l h k e = go (a .adaptive) (all-finite xs) refl
     xs : List Float
     xs = each n v (scaled-error a)
 
-    go : (b t : Bool) → all-finite xs ≡ t → cond b (root-of-squares (double n) xs ⊘ divisor-in (facts-of (kind m) .error) s) nought ≡ inf false
+    form : ErrorForm
+    form = facts-of (kind m) .error
+
+    go : (b t : Bool) → all-finite xs ≡ t → cond b (root-of-squares (double n) xs ⊘ divisor-in form s) nought ≡ inf false
         → (t ≡ false) ⊎ Last-product-overflows (double n) xs
     go false t g e = absurd (subst (λ (x : Float). T (finite x)) e tt)
     go true false g e = inl refl
     go true true g e = ⊎-elim
-        (λ p. absurd (subst (λ (x : Float). T (finite x)) e
-        (quotient-finite (root-of-squares (double n) xs) (divisor-in (facts-of (kind m) .error) s) p (divisor-from-one (facts-of (kind m) .error) s k) .is-finite)))
-        (λ o. inr o) (finite-or-overflows (double n) xs (from-one n l) (scaled-doubles n a v)
+        (λ p. let q = quotient-finite (root-of-squares (double n) xs) (divisor-in form s) p (divisor-from-one form s k) in
+        absurd (subst (λ (x : Float). T (finite x)) e (q .is-finite)))
+        (λ o. inr o) (finite-or-overflows (double n) xs (double-from-one n l) (scaled-doubles n a v)
         (subst (λ (i : ℕ). i < 2 ^ 16) (sym (length-each n v (scaled-error a))) h) (yes g))

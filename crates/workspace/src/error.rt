@@ -114,7 +114,7 @@ fn finite_scaled(area: &[f64], n: usize, arguments: Arguments) -> bool
 }
 
 // The second sum.
-fn sum_of_lowered(area: &[f64], n: usize, arguments: Arguments) -> f64
+fn sum_of_lowered_scaled(area: &[f64], n: usize, arguments: Arguments) -> f64
     requires { ⌜ 11 * n ≤ length (now area) ⌝ }
     ensures { λ r. ⌜ r ≡ sum-of-squares (map lowered (each n (unpack n (now (area .entry))) (scaled-error arguments))) ⌝ }
 {
@@ -137,7 +137,7 @@ fn scaled_error_norm(area: &[f64], n: usize, arguments: Arguments) -> f64
     let sum = sum_of_scaled(area, n, arguments);
     if norm::is_infinite(sum) {
         if finite_scaled(area, n, arguments) {
-            return norm::raised_root_of(sum_of_lowered(area, n, arguments), over);
+            return norm::raised_root_of(sum_of_lowered_scaled(area, n, arguments), over);
         }
     }
     norm::root_of(sum, over)
@@ -154,7 +154,7 @@ fn divisor(form: ErrorForm, stages: u64) -> f64
     }
 }
 
-// The scaled error norm, divided by s last; 0 without `adaptive`.
+// The scaled error norm, divided last by 1 or s; 0 without `adaptive`.
 pub fn error_norm(
     area: &[f64],
     n: usize,

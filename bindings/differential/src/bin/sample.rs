@@ -1,20 +1,22 @@
 //! Writes the traces that the program `replay` is run on, to standard output.
 //!
-//! Each session is run on both sides at once, and what is written was compared with the Rust's at every call: a difference
-//! ends the program. Sessions are drawn one after another for each family, and one is kept if it holds a kind of call, ending
-//! or number that no session of that family before it held, and is short. To them come the least and the largest count of
-//! stages of every family, attempts whose scaled radius is NaN with what [`Keeping`] makes after them, and one attempt at
-//! n = 64 and at n = 512. Sessions in which the engine ran the stages of an attempt alone are left out.
+//! Each session is run on both sides at once, and what is written was compared at every call, with the Rust's, and from the
+//! first attempt in which that does not count with the definition's: a difference ends the program. Sessions are drawn one
+//! after another for each family, and one is kept if it holds a kind of call, ending or number that no session of that family
+//! before it held, and is short. To them come the least and the largest count of stages of every family, attempts whose scaled
+//! radius is NaN with what [`Keeping`] makes after them, failed sensors of every size and placement, an infinite radius, and one
+//! attempt at n = 64 and at n = 512.
+use differential::hot::{Heat, Hot, Keeping, Overflowing, Placement, SENSORS, Unbounded};
 use differential::random::mixed;
 use differential::scenarios::{
-    self, Counted, Coverage, Keeping, RADIUS_INFINITE, RADIUS_NAN, Unbounded,
+    self, Counted, Coverage, RADIUS_INFINITE, RADIUS_NAN, wanted_of_hot,
 };
 use differential::trace::Trace;
 use std::collections::BTreeSet;
 use std::io::Write;
 
 /// The longest session that is kept, in words.
-const LONGEST: usize = 3000;
+const LONGEST: usize = 1500;
 
 /// How many sessions of a family are drawn.
 const DRAWN: u64 = 4000;
@@ -61,12 +63,23 @@ impl Sample {
                 format!("session of {name}, seed {seed}: {difference}")
             })?;
             let length = coverage.trace.as_ref().map_or(0, |trace| trace.words.len());
-            let usable = (1..=LONGEST).contains(&length) && !coverage.left_out();
+            let usable = (1..=LONGEST).contains(&length);
             if usable && coverage.kinds.keys().any(|kind| !held.contains(kind)) {
                 held.extend(coverage.kinds.keys().copied());
                 self.add(coverage);
             }
         }
+        Ok(())
+    }
+
+    /// A session that a scenario makes.
+    fn scenario(
+        &mut self,
+        run: impl Fn(&mut Coverage) -> Result<(), String>,
+    ) -> Result<(), String> {
+        let mut coverage = fresh();
+        run(&mut coverage)?;
+        self.add(coverage);
         Ok(())
     }
 
@@ -77,23 +90,42 @@ impl Sample {
         passes: usize,
         n: usize,
     ) -> Result<(), String> {
-        let mut coverage = fresh();
         let counted = Counted {
             family,
             stages,
             passes,
             n,
         };
-        scenarios::counted_attempt(&counted, 1, &mut coverage)?;
-        self.add(coverage);
-        Ok(())
+        self.scenario(|coverage| scenarios::counted_attempt(&counted, 1, coverage))
     }
 
     fn keeping(&mut self, family: u64) -> Result<(), String> {
-        let mut coverage = fresh();
-        let (radius, n) = (Unbounded::Nan, 1);
-        Keeping { family, radius, n }.run(1, &mut coverage)?;
-        self.add(coverage);
+        let radius = Unbounded::Nan;
+        let n = radius.least_dimension();
+        self.scenario(|coverage| Keeping { family, radius, n }.run(1, coverage))
+    }
+
+    /// Failed sensors, of the next size and at the next placement in each family, and an error that is hot by itself.
+    fn sensors(&mut self) -> Result<(), String> {
+        let families = oracle::FAMILIES.into_iter().enumerate();
+        let states = families.map(|(at, family)| {
+            let placement = Placement::ALL[(at + at / 3) % 3];
+            Hot {
+                family,
+                heat: [Heat::Derivative(placement), Heat::State(placement)][at % 2],
+                sensor: at % SENSORS.len(),
+                n: 3,
+            }
+        });
+        let error = Hot {
+            family: 2,
+            heat: Heat::Error,
+            sensor: 1,
+            n: 1,
+        };
+        for hot in states.chain([error]) {
+            self.scenario(|coverage| hot.run(1, coverage))?;
+        }
         Ok(())
     }
 
@@ -106,17 +138,22 @@ impl Sample {
             self.attempt(family, least + 2, 2, 64)?;
             self.keeping(family)?;
         }
+        self.sensors()?;
+        let [_, infinite] = Overflowing::STEPS;
+        let overflowing = Overflowing {
+            step: infinite,
+            n: 1,
+        };
+        self.scenario(|coverage| overflowing.run(1, coverage))?;
         self.attempt(3, 3, 2, 512)
     }
 
     /// What the traces must hold and do not, and whether they fit.
     fn missing(&self) -> Vec<String> {
         let radii = [RADIUS_NAN, RADIUS_INFINITE].into_iter();
-        let radii = radii
-            .filter(|kind| self.reached.counted(kind) == 0)
-            .map(str::to_string);
+        let kinds = self.reached.kinds_missing(radii.chain(wanted_of_hot()));
         let room = (self.words.len() > ROOM).then(|| format!("room for {}", self.words.len()));
-        radii
+        kinds
             .chain(self.reached.kept_missing())
             .chain(room)
             .collect()

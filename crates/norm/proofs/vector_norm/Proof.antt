@@ -1,5 +1,5 @@
 -- `vector_norm` meets its contract: the root over the divisor 1, by the first sum or the second.
-use mathlib.Core.Path.{_≡_, refl, sym, ap, _∙_}
+use mathlib.Core.Path.{_≡_, sym, ap, _∙_}
 use mathlib.Core.Logic.{_⊎_, inl, inr, ⊎-elim}
 use mathlib.Core.Bool.{false}
 use lib.Ieee.{Float, ofBits, inf, eq}

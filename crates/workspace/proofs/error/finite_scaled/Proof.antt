@@ -1,11 +1,12 @@
 -- `finite_scaled` meets its contract: at the loop's head the flag is that of the first i elements.
-use mathlib.Core.Path.{_≡_, refl, sym, ap, ap₂, _∙_}
-use mathlib.Core.Bool.{Bool, _&&_}
+use mathlib.Core.Path.{_≡_, refl, sym, ap, _∙_}
+use mathlib.Core.Bool.{_&&_}
 use Prim.Native.Nat.{_-_, _*_, _≤_, _<_}
 use lib.ListN.{length, take}
 use lib.Seq.{take-all}
 use lib.Ieee.{Float, binary64, ofBits, sub, eq}
-use Rattle.workspace.specs.Vectors.{unpack, each, all-finite}
+use Rattle.norm.specs.Norm.{all-finite}
+use Rattle.workspace.specs.Vectors.{unpack, each}
 use Rattle.workspace.specs.Kernel.{scaled-error}
 use Rattle.norm.proofs.Finite.{next-flag}
 use Rattle.ieee.specs.Double.{nought}

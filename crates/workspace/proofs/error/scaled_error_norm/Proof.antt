@@ -24,8 +24,8 @@ is-infinite-requires c κs = search needs
 finite-scaled-requires : tie.Need-finite-scaled-requires
 finite-scaled-requires c κs = search needs
 
-sum-of-lowered-requires : tie.Need-sum-of-lowered-requires
-sum-of-lowered-requires c κs = search needs
+sum-of-lowered-scaled-requires : tie.Need-sum-of-lowered-scaled-requires
+sum-of-lowered-scaled-requires c κs = search needs
 
 raised-root-of-requires : tie.Need-raised-root-of-requires
 raised-root-of-requires c κs = search needs
@@ -36,7 +36,7 @@ returns c =
     let a = c .before .before .before .before .before .before .before .before .before .args in
     c .raised-root-of .ensures
     ∙ ap₂ (λ (d s : Float). raised (root-over d s)) (c .before .before .before .before .before .before .before .double-of .ensures)
-    (c .before .sum-of-lowered .ensures)
+    (c .before .sum-of-lowered-scaled .ensures)
     ∙ sym (by-second-sum (double (a .n)) _ (c .before .before .before .before .before .before .sum-of-scaled .ensures)
     (sym (c .before .before .before .before .before .is-infinite .ensures) ∙ c .before .before .before .before .if1 .taken)
     (sym (c .before .before .before .finite-scaled .ensures) ∙ c .before .before .if2 .taken))
@@ -64,7 +64,7 @@ scaled-error-norm-spec =
     sum-of-scaled-requires
     is-infinite-requires
     finite-scaled-requires
-    sum-of-lowered-requires
+    sum-of-lowered-scaled-requires
     raised-root-of-requires
     returns
     root-of-requires

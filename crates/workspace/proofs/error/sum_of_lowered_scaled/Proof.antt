@@ -1,4 +1,4 @@
--- `sum_of_lowered` meets its contract: at the loop's head t is the sum over the first i elements.
+-- `sum_of_lowered_scaled` meets its contract: at the loop's head t is the sum over the first i elements.
 use mathlib.Core.Path.{_≡_, refl, sym, ap, _∙_}
 use mathlib.Core.List.{map}
 use Prim.Native.Nat.{_-_, _*_, _≤_, _<_}
@@ -13,8 +13,8 @@ use Rattle.workspace.proofs.Areas.{length-each}
 use Rattle.workspace.proofs.Columns.{each-column}
 use native.Mathlib.Omega.{arith}
 use borrow.Author.Needs.{needs}
-use Rattle.workspace.proofs.error.sum_of_lowered.Statement.{statement}
-use Rattle.workspace.proofs.error.sum_of_lowered.Tie as tie
+use Rattle.workspace.proofs.error.sum_of_lowered_scaled.Statement.{statement}
+use Rattle.workspace.proofs.error.sum_of_lowered_scaled.Tie as tie
 
 abbrev Inv-loop : tie.InvT-loop
 Inv-loop area n arguments t₀ i₀ t i =
@@ -60,8 +60,8 @@ returns c =
     let e : length xs ≡ a .n = length-each (a .n) (unpack (a .n) (a .area .now)) (scaled-error (a .arguments)) in
     l .inv .2 ∙ ap sum-of-squares (take-all (l .i) (map lowered xs) (omega (arith, length-map xs lowered)))
 
-pub sum-of-lowered-spec : {M : Type 1} → statement M
-sum-of-lowered-spec =
+pub sum-of-lowered-scaled-spec : {M : Type 1} → statement M
+sum-of-lowered-scaled-spec =
     tie.close
     (tie.spec
     Inv-loop

@@ -1,13 +1,17 @@
 //! A day driven through the Rust: what the program `day` writes of the text on standard input (a day that is not
 //! malformed), or with the argument `minutes` the lines that the program `days` writes of its minutes: the junction's bits
-//! and s, k and the bits of r, or 0, 0 and the bits of 0 where the minute is not finished.
+//! and s, k and the bits of r, or 0, 0 and the bits of 0 where the minute is not finished. Before the first minute in which the
+//! Rust does not count ([`cause`]) it goes over to the definition, as standard error then tells, and stays there.
 //!
 //! The same model and the same order of calls: each minute begins with `accept_step`, or with `initialize` on a kernel made
 //! anew where the last attempt was refused, and goes on with one attempt of 60 seconds. The candidate is evaluated with the
 //! next finite reading. It is known as the last of the attempt's s + k evaluations, and not by its time, since RKMC2's last
 //! stage may have the same. A minute whose reading is not finite calls nothing: it is refused with 9, and the kernel stands.
+use differential::other::{Made, Other, Replying, Rhs, cause};
+use differential::stated::{Stated, finite};
 use oracle::{Arguments, Figures, Oracle, RightHandSide, SolveError};
-use std::cell::{Cell, RefCell};
+use stabilized::calls::{VECTORS, vector};
+use std::cell::Cell;
 use std::io::Read;
 
 #[derive(Clone, Copy)]
@@ -59,13 +63,41 @@ impl Inverter {
     }
 }
 
+/// The replies of a minute: by its reading, but of the candidate by the upcoming one.
+#[derive(Clone, Copy)]
+struct Minute {
+    inverter: Inverter,
+    reading: f64,
+    upcoming: f64,
+    /// The candidate's place among the evaluations, once it is known.
+    candidate: Option<u64>,
+}
+
+impl Replying for Minute {
+    fn in_turn(&self) -> impl RightHandSide {
+        let place = Cell::new(0);
+        move |derivative: &mut [f64], point: &[f64], _| {
+            let here = place.replace(place.get() + 1);
+            let watts = if self.candidate == Some(here) {
+                self.upcoming
+            } else {
+                self.reading
+            };
+            self.inverter.rates(derivative, point, watts);
+            Ok(())
+        }
+    }
+}
+
 /// How a minute ends: with the figures of its attempt, or the number that it is refused with.
 type Ended = Result<Figures, u64>;
 
 /// One day: the kernel while it goes on, the state that is kept, and what is counted.
 struct Day {
     inverter: Inverter,
-    oracle: Option<Oracle>,
+    other: Option<Other>,
+    /// Whether the definition alone counts.
+    alone: bool,
     kept: Vec<f64>,
     evaluations: u64,
     above: u64,
@@ -78,7 +110,8 @@ impl Day {
         Self {
             kept: vec![inverter.initial; inverter.n],
             inverter,
-            oracle: None,
+            other: None,
+            alone: false,
             evaluations: 0,
             above: 0,
             minutes: Vec::new(),
@@ -87,76 +120,101 @@ impl Day {
 
     /// The junction's present temperature: of the candidate that is not accepted yet, else of the kept state.
     fn junction(&self) -> f64 {
-        match &self.oracle {
-            Some(oracle) => oracle.vectors()[10][0],
+        match &self.other {
+            Some(other) => other.vectors()[vector::CANDIDATE][0],
             None => self.kept[0],
         }
     }
 
-    /// A kernel at the beginning of a minute: after `accept_step`, or made anew where the last attempt was refused; its
-    /// evaluations before the minute; and how `initialize` ended on the one made anew.
-    fn begun(
-        &mut self,
-        start: f64,
-        rhs: &impl RightHandSide,
-    ) -> (Oracle, u64, Result<(), SolveError>) {
-        match self.oracle.take() {
-            Some(mut oracle) => {
-                // (without a callback the Rust reads neither time nor step)
-                oracle.accept(start - 60.0, 60.0);
-                self.kept = oracle.vectors()[9].to_vec();
-                let before = oracle.evaluations();
-                (oracle, before, Ok(()))
-            }
-            None => {
-                let mut oracle = Oracle::new(self.inverter.family, self.inverter.n);
-                let begun = oracle.initialize(&self.kept, start, rhs);
-                (oracle, 0, begun)
-            }
+    /// A kernel before any start.
+    fn made_anew(&self) -> Other {
+        let Inverter { family, n, .. } = self.inverter;
+        if self.alone {
+            let zeros = vec![0.0; n];
+            Other::Stated(Stated::with_vectors(family, [&zeros; VECTORS]))
+        } else {
+            Other::Rust(Oracle::new(family, n))
         }
     }
 
-    /// One minute whose reading is finite.
-    fn entered(&mut self, minute: usize, reading: f64, upcoming: f64) -> Ended {
-        let start = (60 * minute) as f64;
-        let (inverter, last) = (self.inverter, RefCell::new(Vec::new()));
-        // evaluations up to the candidate's, and more than there can be until they are known
-        let left = Cell::new(u64::MAX);
-        let rhs = |derivative: &mut [f64], point: &[f64], _: f64| {
-            left.set(left.get() - 1);
-            let watts = if left.get() == 0 { upcoming } else { reading };
-            inverter.rates(derivative, point, watts);
-            *last.borrow_mut() = derivative.to_vec();
-            Ok(())
-        };
-        let (mut oracle, before, begun) = self.begun(start, &rhs);
-        let end = begun.and_then(|()| {
-            let arguments = arguments(start);
-            let iteration = oracle.iteration(arguments, &rhs);
-            if let Ok(ended) = &iteration {
-                let stages = oracle::stages(inverter.family, ended.scaled_radius);
-                left.set(stages as u64 + ended.passes);
-            }
-            oracle.figures(&iteration, arguments, &rhs)
-        });
-        self.evaluations += oracle.evaluations() - before;
-        match end {
-            Ok(figures) => {
-                self.oracle = Some(oracle);
-                Ok(figures)
-            }
-            Err(SolveError::NonFiniteDerivative) if last.borrow().iter().all(|x| x.is_finite()) => {
-                Err(10)
-            }
-            Err(SolveError::NonFiniteDerivative) => Err(9),
-            Err(error) => panic!("the Rust ended with {error:?}"),
+    /// A call on a kernel with the replies of a minute: the kernel afterwards and what the call gave, or the number that the
+    /// minute is refused with. Where it is the candidate that is not finite, the replies all were.
+    fn call(
+        &mut self,
+        other: &Other,
+        minute: &Minute,
+        call: impl Fn(&mut Other, &Rhs) -> Result<Option<Figures>, SolveError>,
+    ) -> Result<(Other, Option<Figures>), u64> {
+        let made = Made::on(other, minute, None, &call);
+        self.evaluations += made.evaluated.len() as u64;
+        let candidate = made.kernel.vectors()[vector::CANDIDATE];
+        match made.end {
+            Ok(given) => Ok((made.kernel, given)),
+            Err(SolveError::NonFiniteDerivative) if finite(candidate) => Err(9),
+            Err(SolveError::NonFiniteDerivative) => Err(10),
+            Err(error) => panic!("{} ended with {error:?}", made.kernel.name()),
         }
+    }
+
+    /// A kernel at the beginning of a minute: after `accept_step`, or made anew where the last attempt was refused.
+    fn begun(&mut self, start: f64, minute: &Minute) -> Result<Other, u64> {
+        if let Some(mut other) = self.other.take() {
+            // (without a callback neither time nor step is read)
+            other.accept(start - 60.0, 60.0);
+            self.kept = other.vectors()[vector::STATE].to_vec();
+            return Ok(other);
+        }
+        let kept = self.kept.clone();
+        let made_anew = self.made_anew();
+        let begun = self.call(&made_anew, minute, |other, rhs| {
+            other.initialize(&kept, start, rhs)
+        });
+        begun.map(|(other, _)| other)
+    }
+
+    /// The kernel for an attempt: by the definition, where the Rust does not count in it.
+    fn counting(&mut self, other: Other, arguments: Arguments, minute: &Minute) -> Other {
+        let family = self.inverter.family;
+        if let Other::Rust(rust) = &other
+            && let Some(cause) = cause(rust, family, arguments, minute, None)
+        {
+            let minute = self.minutes.len();
+            eprintln!(
+                "by the definition from minute {minute} on: {}",
+                cause.name()
+            );
+            self.alone = true;
+            return Other::Stated(Stated::with_vectors(family, rust.vectors()));
+        }
+        other
+    }
+
+    /// One minute whose reading is finite.
+    fn entered(&mut self, start: f64, mut minute: Minute) -> Ended {
+        let other = self.begun(start, &minute)?;
+        let arguments = arguments(start);
+        let stated = Stated::with_vectors(self.inverter.family, other.vectors());
+        let length = stated.length(arguments, &minute.in_turn());
+        minute.candidate = length.ok().map(|length| length - 1);
+        let other = self.counting(other, arguments, &minute);
+        let iteration = other.iteration(arguments, &minute);
+        let (other, figures) = self.call(&other, &minute, |other, rhs| {
+            other.attempt(&iteration, arguments, rhs)
+        })?;
+        self.other = Some(other);
+        Ok(figures.expect("an attempt has figures"))
     }
 
     /// One minute.
     fn minute(&mut self, minute: usize, reading: f64, upcoming: f64) {
         let ended = if reading.is_finite() {
-            self.entered(minute, reading, upcoming)
+            let replies = Minute {
+                inverter: self.inverter,
+                reading,
+                upcoming,
+                candidate: None,
+            };
+            self.entered((60 * minute) as f64, replies)
         } else {
             Err(9)
         };
