@@ -1,5 +1,5 @@
-//! Scenarios in which the Rust does not count, so that they are compared with the definition alone: failed sensors, whose
-//! norms are finite by document 02, CR 4; radii that are no finite numbers; and RKC's count where the Rust's overflows.
+//! Scenarios of what overflows: failed sensors, whose norms are finite by document 02, CR 4, and radii that are no finite
+//! numbers, both compared with the definition alone; an r at which RKC's count overflows in the Rust; and candidates.
 use crate::model::{Model, Replies};
 use crate::other::Cause;
 use crate::pair::{Ending, Pair, Stop};
@@ -402,9 +402,11 @@ impl Keeping {
     }
 }
 
-/// An attempt of RKC with an r at which the Rust's count overflows, while its norms are finite: 200 stages.
+/// An attempt with an r so large that the Rust's count overflows in RKC, where the run goes over and 200 stages are run. In the
+/// other families the Rust gives the largest count.
 #[derive(Clone, Copy, Debug)]
 pub struct Overflowing {
+    pub family: u64,
     pub step: f64,
     pub n: usize,
 }
@@ -431,11 +433,14 @@ impl Overflowing {
             relative_tolerance: 1e-3,
             adaptive: true,
         };
-        ended(pair.start(RKC, &state, 0.5, &replies, None)?, Ending::Ready)?;
+        let started = pair.start(self.family, &state, 0.5, &replies, None)?;
+        ended(started, Ending::Ready)?;
         let replies = with_radii(replies, radii_for(3, 1e160), pair);
         let figures = finished(pair, arguments, &replies, coverage)?;
-        meant(pair.went_over == Some(Cause::Count), pair.went_over)?;
-        meant(figures.stages == 200, figures)
+        let over = (self.family == RKC).then_some(Cause::Count);
+        meant(pair.went_over == over, pair.went_over)?;
+        let (_, largest) = oracle::ends(self.family);
+        meant(figures.stages == largest as u64, figures)
     }
 
     pub fn run(&self, seed: u64, coverage: &mut Coverage) -> Result<(), String> {
@@ -444,4 +449,31 @@ impl Overflowing {
             self.follow(pair, random, coverage)
         })
     }
+}
+
+/// A candidate that overflows while every norm of the Rust is finite: the attempt ends with 10 on both sides.
+pub fn overflowing_candidate(
+    family: u64,
+    seed: u64,
+    coverage: &mut Coverage,
+) -> Result<(), String> {
+    let (n, replies) = (3, Replies::of(&Model::Constant { value: 1e150 }));
+    let arguments = Arguments {
+        time: 0.5,
+        step: 1e200,
+        absolute_tolerance: 1e-6,
+        relative_tolerance: 1e-3,
+        adaptive: true,
+    };
+    let scenario = ("a candidate that overflows", family);
+    let seed = seed ^ mixed(family);
+    run(&scenario, n, seed, coverage, |pair, random, coverage| {
+        let state: Vec<f64> = (0..n).map(|_| random.between(-1.0, 1.0)).collect();
+        let started = pair.start(family, &state, 0.5, &replies, None)?;
+        ended(started, Ending::Ready)?;
+        let ending = pair.attempt(arguments, &replies, None)?;
+        coverage.attempt(pair, &arguments, &ending);
+        meant(pair.went_over.is_none(), pair.went_over)?;
+        ended(ending, Ending::BadCandidate)
+    })
 }

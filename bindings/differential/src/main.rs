@@ -3,7 +3,7 @@
 //! differential scenario SEED LARGEST, differential call SEED: a random one again, as a difference names it; LARGEST is the
 //! largest n that the scenario was drawn with. Of a scenario every finished attempt is told.
 use differential::build::{self, Departure};
-use differential::hot::{Hot, Keeping, Overflowing};
+use differential::hot::{self, Hot, Keeping, Overflowing};
 use differential::other::Cause;
 use differential::pair::SHORT;
 use differential::random::mixed;
@@ -12,7 +12,6 @@ use differential::scenarios::{
     self, BY_THE_DEFINITION, Counted, Coverage, DIMENSIONS, EARLY, ENDINGS, NORM_HOT, OVERFLOWED,
     WITH_THE_RUST,
 };
-use oracle::RKC;
 use oracle::thresholds::{self, Disagreement, UNITS};
 use std::ops::RangeInclusive;
 use std::process::ExitCode;
@@ -267,11 +266,16 @@ fn every_unbounded_radius(
     runs.try_for_each(|keeping| keeping.run(seed, coverage))
 }
 
-/// RKC's count where the Rust's overflows.
+/// In every family an r at which RKC's count overflows in the Rust, finite and infinite, and a candidate that overflows while
+/// the Rust decides.
 fn every_overflow(seed: u64, families: &[u64], coverage: &mut Coverage) -> Result<(), String> {
-    let steps = Overflowing::STEPS.into_iter();
-    let mut steps = steps.filter(|_| families.contains(&RKC));
-    steps.try_for_each(|step| Overflowing { step, n: 3 }.run(seed, coverage))
+    for &family in families {
+        for step in Overflowing::STEPS {
+            Overflowing { family, step, n: 3 }.run(seed, coverage)?;
+        }
+        hot::overflowing_candidate(family, seed, coverage)?;
+    }
+    Ok(())
 }
 
 fn report(coverage: &Coverage) {
@@ -334,7 +338,7 @@ fn report_family(coverage: &Coverage, family: u64) {
         .filter(|(of, ending)| *of == family && ENDINGS.contains(ending))
         .count();
     println!(
-        "{name}: {norms} of {permitted} stage counts with their norms, {passes} of 12 pass counts, {endings} of {} endings",
+        "{name}, compared with the Rust: {norms} of {permitted} stage counts with their norms, {passes} of 12 pass counts, {endings} of {} endings",
         ENDINGS.len()
     );
     for ending in EARLY {

@@ -212,7 +212,7 @@ impl Pair {
     }
 
     /// Goes over to the definition, if the Rust does not count in the attempt that follows. It begins with the engine's vectors,
-    /// which were compared with the Rust's.
+    /// of which at least those that an attempt reads were compared with the Rust's.
     fn go_over(
         &mut self,
         arguments: oracle::Arguments,

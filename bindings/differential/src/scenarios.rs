@@ -147,9 +147,10 @@ pub struct Coverage {
     pub norms: BTreeMap<(u64, u64), u64>,
     /// Finished attempts that were compared with the Rust, by family and passes.
     pub passes: BTreeMap<(u64, u64), u64>,
-    /// Attempts by family and ending, whatever they were compared with; and by that.
+    /// Attempts that were compared with the Rust, by family and ending; finished ones with an infinite r; and all by what they
+    /// were compared with.
     pub endings: BTreeMap<(u64, &'static str), u64>,
-    /// Attempts that were ended early, whatever they were compared with, by family, ending and place.
+    /// Attempts that were compared with the Rust and ended early, by family, ending and place.
     pub early: BTreeMap<(u64, &'static str, &'static str), u64>,
     /// By dimension.
     pub dimensions: BTreeMap<usize, u64>,
@@ -216,7 +217,8 @@ impl Coverage {
         )
     }
 
-    /// Of RKC also that a run goes over where the Rust's count overflows, and that an attempt is finished there.
+    /// Of RKC also that a run goes over where the Rust's count overflows, and that an attempt is finished there; of the others
+    /// that one with an infinite r is compared with the Rust.
     fn missing_of(&self, family: u64) -> Vec<String> {
         let norms = oracle::permitted(family)
             .filter(|stages| !self.norms.contains_key(&(family, *stages as u64)))
@@ -233,6 +235,7 @@ impl Coverage {
         let endings = ENDINGS
             .into_iter()
             .chain(compared)
+            .chain((family != RKC).then_some(RADIUS_INFINITE))
             .filter(|ending| !self.endings.contains_key(&(family, ending)))
             .map(str::to_string);
         let overflows = [OVERFLOWED, Cause::Count.name()].into_iter();
@@ -307,6 +310,9 @@ impl Coverage {
             self.count_of(family, FINISHED_BY_THE_DEFINITION);
         } else {
             self.count_of(family, FINISHED_WITH_THE_RUST);
+            if figures.scaled_radius == f64::INFINITY {
+                *self.endings.entry((family, RADIUS_INFINITE)).or_default() += 1;
+            }
             *self.passes.entry((family, figures.passes)).or_default() += 1;
             if arguments.adaptive {
                 *self.norms.entry((family, figures.stages)).or_default() += 1;
@@ -317,7 +323,11 @@ impl Coverage {
 
     fn ended(&mut self, pair: &Pair, name: &'static str) {
         let family = pair.record.wholes.family;
-        self.count_of(family, name);
+        self.count(name);
+        if pair.went_over.is_some() {
+            return;
+        }
+        *self.endings.entry((family, name)).or_default() += 1;
         if EARLY.contains(&name) {
             for place in places(&pair.evaluated) {
                 *self.early.entry((family, name, place)).or_default() += 1;

@@ -1,6 +1,7 @@
 //! The definition of an attempt and of the calls around it, stated anew from documents 01 and 02 in plain doubles. Of the Rust
-//! it takes the coefficients of the rows and the stage counts, which are no matter of norms. Where a norm of the Rust is
-//! infinite (CR 4), or its count overflows, this alone says what is right; where not, it is held against the Rust too.
+//! it takes the coefficients of the rows, the order of the operations in a row and in RKMC2's candidate, and the stage counts,
+//! which are no matter of norms; RKMC2's counts are by the stored thresholds. Where a norm of the Rust is infinite (CR 4), or
+//! its count overflows, this alone says what is right; where not, it is held against the Rust too.
 use crate::build::stored_thresholds;
 use oracle::thresholds::count_by;
 use oracle::{Arguments, Figures, RKC, RKMC2, RightHandSide, Row, Rows, SolveError};

@@ -83,6 +83,46 @@ fn hot_vectors_have_finite_figures() {
     }
 }
 
+/// y' = -rate y on both sides of the rate whose square overflows: docs/DIFFERENCES.md, "A very stiff and hot model".
+#[test]
+fn a_stiff_model_stays_stiff_where_its_square_overflows() {
+    let overflowing = 2.0_f64.powi(512);
+    for rate in [overflowing.next_down(), overflowing] {
+        for (family, evaluations) in [(Family::Rkg1, 202), (Family::Rkmc2, 328)] {
+            let cooling = |derivative: &mut [f64], state: &[f64], _: f64| {
+                derivative[0] = -rate * state[0];
+            };
+            let mut stepper = Stepper::start(family, &[1.0], 0.0, cooling).unwrap();
+            let figures = stepper.attempt(Attempt::new(0.0, 1.0e-150)).unwrap();
+            assert_eq!(figures.stages + figures.passes, evaluations, "{family:?}");
+        }
+    }
+}
+
+/// Four entries whose norm is no double, the first derivative 0 and every other reply the state: r is a NaN, and a row's
+/// products overflow or not by the family (docs/DECISIONS.md, 70).
+#[test]
+fn a_norm_that_is_no_double() {
+    let finishing = [Family::Rkl1, Family::Rkg1, Family::Rkmc2];
+    for (entry, finishing) in [(1.0e308, &finishing[..]), (1.7e308, &[])] {
+        for family in FAMILIES {
+            let first = Cell::new(true);
+            let rhs = move |derivative: &mut [f64], _: &[f64], _: f64| {
+                derivative.fill(if first.take() { 0.0 } else { entry });
+            };
+            let mut stepper = Stepper::start(family, &[entry; 4], 0.0, rhs).unwrap();
+            let ended = stepper.attempt(Attempt::new(0.0, 2.0_f64.powi(-20)));
+            assert_eq!(
+                ended.is_ok(),
+                finishing.contains(&family),
+                "{family:?}, {ended:?}"
+            );
+            assert!(ended.is_ok() || ended == Err(Refusal::Candidate));
+            assert!(stepper.record().doubles.scaled_radius.is_nan());
+        }
+    }
+}
+
 #[test]
 fn not_a_number_and_infinity_are_told() {
     // The norm of every pass's departure from the first derivative, 2e308, is no double; that of the state is not, or is.

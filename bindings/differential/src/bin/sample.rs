@@ -4,14 +4,15 @@
 //! first attempt in which that does not count with the definition's: a difference ends the program. Sessions are drawn one
 //! after another for each family, and one is kept if it holds a kind of call, ending or number that no session of that family
 //! before it held, and is short. To them come the least and the largest count of stages of every family, attempts whose scaled
-//! radius is NaN with what [`Keeping`] makes after them, failed sensors of every size and placement, an infinite radius, and one
-//! attempt at n = 64 and at n = 512.
+//! radius is NaN with what [`Keeping`] makes after them, failed sensors, each size and each placement in two families, an error
+//! that is hot by itself, an infinite radius, and one attempt at n = 64 and at n = 512.
 use differential::hot::{Heat, Hot, Keeping, Overflowing, Placement, SENSORS, Unbounded};
 use differential::random::mixed;
 use differential::scenarios::{
     self, Counted, Coverage, RADIUS_INFINITE, RADIUS_NAN, wanted_of_hot,
 };
 use differential::trace::Trace;
+use oracle::RKC;
 use std::collections::BTreeSet;
 use std::io::Write;
 
@@ -141,6 +142,7 @@ impl Sample {
         self.sensors()?;
         let [_, infinite] = Overflowing::STEPS;
         let overflowing = Overflowing {
+            family: RKC,
             step: infinite,
             n: 1,
         };
