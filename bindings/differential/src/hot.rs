@@ -135,6 +135,17 @@ fn run(
     Ok(())
 }
 
+/// An attempt's arguments, with usual tolerances.
+fn arguments(step: f64) -> Arguments {
+    Arguments {
+        time: 0.5,
+        step,
+        absolute_tolerance: 1e-6,
+        relative_tolerance: 1e-3,
+        adaptive: true,
+    }
+}
+
 /// The figures of an attempt, which must be finished.
 fn finished(
     pair: &mut Pair,
@@ -224,11 +235,9 @@ impl Hot {
     ) -> Result<(), String> {
         let tolerance = norm.tolerance(self.sensor());
         let arguments = Arguments {
-            time: 0.5,
-            step,
             absolute_tolerance: tolerance,
             relative_tolerance: tolerance,
-            adaptive: true,
+            ..arguments(step)
         };
         let figures = finished(pair, arguments, &self.replies(step), coverage)?;
         let (least, _) = oracle::ends(self.family);
@@ -349,15 +358,9 @@ impl Keeping {
         random: &mut Random,
         coverage: &mut Coverage,
     ) -> Result<(), String> {
-        let arguments = Arguments {
-            time: 0.5,
-            step: 1e-306,
-            absolute_tolerance: 1e-6,
-            relative_tolerance: 1e-3,
-            adaptive: true,
-        };
         let sign = -pair.vector(vector::FIRST_DERIVATIVE)[0].signum();
-        let figures = finished(pair, arguments, &self.replies(sign, random), coverage)?;
+        let replies = self.replies(sign, random);
+        let figures = finished(pair, arguments(1e-306), &replies, coverage)?;
         meant(self.radius.is(figures.scaled_radius), figures)?;
         pair.all_turned_away()
     }
@@ -426,17 +429,10 @@ impl Overflowing {
             most: 1.0 / self.step,
         });
         let state: Vec<f64> = (0..self.n).map(|_| random.between(-1.0, 1.0)).collect();
-        let arguments = Arguments {
-            time: 0.5,
-            step: self.step,
-            absolute_tolerance: 1e-6,
-            relative_tolerance: 1e-3,
-            adaptive: true,
-        };
         let started = pair.start(self.family, &state, 0.5, &replies, None)?;
         ended(started, Ending::Ready)?;
         let replies = with_radii(replies, radii_for(3, 1e160), pair);
-        let figures = finished(pair, arguments, &replies, coverage)?;
+        let figures = finished(pair, arguments(self.step), &replies, coverage)?;
         let over = (self.family == RKC).then_some(Cause::Count);
         meant(pair.went_over == over, pair.went_over)?;
         let (_, largest) = oracle::ends(self.family);
@@ -458,13 +454,7 @@ pub fn overflowing_candidate(
     coverage: &mut Coverage,
 ) -> Result<(), String> {
     let (n, replies) = (3, Replies::of(&Model::Constant { value: 1e150 }));
-    let arguments = Arguments {
-        time: 0.5,
-        step: 1e200,
-        absolute_tolerance: 1e-6,
-        relative_tolerance: 1e-3,
-        adaptive: true,
-    };
+    let arguments = arguments(1e200);
     let scenario = ("a candidate that overflows", family);
     let seed = seed ^ mixed(family);
     run(&scenario, n, seed, coverage, |pair, random, coverage| {

@@ -21,7 +21,7 @@ all-finite (x ∷ xs) = finite x && all-finite xs
 unfoldable pub overflows : List Float → Bool
 overflows xs = eq (sum-of-squares xs) (inf false) && all-finite xs
 
--- each entry is multiplied by 2^-520 before squaring
+-- each entry is multiplied by 2^-520 before squaring (`fin s m e` is m × 2^e, and `negsuc 519` is -520)
 unfoldable pub lowered : Float → Float
 lowered x = x ⊗ fin false 1 (negsuc 519)
 
