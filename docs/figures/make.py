@@ -1,8 +1,8 @@
 #!/usr/bin/env python3
 """Draws the figures of docs/, from the project's own numbers: python3 docs/figures/make.py, in the project's root.
 
-multipliers.svg: the multiplier of each family of orthogonal.rs at s = 9, over its interval, by exact fractions (document 01's recurrence).
-day.svg: the junction temperature of the stored day (the last lines of crates/days/stdout) and its rated temperature (crates/day/stdin).
+multipliers.svg: the multiplier of each family of orthogonal.rs at s = 9, from minus its reach to 0, by exact fractions (document 01's recurrence).
+day.svg: the junction temperature of the stored day (the first field of its minutes in crates/days/stdout) and its rated temperature (crates/day/stdin).
 """
 import struct
 from fractions import Fraction as F
@@ -13,6 +13,10 @@ COLORS = ("#1f6fb4", "#c8553d", "#2f8f5b", "#7a4fa3")
 
 def omega_one(family, s):
     return {"RKL1": F(2, s * (s + 1)), "RKL2": F(4, (s - 1) * (s + 2)), "RKG1": F(4, s * (s + 3)), "RKG2": F(6, (s - 1) * (s + 4))}[family]
+
+
+def reach(family, s):
+    return {"RKL1": F(s * (s + 1)), "RKL2": F((s - 1) * (s + 2), 2), "RKG1": F(s * (s + 3), 2), "RKG2": F((s - 1) * (s + 4), 3)}[family]
 
 
 def b(family, j):
@@ -69,12 +73,13 @@ def drawing(title, x_range, y_range, x_ticks, y_ticks, curves, lines=()):
 def multipliers(s=9, steps=240):
     curves = []
     for family in ("RKL1", "RKL2", "RKG1", "RKG2"):
-        end = -2 / omega_one(family, s)
+        end = -reach(family, s)
+        assert end == -2 / omega_one(family, s)
         points = [(end * i / steps, multiplier(family, s, end * i / steps)) for i in range(steps + 1)]
         assert all(-1 <= m <= 1 for _, m in points)
         curves.append((f"{family}: from z = {end}", [(float(z), float(m)) for z, m in points]))
     least = min(z for _, points in curves for z, _ in points)
-    return drawing(f"Multipliers at s = {s}, from -2/omega_one to 0", (least, 0), (-1.05, 1.05),
+    return drawing(f"Multipliers at s = {s}, from minus the reach to 0", (least, 0), (-1.05, 1.05),
                    [(z, str(z)) for z in range(0, int(least) - 1, -20)], [(v, str(v)) for v in (-1, -0.5, 0, 0.5, 1)], curves)
 
 
@@ -85,7 +90,9 @@ def double(word):
 def day(last=1437):
     """The minutes before the huge reading."""
     rated = double(open("crates/day/stdin").readline().split()[7])
-    temperatures = [double(line) for line in open("crates/days/stdout").readlines()[-1440:]][:last]
+    lines = open("crates/days/stdout").read().splitlines()
+    first = lines.index("rkl2, minutes:") + 1
+    temperatures = [double(line.split()[0]) for line in lines[first:first + last]]
     top = 5 * (int(max(temperatures + [rated])) // 5 + 1)
     return drawing("Junction temperature over the stored day", (0, 1440), (20, top), [(60 * h, f"{h}:00") for h in range(0, 25, 4)],
                    [(t, f"{t} °C") for t in range(20, top + 1, 5)], [("junction", list(enumerate(temperatures, 1)))], [(f"rated, {rated:g} °C", rated)])
@@ -93,5 +100,6 @@ def day(last=1437):
 
 if __name__ == "__main__":
     for name, draw in (("multipliers", multipliers), ("day", day)):
+        drawn = draw()
         with open(f"docs/figures/{name}.svg", "w") as file:
-            file.write(draw())
+            file.write(drawn)

@@ -1,16 +1,15 @@
--- `Stable` holds of each family and each permitted number of stages, and in fact of any s from 2 on. From Multiplier (the attempt, the bound), Begins, and the
--- reach against 2/ω1. ⊖ ⊗ ⊘ are operations on fractions: they are exact.
+-- `Stable` holds of each family and each permitted number of stages, and in fact of any s from 2 on. From Multiplier (the attempt, the bound), Begins, and ω1
+-- times the reach, which is 2. ⊗ ⊘ are operations on fractions: they are exact.
 use mathlib.Core.Path.{refl, ap₂}
 use mathlib.Core.List.{[], _∷_}
 use Prim.Native.Nat.{ℕ, zero, suc, _+_, _*_, _≤_}
 use native.Mathlib.Omega.{arith}
 use lib.Dec.{T}
-use Rattle.fractions.specs.Frac.{Frac, _⊗_, _⊖_, opp, frac, _⊘_, _≼_, Between}
-use Rattle.fractions.proofs.Ring.{var, _:+_, _:*_, _:-_, neg}
-use Rattle.fractions.proofs.FracLaws.{ring}
+use Rattle.fractions.specs.Frac.{Frac, _⊗_, opp, _⊘_, _≈_, Between}
+use Rattle.fractions.proofs.Ring.{var, _:*_, _:-_, neg}
 use Rattle.fractions.proofs.Combine.{0#, 1#, 1ₑ, 2ₑ, given, combine}
-use Rattle.fractions.proofs.Order.{Nonneg, nonneg-≈, nonneg-+, nonneg-*, nonneg-nat, nonneg-cancel, ≼-of, of-≼}
-use Rattle.fractions.proofs.Values.{nat, is-frac, is-quotient, is-*, is-at-most-one, divided}
+use Rattle.fractions.proofs.Order.{nonneg-≈, ≼-of, of-≼}
+use Rattle.fractions.proofs.Values.{nat, is-nat, is-quotient, is-*, is-same, divided}
 use Rattle.family.specs.Family.{Orthogonal, Legendre1, Legendre2, Gegenbauer1, Gegenbauer2, made-of, permitted}
 use Rattle.family.specs.Reach.{reach}
 use Rattle.family.proofs.Range.{permitted-range}
@@ -31,39 +30,29 @@ begins-is Gegenbauer2 i = record {
   quadratic = begins-2-G i;
 }
 
--- half of ω1 times the reach: 1 in RKL, 1/2 in RKG
-share : (f : Orthogonal) (i : ℕ) → Nonneg (1# ⊖ frac 1 2 ⊗ (omega-one f (suc (suc i)) ⊗ reach f (suc (suc i))))
+-- ω1 times the reach
+share : (f : Orthogonal) (i : ℕ) → omega-one f (suc (suc i)) ⊗ reach f (suc (suc i)) ≈ nat 2
 unfolding reach
-share Legendre1 i =
-    is-at-most-one (is-* (is-frac 1 2 (omega arith)) (is-* (ω-L1 i) (is-quotient _ _ {m′ = (i + 2) * (i + 3)} (omega arith) refl (omega arith)))) (omega arith)
+share Legendre1 i = is-same (is-* (ω-L1 i) (is-quotient _ _ {m′ = (i + 2) * (i + 3)} (omega arith) refl (omega arith))) (is-nat 2) (omega arith)
 share Legendre2 i =
-    is-at-most-one (is-* (is-frac 1 2 (omega arith))
-    (is-* (ω-L2 i) (is-quotient _ _ {m′ = (i + 1) * (i + 4)} (ap₂ _*_ (omega arith) (omega arith)) refl (omega arith)))) (omega arith)
-share Gegenbauer1 i =
-    is-at-most-one (is-* (is-frac 1 2 (omega arith)) (is-* (ω-G1 i) (is-quotient _ _ {m′ = (i + 2) * (i + 5)} (omega arith) refl (omega arith)))) (omega arith)
+    is-same (is-* (ω-L2 i) (is-quotient _ _ {m′ = (i + 1) * (i + 4)} (ap₂ _*_ (omega arith) (omega arith)) refl (omega arith))) (is-nat 2) (omega arith)
+share Gegenbauer1 i = is-same (is-* (ω-G1 i) (is-quotient _ _ {m′ = (i + 2) * (i + 5)} (omega arith) refl (omega arith))) (is-nat 2) (omega arith)
 share Gegenbauer2 i =
-    is-at-most-one (is-* (is-frac 1 2 (omega arith))
-    (is-* (ω-G2 i) (is-quotient _ _ {m′ = (i + 1) * (i + 6)} (ap₂ _*_ (omega arith) (omega arith)) refl (omega arith)))) (omega arith)
+    is-same (is-* (ω-G2 i) (is-quotient _ _ {m′ = (i + 1) * (i + 6)} (ap₂ _*_ (omega arith) (omega arith)) refl (omega arith))) (is-nat 2) (omega arith)
 
-reach-is : (f : Orthogonal) (i : ℕ) → reach f (suc (suc i)) ≼ nat 2 ⊘ omega-one f (suc (suc i))
-reach-is f i = ≼-of (nonneg-cancel (ω-above f i) (nonneg-≈ (combine (ω ∷ R ∷ (nat 2 ⊘ ω) ∷ frac 1 2 ∷ [])
-    (2ₑ :* (1ₑ :- var 3 :* (var 0 :* var 1))) (var 0 :* (var 2 :- var 1))
-    (given (neg 1ₑ) (var 2 :* var 0) 2ₑ (divided (nat 2) ω (ω-above f i))
-    ∷ given (neg (var 0 :* var 1)) (2ₑ :* var 3) 1ₑ (is-frac 1 2 (omega arith) .value)
-    ∷ []) tt)
-    (nonneg-* (nonneg-nat 2) (share f i))))
-  where
-    ω : Frac
-    ω = omega-one f (suc (suc i))
+reach-is : (f : Orthogonal) (i : ℕ) → reach f (suc (suc i)) ≈ nat 2 ⊘ omega-one f (suc (suc i))
+reach-is f i = let ω = omega-one f (suc (suc i)) in
+    combine (ω ∷ reach f (suc (suc i)) ∷ (nat 2 ⊘ ω) ∷ (1# ⊘ ω) ∷ [])
+    (var 1) (var 2)
+    (given (var 2 :- var 1) (var 3 :* var 0) 1ₑ (divided 1# ω (ω-above f i))
+    ∷ given (var 3) (var 0 :* var 1) 2ₑ (share f i)
+    ∷ given (neg (var 3)) (var 2 :* var 0) 2ₑ (divided (nat 2) ω (ω-above f i))
+    ∷ []) tt
 
-    R : Frac
-    R = reach f (suc (suc i))
-
--- a shorter interval
-within : {far z : Frac} (near : Frac) → near ≼ far → Between (opp near) z 0# → Between (opp far) z 0#
-within {far} {z} near h r = record {
-  from = ≼-of (nonneg-≈ (ring (far ∷ z ∷ near ∷ []) ((var 1 :- neg (var 2)) :+ (var 0 :- var 2)) (var 1 :- neg (var 0)) tt)
-      (nonneg-+ (of-≼ (r .from)) (of-≼ h)));
+-- the same interval
+same-interval : {far z : Frac} (near : Frac) → near ≈ far → Between (opp near) z 0# → Between (opp far) z 0#
+same-interval {far} {z} near h r = record {
+  from = ≼-of (nonneg-≈ (combine (far ∷ z ∷ near ∷ []) (var 1 :- neg (var 2)) (var 1 :- neg (var 0)) (given 1ₑ (var 2) (var 0) h ∷ []) tt) (of-≼ (r .from)));
   to = r .to;
 }
 
@@ -75,8 +64,8 @@ from-two f (suc (suc i)) h = record {
   multiplies = attempt-is f (suc (suc i));
   begins = begins-is f i;
   bounded = multiplier-bounded f i;
-  contains-reach = reach-is f i;
-  bounded-on-reach = λ z r. multiplier-bounded f i z (within _ (reach-is f i) r);
+  reach-is = reach-is f i;
+  bounded-on-reach = λ z r. multiplier-bounded f i z (same-interval _ (reach-is f i) r);
 }
 
 pub stable : (f : Orthogonal) (s : ℕ) → T (permitted (made-of f) s) → Stable f s

@@ -1,8 +1,9 @@
--- What is claimed of the multiplier. Document 01, "Demand 3's attempt with fractions", and demand 3. ⊗ ⊘ are operations on fractions: they are exact.
+-- What is claimed of the multiplier. Document 01, "Demand 3's attempt with fractions", demand 3, and document 02, CR 5: the reach is 2/ω1.
+-- ⊗ ⊘ are operations on fractions: they are exact.
 use mathlib.Core.List.{List, [], _∷_}
 use Prim.Native.Nat.{ℕ}
 use lib.IntN.{pos}
-use Rattle.fractions.specs.Frac.{Frac, _⊗_, opp, int, frac, _⊘_, _≈_, _≼_, Between}
+use Rattle.fractions.specs.Frac.{Frac, _⊗_, opp, int, frac, _⊘_, _≈_, Between}
 use Rattle.fractions.specs.Lists.{nth, _·_, _≋_}
 use Rattle.fractions.specs.Polynomial.{eval}
 use Rattle.family.specs.Family.{Orthogonal, Legendre1, Legendre2, Gegenbauer1, Gegenbauer2}
@@ -35,7 +36,7 @@ pub record Stable (f : Orthogonal) (s : ℕ) : Type 0 where
   pub multiplies : (c step : Frac) (y : List Frac) → attempt f s c step y ≋ eval (multiplier f s) (step ⊗ c) · y
   pub begins : Begins f (multiplier f s)
   pub bounded : Bounded (multiplier f s) (int (pos 2) ⊘ omega-one f s)
-  pub contains-reach : reach f s ≼ int (pos 2) ⊘ omega-one f s
+  pub reach-is : reach f s ≈ int (pos 2) ⊘ omega-one f s
   pub bounded-on-reach : Bounded (multiplier f s) (reach f s)
 
 -- Document 01's example: RKL2 with s = 3. A row is mu, nu, mu_tilde, gamma_tilde.

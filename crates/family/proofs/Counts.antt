@@ -115,8 +115,8 @@ inner-zero : (f : Orthogonal) (e : ℤ) → inner f (fin true 0 e) ≡ inner f n
 unfolding inner offset slope add mul
 inner-zero Legendre1 e = ap (λ (z : Float). fin false 1 (pos 0) ⊕ z) (minus-zero 1 (pos 2) e)
 inner-zero Legendre2 e = ap (λ (z : Float). fin false 9 (pos 0) ⊕ z) (minus-zero 1 (pos 3) e)
-inner-zero Gegenbauer1 e = ap (λ (z : Float). fin false 9 (pos 0) ⊕ z) (minus-zero 1 (pos 4) e)
-inner-zero Gegenbauer2 e = ap (λ (z : Float). fin false 25 (pos 0) ⊕ z) (minus-zero 3 (pos 3) e)
+inner-zero Gegenbauer1 e = ap (λ (z : Float). fin false 9 (pos 0) ⊕ z) (minus-zero 1 (pos 3) e)
+inner-zero Gegenbauer2 e = ap (λ (z : Float). fin false 25 (pos 0) ⊕ z) (minus-zero 3 (pos 2) e)
 
 rule-zero : (f : Orthogonal) (e : ℤ) → before-limits (made-of f) (fin true 0 e) ≡ before-limits (made-of f) nought
 rule-zero f e = rule-is f (fin true 0 e) ∙ ap (λ (x : Float). after f (sqrt x)) (inner-zero f e) ∙ sym (rule-is f nought)

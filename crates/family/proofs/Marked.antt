@@ -1,4 +1,4 @@
--- The rule gives the counts of document 01's twelve marked cases, by computation.
+-- The rule gives the counts of the twelve marked cases, by computation.
 use lib.Dec.{T}
 use lib.Ieee.{lt, add, sub, mul, toUnsigned}
 use Rattle.ieee.specs.Double.{nearest}

@@ -9,7 +9,7 @@ use lib.IntN.{ℤ, pos}
 use lib.Dec.{T}
 use lib.Ieee.{Float, fin, binary64, add, mul, le, toUnsigned}
 use lib.Ieee.Scale.{finite}
-use Rattle.ieee.specs.Double.{_⊕_, _⊖_, _⊗_, _⊘_, nearest, nought, one, two, three, four, eight, nine, sixteen, twenty-four, twenty-five}
+use Rattle.ieee.specs.Double.{_⊕_, _⊖_, _⊗_, _⊘_, nearest, nought, one, two, three, four, eight, nine, twelve, twenty-five}
 use Rattle.ieee.specs.Sqrt.{sqrt, squared-units}
 use Rattle.ieee.specs.Whole.{ceil}
 use Rattle.ieee.proofs.Monotone.{NonNeg, number, least, Some, some-from, times-mono, times-nonneg, plus-mono, plus-nonneg, minus-mono, minus-nonneg}
@@ -30,8 +30,8 @@ offset Gegenbauer2 = twenty-five
 unfoldable pub slope : Orthogonal → Float
 slope Legendre1 = four
 slope Legendre2 = eight
-slope Gegenbauer1 = sixteen
-slope Gegenbauer2 = twenty-four
+slope Gegenbauer1 = eight
+slope Gegenbauer2 = twelve
 
 unfoldable pub shift : Orthogonal → ℕ
 shift Legendre1 = 1
@@ -79,15 +79,15 @@ pub inner-nonneg : (f : Orthogonal) (r : Float) → NonNeg r → NonNeg (inner f
 unfolding inner offset slope
 inner-nonneg Legendre1 = line-nonneg 1 (pos 0) 0 (pos 2)
 inner-nonneg Legendre2 = line-nonneg 9 (pos 0) 0 (pos 3)
-inner-nonneg Gegenbauer1 = line-nonneg 9 (pos 0) 0 (pos 4)
-inner-nonneg Gegenbauer2 = line-nonneg 25 (pos 0) 2 (pos 3)
+inner-nonneg Gegenbauer1 = line-nonneg 9 (pos 0) 0 (pos 3)
+inner-nonneg Gegenbauer2 = line-nonneg 25 (pos 0) 2 (pos 2)
 
 inner-mono : (f : Orthogonal) (r r' : Float) → NonNeg r → NonNeg r' → T (le r r') → T (le (inner f r) (inner f r'))
 unfolding inner offset slope
 inner-mono Legendre1 = line-mono 1 (pos 0) 0 (pos 2)
 inner-mono Legendre2 = line-mono 9 (pos 0) 0 (pos 3)
-inner-mono Gegenbauer1 = line-mono 9 (pos 0) 0 (pos 4)
-inner-mono Gegenbauer2 = line-mono 25 (pos 0) 2 (pos 3)
+inner-mono Gegenbauer1 = line-mono 9 (pos 0) 0 (pos 3)
+inner-mono Gegenbauer2 = line-mono 25 (pos 0) 2 (pos 2)
 
 one-first : (f : Orthogonal) → T (le one (inner f nought))
 unfolding inner offset slope le add mul

@@ -1,5 +1,6 @@
--- The stage counts with the division in RKL's and RKG's rule, as document 01 and the Rust have it: (√(offset + slope · r) − shift) / 2 where `by-rule`
--- multiplies by 0.5. Nothing is counted by it; it is here to be compared with. Document 02, CR 3. ⊕ ⊖ ⊗ ⊘ are operations on doubles: they round.
+-- The stage counts with a division in RKL's and RKG's rule, the form of document 01 and the Rust: (√(offset + slope · r) − shift) / 2 where `by-rule`
+-- multiplies by 0.5. RKG's slopes are those of CR 5 here too. Nothing is counted by it; it is here to be compared with. Document 02, CR 3.
+-- ⊕ ⊖ ⊗ ⊘ are operations on doubles: they round.
 use Prim.Native.Nat.{ℕ}
 use lib.Ieee.{Float, toUnsigned}
 use Rattle.ieee.specs.Double.{_⊕_, _⊖_, _⊗_, _⊘_, nought, two}

@@ -1,10 +1,10 @@
--- The families, and how many stages each runs: family.rs. Document 01, "family.rs: stage counts", and document 02, CR 1 and CR 3.
+-- The families, and how many stages each runs: family.rs. Document 01, "family.rs: stage counts", and document 02, CR 1, CR 3 and CR 5.
 -- ⊕ ⊖ ⊗ are operations on doubles: they round.
 use Prim.Native.Nat.{ℕ, _+_, _%_, min, max}
 use mathlib.Core.Bool.{Bool, true, false, cond, not, _&&_, _||_}
 use lib.Dec.{leb, eqb}
 use lib.Ieee.{Float, toUnsigned}
-use Rattle.ieee.specs.Double.{_⊕_, _⊖_, _⊗_, nearest, nought, half, one, three, four, eight, nine, ten, sixteen, twenty-four, twenty-five}
+use Rattle.ieee.specs.Double.{_⊕_, _⊖_, _⊗_, nearest, nought, half, one, three, four, eight, nine, ten, twelve, twenty-five}
 use Rattle.ieee.specs.Sqrt.{sqrt}
 use Rattle.ieee.specs.Whole.{floor, ceil}
 use Rattle.ieee.specs.Whole as Whole
@@ -82,8 +82,9 @@ facts-of RKC = record {
 }
 facts-of RKL1 = orthogonal 3 199 true (RoundedUp one four one)
 facts-of RKL2 = orthogonal 3 199 true (RoundedUp nine eight one)
-facts-of RKG1 = orthogonal 2 200 false (RoundedUp nine sixteen three)
-facts-of RKG2 = orthogonal 3 200 false (RoundedUp twenty-five twenty-four three)
+-- (RKG's slopes are half of the Rust's: CR 5)
+facts-of RKG1 = orthogonal 2 200 false (RoundedUp nine eight three)
+facts-of RKG2 = orthogonal 3 200 false (RoundedUp twenty-five twelve three)
 facts-of RKMC2 = record {
   smallest = 3;
   largest = most-stages;
@@ -117,7 +118,7 @@ keeps-older f = facts-of f .«keeps_older»
 -- ---- the stage rule
 
 -- the whole number before limits, of the scaled radius r; by thresholds the smallest count from 3 to 999 whose threshold is at least r, else 1000.
--- Where document 01 divides by 2, RKL and RKG multiply by 0.5 (CR 3), which gives the same number: `Divided`
+-- RKL and RKG multiply by 0.5 (CR 3) where document 01 divides by 2, which gives the same number: `Divided`
 unfoldable pub by-rule : StageRule → Float → ℕ
 by-rule (RoundedDown slope) r = toUnsigned 64 (floor (sqrt (slope ⊗ r ⊕ one))) + 1
 by-rule (RoundedUp offset slope shift) r = toUnsigned 64 (ceil ((sqrt (offset ⊕ slope ⊗ r) ⊖ shift) ⊗ half))

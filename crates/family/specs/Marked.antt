@@ -1,4 +1,4 @@
--- The marked cases of the stage counts, r to s, with r as a fraction. Document 01, "family.rs: stage counts".
+-- The marked cases of the stage counts, r to s, with r as a fraction. Document 01, "family.rs: stage counts"; RKG's by document 02, CR 5.
 use mathlib.Core.List.{List, [], _∷_}
 use Prim.Native.Nat.{ℕ}
 use mathlib.Core.Bool.{Bool, true, _&&_}
@@ -20,8 +20,8 @@ marked =
     case RKC 0 1 2 ∷ case RKC 50 1 9 ∷ case RKC 1000000 1 200
     ∷ case RKL1 12 1 3 ∷ case RKL1 25 2 5 ∷ case RKL1 39800 1 199
     ∷ case RKL2 5 1 3 ∷ case RKL2 11 2 5
-    ∷ case RKG1 5 2 2 ∷ case RKG1 3 1 3
-    ∷ case RKG2 2 1 3 ∷ case RKG2 6 1 5 ∷ []
+    ∷ case RKG1 5 1 2 ∷ case RKG1 7 1 3
+    ∷ case RKG2 2 1 3 ∷ case RKG2 12 1 5 ∷ []
 
 unfoldable pub right : Case → Bool
 right c = eqb (stage-count (c .family) (nearest (c .numerator) (c .denominator))) (c .count)

@@ -1,4 +1,5 @@
--- How far s stages reach, and what is claimed of the stage counts of RKL1, RKL2, RKG1 and RKG2. Document 01, "family.rs: stage counts", and demand 3.
+-- How far s stages reach, and what is claimed of the stage counts of RKL1, RKL2, RKG1 and RKG2. Document 01, "family.rs: stage counts", demand 3, and
+-- document 02, CR 5: RKG's reach.
 use mathlib.Core.Path.{_≡_}
 use mathlib.Core.Logic.{_⊎_}
 use Prim.Native.Nat.{ℕ, _+_, _-_, _*_, _^_, _≤_, _<_}
@@ -12,8 +13,8 @@ use Rattle.family.specs.Family.{Orthogonal, Legendre1, Legendre2, Gegenb
 unfoldable pub reach : Orthogonal → ℕ → Frac
 reach Legendre1 s = frac (s * (s + 1)) 1
 reach Legendre2 s = frac ((s - 1) * (s + 2)) 2
-reach Gegenbauer1 s = frac (s * (s + 3)) 4
-reach Gegenbauer2 s = frac ((s - 1) * (s + 4)) 6
+reach Gegenbauer1 s = frac (s * (s + 3)) 2
+reach Gegenbauer2 s = frac ((s - 1) * (s + 4)) 3
 
 -- its parts, in whole numbers
 unfoldable pub reach-num : Orthogonal → ℕ → ℕ

@@ -55,14 +55,11 @@ nine = fin false 9 (pos 0)
 abbrev pub ten : Float
 ten = fin false 5 (pos 1)
 
+abbrev pub twelve : Float
+twelve = fin false 3 (pos 2)
+
 abbrev pub thirteen : Float
 thirteen = fin false 13 (pos 0)
-
-abbrev pub sixteen : Float
-sixteen = fin false 1 (pos 4)
-
-abbrev pub twenty-four : Float
-twenty-four = fin false 3 (pos 3)
 
 abbrev pub twenty-five : Float
 twenty-five = fin false 25 (pos 0)
