@@ -1,53 +1,91 @@
-//! Finds the five Rust files in a checkout and writes the module lines that name them.
+//! Makes the test build of the Rust from the five files of a checkout, and writes the module lines that name its files.
 //!
-//! STABILIZED_RUST is the `src` folder of the checkout. The files are compiled where they stand. Beside them a copy with
-//! added lines, which record the values of locals, is written to the build folder.
+//! STABILIZED_RUST is the `src` folder of the checkout. In the test build family.rs has the stage formulas of RKG by document
+//! 02, CR 5; the other four are compiled where they stand. Beside it come the checkout's own family.rs, to count the stages by,
+//! and a copy of the test build with added lines, which record the values of locals. What is changed is written to the build
+//! folder.
+use std::collections::BTreeMap;
 use std::path::{Path, PathBuf};
 use std::{env, fs};
 
+#[path = "src/formulas.rs"]
+mod formulas;
+
 const FILES: [&str; 5] = ["family", "orthogonal", "chebyshev", "workspace", "driver"];
+
+/// The files of a build, by the names of their modules.
+type Files = BTreeMap<&'static str, PathBuf>;
 
 fn main() {
     println!("cargo:rerun-if-env-changed=STABILIZED_RUST");
     println!("cargo:rerun-if-changed=build.rs");
+    println!("cargo:rerun-if-changed=src/formulas.rs");
+    let out = PathBuf::from(env::var("OUT_DIR").unwrap());
+    let checkout = checkout();
+    let mut test_build = checkout.clone();
+    change(&mut test_build, "family", &out.join("test_build"), |text| {
+        formulas::put_in(text).unwrap_or_else(|error| panic!("no test build of family.rs: {error}"))
+    });
+    let mut recorded = test_build.clone();
+    for name in FILES {
+        change(&mut recorded, name, &out.join("recorded"), |text| {
+            recording(name, text)
+        });
+    }
+    let rules = Files::from([("family", checkout["family"].clone())]);
+    for (name, files) in [
+        ("checkout.rs", rules),
+        ("test_build.rs", test_build),
+        ("recorded.rs", recorded),
+    ] {
+        fs::write(out.join(name), module_lines(&files)).unwrap();
+    }
+}
+
+/// The five files where they stand.
+fn checkout() -> Files {
     let source = env::var("STABILIZED_RUST")
         .expect("STABILIZED_RUST names the src folder of a checkout of the Rust");
     let folder = Path::new(&source)
         .join("solvers/stabilized/general")
         .canonicalize()
         .unwrap_or_else(|error| panic!("{source}/solvers/stabilized/general: {error}"));
-    let out = PathBuf::from(env::var("OUT_DIR").unwrap());
-    let recorded = out.join("recorded");
-    fs::create_dir_all(&recorded).unwrap();
-    for name in FILES {
-        let file = folder.join(name).with_extension("rs");
+    let files = Files::from(FILES.map(|name| (name, folder.join(name).with_extension("rs"))));
+    for file in files.values() {
         println!("cargo:rerun-if-changed={}", file.display());
-        let text = fs::read_to_string(&file).unwrap();
-        let text = match name {
-            "orthogonal" => {
-                let heading = "fn run_orthogonal_polynomial";
-                with_recorded_locals(&text, heading, "None", "gamma_tilde")
-            }
-            "chebyshev" => {
-                let rkc = with_recorded_locals(&text, "fn run_rkc", "Some(omega_zero)", "nu_tilde");
-                with_recorded_locals(&rkc, "fn run_rkmc2", "Some(omega_zero)", "b_previous")
-            }
-            _ => text,
-        };
-        fs::write(recorded.join(name).with_extension("rs"), text).unwrap();
     }
-    fs::write(out.join("unchanged.rs"), module_lines(&folder)).unwrap();
-    fs::write(out.join("recorded.rs"), module_lines(&recorded)).unwrap();
+    files
 }
 
-fn module_lines(folder: &Path) -> String {
-    FILES
+/// Writes a file with its text changed to a folder, and takes it in place of the one that was there.
+fn change(files: &mut Files, name: &'static str, folder: &Path, text: impl Fn(&str) -> String) {
+    let before = fs::read_to_string(&files[name]).unwrap();
+    let file = folder.join(name).with_extension("rs");
+    fs::create_dir_all(folder).unwrap();
+    fs::write(&file, text(&before)).unwrap();
+    files.insert(name, file);
+}
+
+fn module_lines(files: &Files) -> String {
+    files
         .iter()
-        .map(|name| {
-            let file = folder.join(name).with_extension("rs");
-            format!("#[path = {file:?}]\nmod {name};\n")
-        })
+        .map(|(name, file)| format!("#[path = {file:?}]\nmod {name};\n"))
         .collect()
+}
+
+/// A file of the copy that records: the coefficients of the rows are locals of these two.
+fn recording(name: &str, text: &str) -> String {
+    match name {
+        "orthogonal" => {
+            let heading = "fn run_orthogonal_polynomial";
+            with_recorded_locals(text, heading, "None", "gamma_tilde")
+        }
+        "chebyshev" => {
+            let rkc = with_recorded_locals(text, "fn run_rkc", "Some(omega_zero)", "nu_tilde");
+            with_recorded_locals(&rkc, "fn run_rkmc2", "Some(omega_zero)", "b_previous")
+        }
+        _ => text.to_string(),
+    }
 }
 
 /// The text with two lines added in the function that begins with `heading`: one before its loop over the stages, which

@@ -1,5 +1,5 @@
-//! differential quick | long [seed]: compares the tables, runs the scenarios and the random calls, and prints what was
-//! reached.
+//! differential quick | long [seed]: compares the tables and the stage counts, runs the scenarios and the random calls, and
+//! prints what was reached.
 //! differential scenario SEED LARGEST, differential call SEED: a random one again, as a difference names it; LARGEST is the
 //! largest n that the scenario was drawn with. Of a scenario every finished attempt is told.
 use differential::build::{self, Departure};
@@ -12,6 +12,7 @@ use differential::scenarios::{
     self, BY_THE_DEFINITION, Counted, Coverage, DIMENSIONS, EARLY, ENDINGS, NORM_HOT, OVERFLOWED,
     WITH_THE_RUST,
 };
+use differential::stage_counts;
 use oracle::thresholds::{self, Disagreement, UNITS};
 use std::ops::RangeInclusive;
 use std::process::ExitCode;
@@ -89,20 +90,22 @@ fn scenario(seed: u64, largest: usize) -> Result<(), String> {
 
 fn all(size: &Size, seed: u64) -> Result<(), String> {
     let departures = tables()?;
+    stage_counts::compare()?;
     run_scenarios(size, seed, &departures)?;
     run_calls(size, seed)?;
     println!("0 differences");
     Ok(())
 }
 
-/// The build, its tables against the engine's, and RKMC2's counts near its thresholds. With the compiler and the C library of
-/// the named build nothing departs, or what is known to depart without fused variants: anything else is a fault. With others
-/// what departs is left out.
+/// The build, and which one it is of the Rust; its tables against the engine's, and RKMC2's counts near its thresholds. With
+/// the compiler and the C library of the named build nothing departs, or what is known to depart without fused variants:
+/// anything else is a fault. With others what departs is left out.
 fn tables() -> Result<Vec<Departure>, String> {
     let lines = build::lines();
     for line in &lines {
         println!("{line}");
     }
+    println!("{}", oracle::build());
     let departures = build::departures();
     for found in &departures {
         println!("In the Rust {found}");

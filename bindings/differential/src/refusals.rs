@@ -1,7 +1,7 @@
 //! Document 01, "When a call is turned away", stated anew, with what each call leaves; families 1 to 6 by document 02, CR 1,
 //! by CR 2 what a finished answer carries and the record keeps, and by CR 4 the norms, which [`crate::stated`] has. It is
-//! stated from the documents alone, but for the stage count, which is the Rust's, and RKMC2's, which is by the stored
-//! thresholds.
+//! stated from the documents alone, but for the stage count of RKC and RKL, which is the Rust's, and RKMC2's, which is by the
+//! stored thresholds.
 //!
 //! [`number`] gives the number of the first test from 1 to 9 that a call fails. [`check`] compares what an engine answered
 //! and left with what the document settles, number 10 included: whether a candidate is finite is seen in the area.

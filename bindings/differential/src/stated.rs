@@ -1,7 +1,8 @@
 //! The definition of an attempt and of the calls around it, stated anew from documents 01 and 02 in plain doubles. Of the Rust
-//! it takes the coefficients of the rows, the order of the operations in a row and in RKMC2's candidate, and the stage counts,
-//! which are no matter of norms; RKMC2's counts are by the stored thresholds. Where a norm of the Rust is infinite (CR 4), or
-//! its count overflows, this alone says what is right; where not, it is held against the Rust too.
+//! it takes the coefficients of the rows, the order of the operations in a row and in RKMC2's candidate, and the stage counts
+//! of RKC and RKL, which are no matter of norms. RKG's counts are by the formulas of document 02, CR 5, which the checkout does
+//! not have; RKMC2's are by the stored thresholds. Where a norm of the Rust is infinite (CR 4), or its count overflows, this
+//! alone says what is right; where not, it is held against the Rust too.
 use crate::build::stored_thresholds;
 use oracle::thresholds::count_by;
 use oracle::{Arguments, Figures, RKC, RKMC2, RightHandSide, Row, Rows, SolveError};
@@ -64,12 +65,26 @@ pub fn scaled(step: f64, radius: f64) -> f64 {
 /// RKMC2's, as they are stored: read once.
 static THRESHOLDS: LazyLock<Vec<f64>> = LazyLock::new(stored_thresholds);
 
-/// The count for r: RKMC2's by the thresholds, 200 where the Rust's overflows in RKC, and else the Rust's.
+/// RKG's count. "For RKG1 the number before limits becomes ceil((sqrt(9 + 8r) − 3) × 0.5)", "for RKG2, ceil((sqrt(25 + 12r) −
+/// 3) × 0.5)"; the limits are 2 and 200, 3 and 200; "NaN and negatives count as 0".
+fn rkg_stages(family: u64, scaled_radius: f64) -> usize {
+    let r = scaled_radius.max(0.0);
+    let (root, least) = match family {
+        4 => ((9.0 + 8.0 * r).sqrt(), 2),
+        _ => ((25.0 + 12.0 * r).sqrt(), 3),
+    };
+    let number = ((root - 3.0) * 0.5).ceil();
+    (number as usize).clamp(least, 200)
+}
+
+/// The count for r: RKG's by its formulas, RKMC2's by the thresholds, 200 where the Rust's overflows in RKC, and else the
+/// Rust's.
 pub fn stages_for(family: u64, scaled_radius: f64) -> u64 {
     if oracle::overflows(family, scaled_radius) {
         return 200;
     }
     let stages = match family {
+        4 | 5 => rkg_stages(family, scaled_radius),
         RKMC2 => count_by(&THRESHOLDS, scaled_radius),
         _ => oracle::stages(family, scaled_radius),
     };

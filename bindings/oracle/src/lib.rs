@@ -1,22 +1,31 @@
-//! The Rust that the engine is held against: family.rs, orthogonal.rs, chebyshev.rs, workspace.rs and driver.rs of a
-//! checkout, compiled unchanged, behind stand-ins for what they lean on.
+//! The Rust that the engine is held against: a test build of family.rs, orthogonal.rs, chebyshev.rs, workspace.rs and
+//! driver.rs of a checkout, behind stand-ins for what they lean on. In family.rs the two stage formulas of RKG are replaced by
+//! those of document 02, CR 5 ([`formulas`]); nothing else is changed.
 //!
 //! [`Oracle`] runs `initialize`, `attempt_step` and `accept_step` and shows all eleven vectors, and s, k and r of an attempt.
-//! [`rows`] reads the coefficients of a stage, which are locals of the Rust, from a copy with added lines. [`thresholds`]
-//! holds RKMC2's stage rule as the engine has it.
+//! [`stages`] are the test build's stage counts, [`checkout::stages`] those of the checkout as it stands. [`rows`] reads the
+//! coefficients of a stage, which are locals of the Rust, from a copy with added lines. [`thresholds`] holds RKMC2's stage rule
+//! as the engine has it.
+pub mod checkout;
+pub mod formulas;
+pub mod radii;
 mod shim;
+mod test_build;
 pub mod thresholds;
-mod unchanged;
 
 mod recorded;
 
+use formulas::{FORMULAS, Formula};
 pub use recorded::{Row, Rows, rows};
 pub use shim::SolveError;
 pub(crate) use shim::{OdeFunction, OdeProblem, SolveOptions, SolverStats, integrator};
-pub use unchanged::{Arguments, Figures, Iteration, Oracle, RightHandSide, stages};
+pub use test_build::{Arguments, Figures, Iteration, Oracle, RightHandSide, stages};
 
 /// The number of RKC.
 pub const RKC: u64 = 1;
+
+/// The numbers of RKG1 and RKG2.
+pub const RKG: [u64; 2] = [4, 5];
 
 /// The number of RKMC2.
 pub const RKMC2: u64 = 6;
@@ -52,4 +61,20 @@ pub fn ends(family: u64) -> (usize, usize) {
 pub fn permitted(family: u64) -> impl Iterator<Item = usize> {
     let (least, largest) = ends(family);
     (least..=largest).step_by(if [2, 3].contains(&family) { 2 } else { 1 })
+}
+
+/// Which build of the Rust this is, in a line.
+pub fn build() -> String {
+    let put_in = FORMULAS.map(|of| {
+        let Formula {
+            family,
+            expression,
+            formula,
+        } = of;
+        format!("{family} {formula} in place of {expression}")
+    });
+    format!(
+        "The Rust is a test build: the checkout's five files, with the two stage formulas of RKG put in by document 02, CR 5: {}",
+        put_in.join("; ")
+    )
 }

@@ -1,4 +1,4 @@
-//! Locals of the Rust, read from a copy of the five files to which build.rs adds lines that record them.
+//! Locals of the Rust, read from a copy of the test build to which build.rs adds lines that record them.
 #![allow(dead_code)]
 
 use crate::{OdeFunction, OdeProblem, SolveError, SolverStats};

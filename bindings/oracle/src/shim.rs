@@ -118,7 +118,7 @@ pub mod integrator {
     }
 }
 
-/// The families that are carried, by their numbers: each copy of the five files has a type of its own for them.
+/// The families that are carried, by their numbers: each copy of family.rs has a type of its own for them.
 macro_rules! carried_families {
     () => {
         fn family_of(number: u64) -> StabilizedFamily {

@@ -88,7 +88,7 @@ fn hot_vectors_have_finite_figures() {
 fn a_stiff_model_stays_stiff_where_its_square_overflows() {
     let overflowing = 2.0_f64.powi(512);
     for rate in [overflowing.next_down(), overflowing] {
-        for (family, evaluations) in [(Family::Rkg1, 202), (Family::Rkmc2, 328)] {
+        for (family, evaluations) in [(Family::Rkg1, 180), (Family::Rkmc2, 328)] {
             let cooling = |derivative: &mut [f64], state: &[f64], _: f64| {
                 derivative[0] = -rate * state[0];
             };

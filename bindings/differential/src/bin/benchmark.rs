@@ -1,5 +1,5 @@
-//! Times an attempt of the engine, called from C and from Rust, against the same attempt of the Rust: same model, same
-//! inputs, same run, in turns.
+//! Times an attempt of the engine, called from C and from Rust, against the same attempt of the Rust's test build: same model,
+//! same inputs, same run, in turns, and so the same stages.
 //!
 //! The model is a rod of n cells, in C and in Rust. An attempt is made again and again from the same state, as after a
 //! rejection. Each time is the least of many rounds. The model's share is the time of its evaluations alone over the
@@ -161,12 +161,13 @@ const RADII: [(Family, &[f64]); 6] = [
     (Family::Rkc, &[0.5, 25_700.0]),
     (Family::Rkl1, &[0.5, 39_800.0]),
     (Family::Rkl2, &[0.5, 19_899.0]),
-    (Family::Rkg1, &[0.5, 10_150.0]),
-    (Family::Rkg2, &[0.5, 6_766.0]),
+    (Family::Rkg1, &[0.5, 20_300.0]),
+    (Family::Rkg2, &[0.5, 13_532.0]),
     (Family::Rkmc2, &[0.5, 6_400.0, 140_000.0]),
 ];
 
 fn main() {
+    println!("{}\n", oracle::build());
     println!(
         "| family | n | s | k | from C, µs | from Rust, µs | the Rust, µs | C/Rust | Rust/Rust | model/Rust |"
     );

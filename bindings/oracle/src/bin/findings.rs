@@ -1,6 +1,7 @@
-//! Runs the Rust on the smallest inputs at which it departs from the engine, or from what its user would expect.
+//! Runs the Rust on the smallest inputs at which it departs from the engine, or from what its user would expect. Attempts are
+//! of the test build, which has the engine's stage formulas of RKG; those of the checkout are counted by themselves.
 use oracle::thresholds::least;
-use oracle::{Arguments, Oracle, SolveError};
+use oracle::{Arguments, Oracle, SolveError, checkout};
 use std::cell::RefCell;
 use std::panic::catch_unwind;
 
@@ -46,6 +47,25 @@ fn rkc_overflow() {
         match catch_unwind(|| oracle::stages(1, r)) {
             Ok(stages) => println!("  at {r:e}: s = {stages}"),
             Err(_) => println!("  at {r:e}: a panic (this build checks for overflow)"),
+        }
+    }
+}
+
+/// RKG's stage counts, which the checkout takes from formulas of its own: the smallest r at which it has another count than the
+/// test build, and what both have at some r.
+fn rkg_counts() {
+    for family in oracle::RKG {
+        let name = oracle::name(family);
+        let both = |r| (checkout::stages(family, r), oracle::stages(family, r));
+        let r = checkout::first_difference(family);
+        let (old, new) = both(r);
+        println!(
+            "{name}: the smallest r at which the builds differ is {r:?} (bits {:016X}): s = {old} in the checkout, {new} in the test build",
+            r.to_bits()
+        );
+        for r in [10.0, 100.0, 1000.0, 10_000.0] {
+            let (old, new) = both(r);
+            println!("  r = {r}: s = {old} in the checkout, {new} in the test build");
         }
     }
 }
@@ -181,6 +201,8 @@ fn rkmc2_case(step: f64, state: [f64; 2], rates: [f64; 2]) {
 
 fn main() {
     std::panic::set_hook(Box::new(|_| {}));
+    println!("{}", oracle::build());
+    rkg_counts();
     rkc_overflow();
     stiff_looks_easy();
     hot_state();

@@ -1,4 +1,4 @@
-//! The five files as they stand, and a kernel to run.
+//! The test build: the five files, family.rs with the stage formulas of RKG put in, and a kernel to run.
 #![allow(dead_code)]
 
 use crate::integrator::StepKernel;
@@ -7,7 +7,7 @@ use family::StabilizedFamily;
 use std::fmt::{Display, Formatter};
 use workspace::StabilizedKernel;
 
-include!(concat!(env!("OUT_DIR"), "/unchanged.rs"));
+include!(concat!(env!("OUT_DIR"), "/test_build.rs"));
 
 crate::shim::carried_families!();
 crate::shim::other_families!(run_rock2, run_rock4, run_serk2, run_eserk);
@@ -303,7 +303,7 @@ impl Clone for Oracle {
     }
 }
 
-/// The stage count that the Rust gives for a scaled radius.
+/// The stage count that the test build gives for a scaled radius.
 pub fn stages(family: u64, scaled_radius: f64) -> usize {
     family_of(family)
         .stages(scaled_radius)
