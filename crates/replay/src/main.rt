@@ -1,6 +1,7 @@
 // Sessions with the engine, made again call by call from traces of the Rust: every answer, count, point and vector is to be the
 // Rust's, bit for bit; in every finished answer s, k and r are the Rust's; after every call the record's three are those of the
-// trace. data/traces was written by bindings/differential/src/bin/sample.rs.
+// trace. data/traces was written by bindings/differential/src/bin/sample.rs; docs/VECTORS.md tells of which build of the Rust,
+// and where the definition stands in for it.
 ghost use Prim.Native.Nat.{_≤_};
 use calls::Made;
 use comparison::Comparison;
