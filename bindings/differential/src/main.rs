@@ -60,6 +60,7 @@ fn main() -> ExitCode {
     let words: Vec<String> = std::env::args().skip(1).collect();
     let words: Vec<&str> = words.iter().map(String::as_str).collect();
     let number = |word: &str| -> u64 { word.parse().expect("a number") };
+    println!("{}", oracle::build());
     let result = match words[..] {
         ["quick"] => all(&QUICK, 1),
         ["quick", seed] => all(&QUICK, number(seed)),
@@ -90,22 +91,21 @@ fn scenario(seed: u64, largest: usize) -> Result<(), String> {
 
 fn all(size: &Size, seed: u64) -> Result<(), String> {
     let departures = tables()?;
-    stage_counts::compare()?;
+    stage_counts::compare(&departures)?;
     run_scenarios(size, seed, &departures)?;
     run_calls(size, seed)?;
     println!("0 differences");
     Ok(())
 }
 
-/// The build, and which one it is of the Rust; its tables against the engine's, and RKMC2's counts near its thresholds. With
-/// the compiler and the C library of the named build nothing departs, or what is known to depart without fused variants:
-/// anything else is a fault. With others what departs is left out.
+/// The build, its tables against the engine's, and RKMC2's counts near its thresholds. With the compiler and the C library of
+/// the named build nothing departs, or what is known to depart without fused variants: anything else is a fault. With others
+/// what departs is left out.
 fn tables() -> Result<Vec<Departure>, String> {
     let lines = build::lines();
     for line in &lines {
         println!("{line}");
     }
-    println!("{}", oracle::build());
     let departures = build::departures();
     for found in &departures {
         println!("In the Rust {found}");

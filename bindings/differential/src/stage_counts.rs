@@ -1,11 +1,13 @@
 //! The stage counts of the test build, before anything is run on them. In RKC, RKL and RKMC2 they are those of the checkout. In
-//! RKG they are those that [`crate::stated`] has from document 02, CR 5, and never more than the checkout's; told and compared
-//! with what is named here are the smallest r at which the two builds differ, and the stages that are saved.
-use crate::build::stored_thresholds;
+//! RKG they are those that [`crate::stated`] has from document 02, CR 5, change at the reaches that it has, and are never more
+//! than the checkout's; told and compared with what is named here are the smallest r at which the two builds differ, and the
+//! stages that are saved. The stored counts are the test build's.
+use crate::build::{Departure, stored_thresholds};
 use crate::stated::stages_for;
-use oracle::checkout::{self, LEAST_UP_TO, first_difference};
+use oracle::checkout::{self, LEAST_UP_TO, SHOWN, first_difference};
 use oracle::radii::{around, radii, reach};
-use oracle::{FAMILIES, RKG, name, overflows, permitted, stages};
+use oracle::{FAMILIES, RKG, RKMC2, name, overflows, permitted, stages, stored_counts};
+use std::path::Path;
 
 /// What is known of RKG1 and of RKG2.
 struct Known {
@@ -16,9 +18,6 @@ struct Known {
     /// The counts at each of [`SHOWN`], of the checkout and of the test build.
     shown: [[usize; 2]; 4],
 }
-
-/// The radii that the builds' counts are told at.
-const SHOWN: [f64; 4] = [10.0, 100.0, 1000.0, 10_000.0];
 
 const KNOWN: [Known; 2] = [
     Known {
@@ -36,7 +35,7 @@ const KNOWN: [Known; 2] = [
 ];
 
 /// Makes every comparison, and tells what was compared.
-pub fn compare() -> Result<(), String> {
+pub fn compare(departures: &[Departure]) -> Result<(), String> {
     let radii = all_radii();
     for family in FAMILIES.into_iter().filter(|family| !RKG.contains(family)) {
         as_in_the_checkout(family, &radii)?;
@@ -46,10 +45,27 @@ pub fn compare() -> Result<(), String> {
         at_reaches(family)?;
     }
     println!(
-        "stage counts of the test build on {} radii: in RKC, RKL1, RKL2 and RKMC2 as in the checkout, in RKG1 and RKG2 as stated, and never more than in the checkout",
+        "stage counts of the test build on {} radii: in RKC, but where its count overflows, RKL1, RKL2 and RKMC2 as in the checkout, in RKG1 and RKG2 as stated, and never more than in the checkout",
         radii.len()
     );
-    KNOWN.iter().try_for_each(Known::compare)
+    KNOWN.iter().try_for_each(Known::compare)?;
+    as_stored(departures)
+}
+
+/// That the stored counts are those of the test build. Their radii are drawn by RKMC2's thresholds.
+fn as_stored(departures: &[Departure]) -> Result<(), String> {
+    if departures.iter().any(|found| found.family == RKMC2) {
+        println!("the stored counts are not compared: they hold RKMC2's by another build");
+        return Ok(());
+    }
+    let file = Path::new(env!("CARGO_MANIFEST_DIR")).join("../../crates/counts/data/counts");
+    let stored = std::fs::read(&file).map_err(|error| format!("{}: {error}", file.display()))?;
+    let (bytes, [written, _]) = stored_counts::bytes(&stored_thresholds());
+    if stored != bytes {
+        return Err("the stored counts are not those of the test build".to_string());
+    }
+    println!("the stored counts, of {written} radii, are those of the test build");
+    Ok(())
 }
 
 /// Those of the oracle, and those near which the checkout's counts of RKG change: its reach is half of the test build's.
@@ -68,7 +84,7 @@ fn both(family: u64, radius: f64) -> [usize; 2] {
 }
 
 /// That something holds at a radius.
-fn holds(family: u64, radius: f64, holds: bool, what: &str) -> Result<(), String> {
+fn holds(family: u64, radius: f64, so: bool, what: &str) -> Result<(), String> {
     let at = || {
         let (name, bits) = (name(family), radius.to_bits());
         let counts = both(family, radius);
@@ -76,7 +92,7 @@ fn holds(family: u64, radius: f64, holds: bool, what: &str) -> Result<(), String
             "{name} at r = {radius:e} (bits {bits:016X}): {what}; checkout, test build: {counts:?}"
         )
     };
-    holds.then_some(()).ok_or_else(at)
+    so.then_some(()).ok_or_else(at)
 }
 
 fn as_in_the_checkout(family: u64, radii: &[f64]) -> Result<(), String> {
@@ -156,6 +172,6 @@ impl Known {
         if counts == self.shown {
             return Ok(());
         }
-        Err(format!("known are {:?}", self.shown))
+        Err(format!("{}: known are {:?}", name(self.family), self.shown))
     }
 }

@@ -71,7 +71,8 @@ fn rkg_stages(family: u64, scaled_radius: f64) -> usize {
     let r = scaled_radius.max(0.0);
     let (root, least) = match family {
         4 => ((9.0 + 8.0 * r).sqrt(), 2),
-        _ => ((25.0 + 12.0 * r).sqrt(), 3),
+        5 => ((25.0 + 12.0 * r).sqrt(), 3),
+        _ => panic!("family {family} is not RKG"),
     };
     let number = ((root - 3.0) * 0.5).ceil();
     (number as usize).clamp(least, 200)

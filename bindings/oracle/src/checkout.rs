@@ -8,12 +8,8 @@ include!(concat!(env!("OUT_DIR"), "/checkout.rs"));
 
 crate::shim::carried_families!();
 
-/// The stage count that the checkout gives for a scaled radius.
-pub fn stages(family: u64, scaled_radius: f64) -> usize {
-    family_of(family)
-        .stages(scaled_radius)
-        .expect("a family with a stage rule")
-}
+/// The radii that the counts of both builds are told at.
+pub const SHOWN: [f64; 4] = [10.0, 100.0, 1000.0, 10_000.0];
 
 /// From 0 up to here RKG has its least count in the test build, so that the two differ once the checkout's has risen.
 pub const LEAST_UP_TO: f64 = 4.0;

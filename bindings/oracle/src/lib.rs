@@ -10,6 +10,7 @@ pub mod checkout;
 pub mod formulas;
 pub mod radii;
 mod shim;
+pub mod stored_counts;
 mod test_build;
 pub mod thresholds;
 
@@ -63,7 +64,7 @@ pub fn permitted(family: u64) -> impl Iterator<Item = usize> {
     (least..=largest).step_by(if [2, 3].contains(&family) { 2 } else { 1 })
 }
 
-/// Which build of the Rust this is, in a line.
+/// Which build of the Rust this is, in a line, with counts of the compiled code to show it.
 pub fn build() -> String {
     let put_in = FORMULAS.map(|of| {
         let Formula {
@@ -73,8 +74,12 @@ pub fn build() -> String {
         } = of;
         format!("{family} {formula} in place of {expression}")
     });
+    let r = 100.0;
+    let old = RKG.map(|family| checkout::stages(family, r));
+    let new = RKG.map(|family| stages(family, r));
+    assert_ne!(old, new, "the test build counts as the checkout does");
     format!(
-        "The Rust is a test build: the checkout's five files, with the two stage formulas of RKG put in by document 02, CR 5: {}",
+        "The Rust is a test build: the checkout's five files, with the two stage formulas of RKG put in by document 02, CR 5: {}. At r = {r} it has {new:?} stages, the checkout {old:?}",
         put_in.join("; ")
     )
 }

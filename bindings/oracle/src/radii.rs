@@ -63,7 +63,8 @@ fn special() -> Vec<f64> {
     all
 }
 
-/// 1,000 radii over all bit patterns, and 3,000 from 2^-10 to 2^17, where the counts change, as many from each power of two to the next.
+/// 1,000 radii over all bit patterns, and 3,000 from 2^-10 to 2^17, where the counts change, as many from each power of two to
+/// the next.
 fn random() -> impl Iterator<Item = f64> {
     let mut words = Words(1);
     (0..4000).map(move |i| {

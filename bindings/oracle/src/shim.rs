@@ -132,6 +132,13 @@ macro_rules! carried_families {
                 _ => panic!("no family {number}"),
             }
         }
+
+        /// The stage count that this build gives for a scaled radius.
+        pub fn stages(family: u64, scaled_radius: f64) -> usize {
+            family_of(family)
+                .stages(scaled_radius)
+                .expect("a family with a stage rule")
+        }
     };
 }
 pub(crate) use carried_families;

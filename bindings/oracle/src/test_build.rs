@@ -302,10 +302,3 @@ impl Clone for Oracle {
         copy
     }
 }
-
-/// The stage count that the test build gives for a scaled radius.
-pub fn stages(family: u64, scaled_radius: f64) -> usize {
-    family_of(family)
-        .stages(scaled_radius)
-        .expect("a family with a stage rule")
-}

@@ -31,13 +31,13 @@ begins-is Gegenbauer2 i = record {
 }
 
 -- ω1 times the reach
-share : (f : Orthogonal) (i : ℕ) → omega-one f (suc (suc i)) ⊗ reach f (suc (suc i)) ≈ nat 2
+product : (f : Orthogonal) (i : ℕ) → omega-one f (suc (suc i)) ⊗ reach f (suc (suc i)) ≈ nat 2
 unfolding reach
-share Legendre1 i = is-same (is-* (ω-L1 i) (is-quotient _ _ {m′ = (i + 2) * (i + 3)} (omega arith) refl (omega arith))) (is-nat 2) (omega arith)
-share Legendre2 i =
+product Legendre1 i = is-same (is-* (ω-L1 i) (is-quotient _ _ {m′ = (i + 2) * (i + 3)} (omega arith) refl (omega arith))) (is-nat 2) (omega arith)
+product Legendre2 i =
     is-same (is-* (ω-L2 i) (is-quotient _ _ {m′ = (i + 1) * (i + 4)} (ap₂ _*_ (omega arith) (omega arith)) refl (omega arith))) (is-nat 2) (omega arith)
-share Gegenbauer1 i = is-same (is-* (ω-G1 i) (is-quotient _ _ {m′ = (i + 2) * (i + 5)} (omega arith) refl (omega arith))) (is-nat 2) (omega arith)
-share Gegenbauer2 i =
+product Gegenbauer1 i = is-same (is-* (ω-G1 i) (is-quotient _ _ {m′ = (i + 2) * (i + 5)} (omega arith) refl (omega arith))) (is-nat 2) (omega arith)
+product Gegenbauer2 i =
     is-same (is-* (ω-G2 i) (is-quotient _ _ {m′ = (i + 1) * (i + 6)} (ap₂ _*_ (omega arith) (omega arith)) refl (omega arith))) (is-nat 2) (omega arith)
 
 reach-is : (f : Orthogonal) (i : ℕ) → reach f (suc (suc i)) ≈ nat 2 ⊘ omega-one f (suc (suc i))
@@ -45,14 +45,14 @@ reach-is f i = let ω = omega-one f (suc (suc i)) in
     combine (ω ∷ reach f (suc (suc i)) ∷ (nat 2 ⊘ ω) ∷ (1# ⊘ ω) ∷ [])
     (var 1) (var 2)
     (given (var 2 :- var 1) (var 3 :* var 0) 1ₑ (divided 1# ω (ω-above f i))
-    ∷ given (var 3) (var 0 :* var 1) 2ₑ (share f i)
+    ∷ given (var 3) (var 0 :* var 1) 2ₑ (product f i)
     ∷ given (neg (var 3)) (var 2 :* var 0) 2ₑ (divided (nat 2) ω (ω-above f i))
     ∷ []) tt
 
 -- the same interval
-same-interval : {far z : Frac} (near : Frac) → near ≈ far → Between (opp near) z 0# → Between (opp far) z 0#
-same-interval {far} {z} near h r = record {
-  from = ≼-of (nonneg-≈ (combine (far ∷ z ∷ near ∷ []) (var 1 :- neg (var 2)) (var 1 :- neg (var 0)) (given 1ₑ (var 2) (var 0) h ∷ []) tt) (of-≼ (r .from)));
+same-interval : {end z : Frac} (other : Frac) → other ≈ end → Between (opp other) z 0# → Between (opp end) z 0#
+same-interval {end} {z} other h r = record {
+  from = ≼-of (nonneg-≈ (combine (end ∷ z ∷ other ∷ []) (var 1 :- neg (var 2)) (var 1 :- neg (var 0)) (given 1ₑ (var 2) (var 0) h ∷ []) tt) (of-≼ (r .from)));
   to = r .to;
 }
 

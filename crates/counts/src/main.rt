@@ -96,7 +96,7 @@ fn main() {
     }
     let all = of_file(fd);
     libc::close(fd);
-    stored::print_tally(all.compared, b" counts of the Rust, ");
+    stored::print_tally(all.compared, b" counts of the test build of the Rust, ");
     stored::print_tally(
         all.overflowing,
         b" counts of 200 where the Rust's sum overflows, ",

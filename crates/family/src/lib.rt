@@ -124,6 +124,7 @@ pub fn facts_of(family: u64) -> Facts
         1 => rkc(),
         2 => orthogonal(3, 199, true, rounded_up(1.0, 4.0, 1.0)),
         3 => orthogonal(3, 199, true, rounded_up(9.0, 8.0, 1.0)),
+        // RKG's slopes, here and in the last arm, are half of the Rust's.
         4 => orthogonal(2, 200, false, rounded_up(9.0, 8.0, 3.0)),
         6 => rkmc2(),
         _ => orthogonal(3, 200, false, rounded_up(25.0, 12.0, 3.0)),

@@ -21,7 +21,7 @@ x ⊗ y = mul binary64 x y
 abbrev pub _⊘_ : Float → Float → Float
 x ⊘ y = div binary64 x y
 
--- the Rust's constants, written out: `double 2` below is the same double, at many times the cost in a test over a table
+-- the kernel's constants, written out: `double 2` below is the same double, at many times the cost in a test over a table
 abbrev pub nought : Float
 nought = fin false 0 (pos 0)
 

@@ -1,4 +1,4 @@
-//! A day driven through the Rust: what the program `day` writes of the text on standard input (a day that is not
+//! A day driven through the Rust's test build: what the program `day` writes of the text on standard input (a day that is not
 //! malformed), or with the argument `minutes` the lines that the program `days` writes of its minutes: the junction's bits
 //! and s, k and the bits of r, or 0, 0 and the bits of 0 where the minute is not finished. Before the first minute in which the
 //! Rust does not count ([`cause`]) it goes over to the definition, as standard error then tells, and stays there.

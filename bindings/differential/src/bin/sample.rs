@@ -163,6 +163,7 @@ impl Sample {
 }
 
 fn main() {
+    eprintln!("{}", oracle::build());
     let mut sample = Sample::default();
     let filled = sample.fill();
     filled.unwrap_or_else(|difference| panic!("{difference}"));

@@ -9,6 +9,7 @@ use oracle::{Row, Rows};
 const SAMPLE: usize = 9;
 
 fn main() {
+    eprintln!("{}", oracle::build());
     for family in oracle::FAMILIES {
         for stages in oracle::permitted(family) {
             println!(

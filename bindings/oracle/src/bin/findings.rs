@@ -63,7 +63,7 @@ fn rkg_counts() {
             "{name}: the smallest r at which the builds differ is {r:?} (bits {:016X}): s = {old} in the checkout, {new} in the test build",
             r.to_bits()
         );
-        for r in [10.0, 100.0, 1000.0, 10_000.0] {
+        for r in checkout::SHOWN {
             let (old, new) = both(r);
             println!("  r = {r}: s = {old} in the checkout, {new} in the test build");
         }

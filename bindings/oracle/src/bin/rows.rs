@@ -3,6 +3,7 @@
 use std::io::{BufWriter, Write};
 
 fn main() -> std::io::Result<()> {
+    eprintln!("{}", oracle::build());
     let mut out = BufWriter::new(std::io::stdout().lock());
     for family in oracle::FAMILIES {
         for stages in oracle::permitted(family) {

@@ -26,6 +26,7 @@ struct Rule {
 }
 
 fn main() {
+    eprintln!("{}", oracle::build());
     let folder = std::env::args().nth(1).expect("the folder of the crates");
     for table in tables() {
         table.write(Path::new(&folder));

@@ -8,6 +8,7 @@ use oracle::thresholds::{UNITS, compared, thresholds};
 use std::process::ExitCode;
 
 fn main() -> ExitCode {
+    eprintln!("{}", oracle::build());
     let thresholds = thresholds();
     let (count, disagreements) = compared(&thresholds);
     println!(
