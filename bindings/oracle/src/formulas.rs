@@ -1,5 +1,5 @@
 //! The stage formulas of RKG by document 02, CR 5, and how they are put into family.rs of a checkout, which makes its test
-//! build. The build script uses this file too. Of the Rust's text the two expressions alone are stored.
+//! build. The build script uses this file too. Of the Rust's text it holds the two expressions alone.
 
 /// The number before limits of a family.
 pub struct Formula {
