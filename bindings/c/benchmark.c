@@ -1,10 +1,11 @@
 /* The benchmark's caller in C: a rod of n cells, whose derivatives are brought until the engine asks for no more. */
 #include "stabilized.h"
 
-/* The model, and what is lent to the engine: an area of 11 n doubles and room for a derivative. */
+/* The model, and what is lent to the engine: the family's area and room for a derivative. */
 typedef struct {
   double rate;
   size_t n;
+  size_t area_length;
   stabilized_record record;
   uint64_t evaluations, attempts;
   double *area, *derivative;
@@ -23,17 +24,22 @@ static stabilized_answer run(rod *r, stabilized_answer answer) {
   while (answer.code == STABILIZED_EVALUATE) {
     flow(r, r->area + answer.number * r->n);
     answer = stabilized_reply(&r->record.wholes, &r->record.doubles, &r->evaluations, &r->attempts, r->area,
-                              STABILIZED_VECTORS * r->n, r->derivative, r->n);
+                              r->area_length, r->derivative, r->n);
   }
   return answer;
 }
 
 stabilized_answer rod_start(rod *r, uint64_t family, const double *state) {
-  return run(r, stabilized_start(&r->record.wholes, &r->record.doubles, r->area, STABILIZED_VECTORS * r->n, family, r->n,
-                                 state, r->n, 0.0));
+  r->area_length = stabilized_vectors(family) * r->n;
+  return run(r, stabilized_start(&r->record.wholes, &r->record.doubles, r->area, r->area_length, family, r->n, state, r->n,
+                                 0.0));
 }
 
 stabilized_answer rod_attempt(rod *r, double step, double absolute_tolerance, double relative_tolerance) {
-  return run(r, stabilized_attempt(&r->record.wholes, &r->record.doubles, r->area, STABILIZED_VECTORS * r->n, 0.0, step,
+  return run(r, stabilized_attempt(&r->record.wholes, &r->record.doubles, r->area, r->area_length, 0.0, step,
                                    absolute_tolerance, relative_tolerance, 1));
+}
+
+stabilized_answer rod_accept(rod *r) {
+  return stabilized_accept(&r->record.wholes, &r->record.doubles, r->area, r->area_length);
 }

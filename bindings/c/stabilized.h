@@ -1,4 +1,4 @@
-/* Stabilized Runge-Kutta steps (RKC, RKL1, RKL2, RKG1, RKG2, RKMC2) by a proved engine, libcapi.a.
+/* Stabilized Runge-Kutta steps (RKC, RKL1, RKL2, RKG1, RKG2, RKMC2, TSRKC2) by a proved engine, libcapi.a.
  *
  * Every call is lent the record, in two parts that it reads and writes in place, and answers. While the answer is
  * STABILIZED_EVALUATE, work out the derivative of vector `number` of the area at `time` and bring it with
@@ -24,7 +24,7 @@
 extern "C" {
 #endif
 
-/* The area holds 11 vectors of n doubles, n from 1 to 512. */
+/* The area holds 11 vectors of n doubles, n from 1 to 512, and TSRKC2's one more, the last below. */
 enum {
   STABILIZED_FIRST_DERIVATIVE = 0,
   STABILIZED_LAST_DERIVATIVE = 1,
@@ -37,7 +37,9 @@ enum {
   STABILIZED_PERTURBED_DERIVATIVE = 8,
   STABILIZED_STATE = 9,
   STABILIZED_CANDIDATE = 10,
-  STABILIZED_VECTORS = 11
+  STABILIZED_OLDER_STATE = 11, /* of TSRKC2 alone */
+  STABILIZED_VECTORS = 11,
+  STABILIZED_TSRKC2_VECTORS = 12
 };
 
 /* The families. */
@@ -47,8 +49,14 @@ enum {
   STABILIZED_RKL2 = 3,
   STABILIZED_RKG1 = 4,
   STABILIZED_RKG2 = 5,
-  STABILIZED_RKMC2 = 6
+  STABILIZED_RKMC2 = 6,
+  STABILIZED_TSRKC2 = 7
 };
+
+/* How many vectors the area of a family holds. */
+static inline size_t stabilized_vectors(uint64_t family) {
+  return family == STABILIZED_TSRKC2 ? STABILIZED_TSRKC2_VECTORS : STABILIZED_VECTORS;
+}
 
 /* The phases of a record. */
 enum {
@@ -82,7 +90,8 @@ enum {
   STABILIZED_BAD_TOLERANCE = 7,
   STABILIZED_COUNTERS_FULL = 8,
   STABILIZED_BAD_DERIVATIVE = 9,
-  STABILIZED_BAD_CANDIDATE = 10
+  STABILIZED_BAD_CANDIDATE = 10,
+  STABILIZED_TOO_MANY_STAGES = 11 /* TSRKC2 would need more than 1000 */
 };
 
 /* What is wrong with a floating-point environment. */
@@ -93,14 +102,19 @@ enum {
 
 /* The record: what the engine keeps beside the area, its whole numbers and its doubles. All zeros is one to begin with. A
  * call that is turned away with 1 to 8 leaves it as it was. The doubles are the attempt's arguments, the power iteration's
- * (perturbation, previous_radius, scaled_radius) and what the stages carry on: theta; for RKC and RKMC2 also omega, b and
- * value; for RKC alone first and second, which RKMC2 sets to 0 and carries along. They stand in the order in which the
- * engine reads them fastest.
+ * (perturbation, previous_radius, scaled_radius), what the stages carry on, and with a history the last accepted step. The
+ * stages carry theta; RKC's, RKMC2's and TSRKC2's also omega and value; RKC's and RKMC2's b; RKC's alone first and second;
+ * TSRKC2's alone gain. What one of these three does not use, it sets to 0 and carries along. They stand in the order in which
+ * the engine reads them fastest, the last two as they came.
  *
  * stages, pass and scaled_radius are s, k and r of a finished answer from that answer until the next attempt that is taken:
  * accept, a callback or a start with its reply, abandon and every call that is turned away keep them. Such an attempt sets
- * pass to 1 and scaled_radius to 0; stages stands until its own stages begin. An attempt that is abandoned or turned away with 9
- * or 10 leaves the three as they stood at that call; they are then not those of a finished answer. */
+ * pass to 1 and scaled_radius to 0; stages stands until its own stages begin. An attempt that is abandoned or turned away with
+ * 9, 10 or 11 leaves the three as they stood at that call; they are then not those of a finished answer.
+ *
+ * TSRKC2 has a history from an accept on: previous_accepted_step is then the step that was accepted, and the area's last vector
+ * the state before it. A start, an accept with a callback and an abandon end it, in every family, and let step and vector
+ * stand. */
 typedef struct {
   uint64_t family;
   uint64_t n;
@@ -109,6 +123,7 @@ typedef struct {
   uint64_t pass;     /* of the power iteration; k after it */
   uint64_t stages;   /* s */
   uint64_t stage;
+  uint64_t history; /* 0 is none */
 } stabilized_wholes;
 
 typedef struct {
@@ -131,6 +146,8 @@ typedef struct {
   double b_previous_two;
   double theta_previous_two;
   double omega_zero;
+  double gain;
+  double previous_accepted_step;
 } stabilized_doubles;
 
 typedef struct {
@@ -146,7 +163,7 @@ typedef struct {
   double norm;          /* of the error; 0 without adaptive */
   uint64_t stages;      /* s */
   uint64_t passes;      /* k, those of the power iteration, 1 to 12 */
-  double scaled_radius; /* r, which may be infinite, or a NaN, for which s is chosen as for 0 */
+  double scaled_radius; /* r, which may be infinite, or a NaN, for which s is the least count */
   double time;          /* to evaluate the vector at */
 } stabilized_answer;
 
@@ -165,7 +182,7 @@ stabilized_answer stabilized_reply(stabilized_wholes *wholes, stabilized_doubles
                                    uint64_t *finished_attempts, double *area, size_t area_length,
                                    const double *derivative, size_t derivative_length);
 
-/* After a finished attempt: the candidate becomes the kept state. */
+/* After a finished attempt: the candidate becomes the kept state. TSRKC2 keeps the state and the step before. */
 stabilized_answer stabilized_accept(stabilized_wholes *wholes, stabilized_doubles *doubles, double *area,
                                     size_t area_length);
 

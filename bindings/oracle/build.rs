@@ -82,7 +82,9 @@ fn recording(name: &str, text: &str) -> String {
         }
         "chebyshev" => {
             let rkc = with_recorded_locals(text, "fn run_rkc", "Some(omega_zero)", "nu_tilde");
-            with_recorded_locals(&rkc, "fn run_rkmc2", "Some(omega_zero)", "b_previous")
+            let rkmc2 =
+                with_recorded_locals(&rkc, "fn run_rkmc2", "Some(omega_zero)", "b_previous");
+            with_recorded_two_step(&rkmc2)
         }
         _ => text.to_string(),
     }
@@ -92,21 +94,62 @@ fn recording(name: &str, text: &str) -> String {
 /// records omega_zero, omega_one and the first stage's coefficient, and one after each stage's theta, which records its
 /// row. The locals of a stage are then those that its row was worked out with.
 fn with_recorded_locals(text: &str, heading: &str, omega_zero: &str, fourth: &str) -> String {
+    let [before, function, after] = function(text, heading);
+    let first = format!("record_first(stages, {omega_zero}, omega_one, theta_previous)");
+    let row = format!("record_row(stage, [mu, nu, mu_tilde, {fourth}, theta])");
+    let function = recorded_before(&function, LOOP, &first);
+    let function = recorded_after(&function, "let theta =", &row);
+    [before, function, after].concat()
+}
+
+/// The same for TSRKC2, whose theta is worked out only where a stage follows: its expression is recorded with the row, so
+/// that every row has one. After the loop come the table's entry, the values at 1.1 and the gain.
+fn with_recorded_two_step(text: &str) -> String {
+    let [before, function, after] = function(text, "fn run_tsrkc2");
+    let theta = expression(&function, "let theta =");
+    let row = format!("record_row(stage, [mu, nu, mu_tilde, 0.0, {theta}])");
+    let rest = "record_two_step([acosh_t_star, sinh_acosh_t_star, omega_zero_minus_one, \
+                derivative_t_star, second_derivative_t_star, gain])";
+    let first = "record_first(stages, Some(omega_zero), omega_one, theta_previous)";
+    let function = recorded_before(&function, LOOP, first);
+    let function = recorded_after(&function, "            mu_tilde =", &row);
+    let function = recorded_after(&function, "let gain =", rest);
+    [before, function, after].concat()
+}
+
+/// The first line of a loop over the stages.
+const LOOP: &str = "        for stage in 2..=stages {\n";
+
+/// A text in three: what comes before the function that begins with `heading`, the function, and what comes after it.
+fn function(text: &str, heading: &str) -> [String; 3] {
     let begin = text.find(heading).expect(heading);
-    let (before, function) = text.split_at(begin);
-    let loop_line = "        for stage in 2..=stages {\n";
-    let first = format!(
-        "        crate::recorded::record_first(stages, {omega_zero}, omega_one, theta_previous);\n{loop_line}"
-    );
-    let theta = function.find("            let theta =").expect("theta");
-    let end = theta + function[theta..].find(";\n").expect("the end of theta") + 2;
-    let row = format!(
-        "            crate::recorded::record_row(stage, [mu, nu, mu_tilde, {fourth}, theta]);\n"
-    );
-    let head = function[..end].replacen(loop_line, &first, 1);
-    assert!(
-        head.contains("record_first"),
-        "no loop over the stages in {heading}"
-    );
-    format!("{before}{head}{row}{}", &function[end..])
+    let length = text[begin..].find("\n    }\n").expect("a function's end");
+    let (before, rest) = text.split_at(begin);
+    let (function, after) = rest.split_at(length);
+    [before, function, after].map(String::from)
+}
+
+/// Where a statement that begins so stands, up to its end. It must be there exactly once.
+fn statement(function: &str, begin: &str) -> (usize, usize) {
+    assert_eq!(function.matches(begin).count(), 1, "{begin} once");
+    let start = function.find(begin).unwrap();
+    let length = function[start..].find(";\n").expect("a statement's end");
+    (start, start + length)
+}
+
+/// What a statement that begins so gives its local.
+fn expression(function: &str, begin: &str) -> String {
+    let (start, end) = statement(function, begin);
+    function[start + begin.len()..end].to_string()
+}
+
+fn recorded_before(function: &str, line: &str, call: &str) -> String {
+    assert_eq!(function.matches(line).count(), 1, "{line} once");
+    function.replace(line, &format!("        crate::recorded::{call};\n{line}"))
+}
+
+fn recorded_after(function: &str, begin: &str, call: &str) -> String {
+    let (_, end) = statement(function, begin);
+    let (head, rest) = function.split_at(end);
+    format!("{head};\n            crate::recorded::{call}{rest}")
 }

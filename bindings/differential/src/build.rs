@@ -1,10 +1,10 @@
 //! The build that a run is made on: compiler, C library, processor, and the tables that were taken from them.
 use oracle::thresholds::{self, Disagreement, UNITS};
-use oracle::{RKMC2, permitted, rows};
+use oracle::{RKMC2, TSRKC2, TwoStep, permitted, rows};
 use std::env;
 use std::fmt::{Display, Formatter, Result};
 use std::ops::Range;
-use std::path::Path;
+use std::path::{Path, PathBuf};
 use std::process::Command;
 
 /// The build that the tables were taken from, and that a differential run is made on: compiler, C library and processor.
@@ -73,11 +73,17 @@ struct Table {
 const RKMC2_OMEGA_ZERO: &str = "RKMC2's omega_zero";
 const RKMC2_OMEGA_ONE: &str = "RKMC2's omega_one";
 const THRESHOLD: &str = "RKMC2's threshold";
+const TSRKC2_OMEGA_ZERO: &str = "TSRKC2's omega_zero_minus_one";
+const TSRKC2_ACOSH: &str = "TSRKC2's acosh(1.1)";
+const TSRKC2_SINH: &str = "TSRKC2's sinh";
 
-/// RKMC2's files have 63 rows of 16 counts.
+/// acosh(1.1) in the named build.
+const ACOSH: u64 = 0x3FDC_636C_1A88_2F2B;
+
+/// RKMC2's files and TSRKC2's have 63 rows of 16 counts.
 const IN_ROWS: Range<usize> = 0..1008;
 
-fn tables() -> [Table; 4] {
+fn tables() -> [Table; 5] {
     [
         Table {
             name: "RKC's omega_one",
@@ -111,16 +117,35 @@ fn tables() -> [Table; 4] {
             counts: thresholds::COUNTS.collect(),
             rust: thresholds::threshold,
         },
+        Table {
+            name: TSRKC2_OMEGA_ZERO,
+            family: TSRKC2,
+            file: "tsrkc2_omega_zero_minus_one",
+            held: IN_ROWS,
+            counts: permitted(TSRKC2).collect(),
+            rust: |s| two_step(s).omega_zero_minus_one,
+        },
     ]
+}
+
+/// TSRKC2's locals at a count, without a history.
+fn two_step(count: usize) -> TwoStep {
+    rows(TSRKC2, count).two_step.expect(TSRKC2_OMEGA_ZERO)
+}
+
+fn crates() -> PathBuf {
+    Path::new(env!("CARGO_MANIFEST_DIR")).join("../../crates")
+}
+
+fn read(file: &Path) -> String {
+    std::fs::read_to_string(file).unwrap_or_else(|error| panic!("{}: {error}", file.display()))
 }
 
 impl Table {
     /// The entries as they are stored, by the counts that the table is for.
     fn stored(&self) -> Vec<u64> {
-        let crates = Path::new(env!("CARGO_MANIFEST_DIR")).join("../../crates");
-        let file = crates.join(self.file).join("specs/Table.antt");
-        let text = std::fs::read_to_string(&file)
-            .unwrap_or_else(|error| panic!("{}: {error}", file.display()));
+        let file = crates().join(self.file).join("specs/Table.antt");
+        let text = read(&file);
         let entries: Vec<u64> = text
             .split(|c: char| !c.is_ascii_alphanumeric())
             .filter_map(|word| word.strip_prefix("0x"))
@@ -149,6 +174,38 @@ impl Table {
             .filter(|entry| entry.stored != entry.rust)
             .collect()
     }
+}
+
+/// The sinh of acosh(1.1), as the definition of TSRKC2's rows has it.
+fn stored_sinh() -> u64 {
+    let file = crates().join("coefficients/specs/Rows.antt");
+    let text = read(&file);
+    let begin = "sinh-acosh-t-star = ofBits binary64 0x";
+    let at = text.find(begin).expect(begin) + begin.len();
+    u64::from_str_radix(&text[at..at + 16], 16).expect("hexadecimal digits")
+}
+
+/// TSRKC2's values at 1.1, in the Rust and as they are stored: the sinh by itself, the acosh in the table's entries, which were
+/// made with it. Told, and what departs.
+fn at_t_star() -> Vec<Departure> {
+    let (_, count) = oracle::ends(TSRKC2);
+    let TwoStep { acosh, sinh, .. } = two_step(count);
+    let [acosh, sinh] = [acosh, sinh].map(f64::to_bits);
+    println!("TSRKC2: acosh(1.1) is {acosh:016X}, its sinh {sinh:016X}");
+    let values = [
+        (TSRKC2_ACOSH, ACOSH, acosh),
+        (TSRKC2_SINH, stored_sinh(), sinh),
+    ];
+    let all = values.into_iter().flat_map(|(table, stored, rust)| {
+        permitted(TSRKC2).map(move |count| Departure {
+            table,
+            family: TSRKC2,
+            count,
+            stored,
+            rust,
+        })
+    });
+    all.filter(|value| value.stored != value.rust).collect()
 }
 
 /// A table's entry for which the Rust has another double on this build.
@@ -197,7 +254,8 @@ pub const UNFUSED: [Departure; 2] = [
     },
 ];
 
-/// Compares every entry of every table with the Rust's, and prints how many are the same.
+/// Compares every entry of every table with the Rust's, and prints how many are the same; and TSRKC2's values at 1.1, which
+/// depart in every count where they do.
 pub fn departures() -> Vec<Departure> {
     let mut all = Vec::new();
     for table in tables() {
@@ -210,6 +268,7 @@ pub fn departures() -> Vec<Departure> {
         );
         all.extend(found);
     }
+    all.extend(at_t_star());
     all
 }
 

@@ -2,11 +2,11 @@
 //! numbers, both compared with the definition alone; an r at which RKC's count overflows in the Rust; and candidates.
 use crate::model::{Model, Replies};
 use crate::other::Cause;
-use crate::pair::{Ending, Pair, Stop};
+use crate::pair::{Ending, Pair, ROOM, Stop};
 use crate::random::{Random, mixed};
 use crate::scenarios::{Coverage, ended, radii_for, with_radii};
-use oracle::{Arguments, Figures, RKC};
-use stabilized::calls::{VECTORS, vector};
+use oracle::{Arguments, Figures, RKC, TSRKC2};
+use stabilized::calls::vector;
 use std::fmt::Debug;
 
 /// What a failed sensor sends, and what its scenario is counted as.
@@ -119,7 +119,7 @@ impl Norm {
 }
 
 /// Runs a scenario on a pair of its own, which begins with zeros on both sides.
-fn run(
+pub fn run(
     scenario: &impl Debug,
     n: usize,
     seed: u64,
@@ -127,7 +127,7 @@ fn run(
     follow: impl Fn(&mut Pair, &mut Random, &mut Coverage) -> Result<(), String>,
 ) -> Result<(), String> {
     let random = &mut Random::new(mixed(seed));
-    let mut pair = Pair::new(n, vec![0.0; VECTORS * n], true, random.draw());
+    let mut pair = Pair::new(n, vec![0.0; ROOM * n], true, random.draw());
     pair.write_down(&mut coverage.trace);
     follow(&mut pair, random, coverage)
         .map_err(|difference| format!("{scenario:?}: {difference}"))?;
@@ -136,7 +136,7 @@ fn run(
 }
 
 /// An attempt's arguments, with usual tolerances.
-fn arguments(step: f64) -> Arguments {
+pub fn arguments(step: f64) -> Arguments {
     Arguments {
         time: 0.5,
         step,
@@ -147,7 +147,7 @@ fn arguments(step: f64) -> Arguments {
 }
 
 /// The figures of an attempt, which must be finished.
-fn finished(
+pub fn finished(
     pair: &mut Pair,
     arguments: Arguments,
     replies: &Replies,
@@ -162,7 +162,7 @@ fn finished(
 }
 
 /// That something meant holds of what came.
-fn meant(holds: bool, came: impl Debug) -> Result<(), String> {
+pub fn meant(holds: bool, came: impl Debug) -> Result<(), String> {
     holds.then_some(()).ok_or_else(|| format!("got {came:?}"))
 }
 
@@ -320,9 +320,12 @@ pub struct Keeping {
 }
 
 impl Keeping {
-    /// Both radii, in those of these dimensions that are small and not too small.
+    /// Both radii, in those of these dimensions that are small and not too small. TSRKC2 finishes no attempt with an infinite
+    /// one here.
     pub fn all_of(family: u64, dimensions: &[usize]) -> impl Iterator<Item = Self> {
-        Unbounded::ALL.into_iter().flat_map(move |radius| {
+        let radii = Unbounded::ALL.into_iter();
+        let radii = radii.filter(move |radius| (family, *radius) != (TSRKC2, Unbounded::Infinite));
+        radii.flat_map(move |radius| {
             let dimensions = dimensions.iter().copied();
             let dimensions = dimensions.filter(move |n| (radius.least_dimension()..=8).contains(n));
             dimensions.map(move |n| Self { family, radius, n })
@@ -405,8 +408,8 @@ impl Keeping {
     }
 }
 
-/// An attempt with an r so large that the Rust's count overflows in RKC, where the run goes over and 200 stages are run. In the
-/// other families the Rust gives the largest count.
+/// An attempt with an r so large that the Rust's count overflows in RKC, where the run goes over and 200 stages are run. TSRKC2
+/// is turned away with 11. In the other families the Rust gives the largest count.
 #[derive(Clone, Copy, Debug)]
 pub struct Overflowing {
     pub family: u64,
@@ -432,6 +435,9 @@ impl Overflowing {
         let started = pair.start(self.family, &state, 0.5, &replies, None)?;
         ended(started, Ending::Ready)?;
         let replies = with_radii(replies, radii_for(3, 1e160), pair);
+        if self.family == TSRKC2 {
+            return refused_with_11(pair, arguments(self.step), &replies, None, coverage);
+        }
         let figures = finished(pair, arguments(self.step), &replies, coverage)?;
         let over = (self.family == RKC).then_some(Cause::Count);
         meant(pair.went_over == over, pair.went_over)?;
@@ -445,6 +451,44 @@ impl Overflowing {
             self.follow(pair, random, coverage)
         })
     }
+}
+
+/// An attempt of TSRKC2 that needs too many stages, with what the run has then gone over for.
+pub fn refused_with_11(
+    pair: &mut Pair,
+    arguments: Arguments,
+    replies: &Replies,
+    over: Option<Cause>,
+    coverage: &mut Coverage,
+) -> Result<(), String> {
+    let ending = pair.attempt(arguments, replies, None)?;
+    coverage.attempt(pair, &arguments, &ending);
+    meant(pair.went_over == over, pair.went_over)?;
+    ended(ending, Ending::TooManyStages)?;
+    pair.all_turned_away()
+}
+
+/// An infinite r of TSRKC2 by the definition, where the norm of a direction overflows for good: it is turned away with 11.
+pub fn infinite_by_definition(seed: u64, coverage: &mut Coverage) -> Result<(), String> {
+    let keeping = Keeping {
+        family: TSRKC2,
+        radius: Unbounded::Infinite,
+        n: 3,
+    };
+    run(
+        &keeping,
+        3,
+        mixed(seed),
+        coverage,
+        |pair, random, coverage| {
+            let (state, good) = (keeping.state(random), keeping.replies(1.0, random));
+            let started = pair.start(TSRKC2, &state, 0.5, &good, None)?;
+            ended(started, Ending::Ready)?;
+            let replies = keeping.replies(-1.0, random);
+            let over = Some(Cause::Direction);
+            refused_with_11(pair, arguments(1e-306), &replies, over, coverage)
+        },
+    )
 }
 
 /// A candidate that overflows while every norm of the Rust is finite: the attempt ends with 10 on both sides.

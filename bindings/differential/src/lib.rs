@@ -3,6 +3,7 @@
 //! [`random_calls`] holds the engine's refusals against [`refusals`], a statement of document 01's table. [`stage_counts`] holds
 //! the test build's stage counts against the checkout's.
 pub mod build;
+pub mod history;
 pub mod hot;
 pub mod model;
 pub mod other;

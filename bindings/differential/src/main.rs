@@ -3,16 +3,18 @@
 //! differential scenario SEED LARGEST, differential call SEED: a random one again, as a difference names it; LARGEST is the
 //! largest n that the scenario was drawn with. Of a scenario every finished attempt is told.
 use differential::build::{self, Departure};
+use differential::history::{self, Far, Limit, Sequence};
 use differential::hot::{self, Hot, Keeping, Overflowing};
 use differential::other::Cause;
 use differential::pair::SHORT;
 use differential::random::mixed;
 use differential::random_calls::{self, Answers};
 use differential::scenarios::{
-    self, BY_THE_DEFINITION, Counted, Coverage, DIMENSIONS, EARLY, ENDINGS, NORM_HOT, OVERFLOWED,
-    WITH_THE_RUST,
+    self, BY_THE_DEFINITION, Counted, Coverage, DIMENSIONS, EARLY, NORM_HOT, OVERFLOWED,
+    WITH_THE_RUST, endings_of,
 };
 use differential::stage_counts;
+use oracle::TSRKC2;
 use oracle::thresholds::{self, Disagreement, UNITS};
 use std::ops::RangeInclusive;
 use std::process::ExitCode;
@@ -30,13 +32,13 @@ struct Size {
 const QUICK: Size = Size {
     dimensions: &[1, 8],
     whole: false,
-    attempts: 20_000,
+    attempts: 24_000,
     calls: 200_000,
 };
 const LONG: Size = Size {
     dimensions: &DIMENSIONS,
     whole: true,
-    attempts: 200_000,
+    attempts: 240_000,
     calls: 5_000_000,
 };
 
@@ -157,6 +159,9 @@ fn run_scenarios(size: &Size, seed: u64, departures: &[Departure]) -> Result<(),
     every_hot_run(seed, &families, &mut coverage)?;
     every_unbounded_radius(size, seed, &families, &mut coverage)?;
     every_overflow(seed, &families, &mut coverage)?;
+    if families.contains(&TSRKC2) {
+        every_history(size, seed, &mut coverage)?;
+    }
     let mut index = 0;
     while coverage.attempts < size.attempts {
         let seed = mixed(seed ^ mixed(index));
@@ -281,6 +286,21 @@ fn every_overflow(seed: u64, families: &[u64], coverage: &mut Coverage) -> Resul
     Ok(())
 }
 
+/// TSRKC2's histories: every count with one, in one dimension each, sequences, ends of counts, and steps far apart.
+fn every_history(size: &Size, seed: u64, coverage: &mut Coverage) -> Result<(), String> {
+    for stages in oracle::permitted(TSRKC2) {
+        let n = size.dimensions[stages % size.dimensions.len()];
+        history::Counted { stages, n }.run(seed, coverage)?;
+    }
+    for n in [1, 3, 8] {
+        Sequence::all(n).try_for_each(|sequence| sequence.run(seed, coverage))?;
+    }
+    Limit::all().try_for_each(|limit| limit.run(seed, coverage))?;
+    Far::all().try_for_each(|far| far.run(seed, coverage))?;
+    history::bad_before_many(seed, coverage)?;
+    hot::infinite_by_definition(seed, coverage)
+}
+
 fn report(coverage: &Coverage) {
     println!(
         "{} scenarios, {} attempts, {} evaluations; {} calls between them turned away",
@@ -290,6 +310,7 @@ fn report(coverage: &Coverage) {
     for family in oracle::FAMILIES {
         report_family(coverage, family);
     }
+    report_histories(coverage);
     for (n, count) in &coverage.dimensions {
         println!("n = {n}: {count} attempts");
     }
@@ -337,12 +358,13 @@ fn report_family(coverage: &Coverage, family: u64) {
     let passes = coverage.passes.keys().filter(|key| key.0 == family).count();
     let permitted = oracle::permitted(family).count();
     let endings = coverage.endings.keys();
+    let wanted: Vec<&str> = endings_of(family).collect();
     let endings = endings
-        .filter(|(of, ending)| *of == family && ENDINGS.contains(ending))
+        .filter(|(of, ending)| *of == family && wanted.contains(ending))
         .count();
     println!(
         "{name}, compared with the Rust: {norms} of {permitted} stage counts with their norms, {passes} of 12 pass counts, {endings} of {} endings",
-        ENDINGS.len()
+        wanted.len()
     );
     for ending in EARLY {
         let early = coverage.early.iter();
@@ -351,6 +373,18 @@ fn report_family(coverage: &Coverage, family: u64) {
             .map(|((.., place), count)| format!("{count} {place}"));
         let places: Vec<String> = places.collect();
         println!("{name}, {ending}: {}", places.join(", "));
+    }
+}
+
+/// TSRKC2's attempts by q and ending, and the counts that were finished with a history.
+fn report_histories(coverage: &Coverage) {
+    println!(
+        "TSRKC2 with a history, compared with the Rust: {} of {} stage counts with their norms",
+        coverage.with_history.len(),
+        oracle::permitted(TSRKC2).count()
+    );
+    for ((kind, ending), count) in &coverage.quotients {
+        println!("TSRKC2, {kind}, {ending}: {count}");
     }
 }
 

@@ -5,7 +5,7 @@
 //! tells such an attempt by the Rust's own vectors.
 use crate::random::{all_same, same};
 use crate::stated::Stated;
-use oracle::{Arguments, Figures, Iteration, Oracle, RightHandSide, SolveError};
+use oracle::{Arguments, Figures, History, Iteration, Oracle, RightHandSide, SolveError};
 use stabilized::calls::{VECTORS, vector};
 use std::cell::{Cell, RefCell};
 use std::fmt::Debug;
@@ -39,6 +39,13 @@ impl Other {
         match self {
             Self::Rust(rust) => rust.vectors(),
             Self::Stated(stated) => stated.vectors(),
+        }
+    }
+
+    pub fn history(&self) -> Option<History> {
+        match self {
+            Self::Rust(rust) => rust.history(),
+            Self::Stated(stated) => stated.history(),
         }
     }
 
@@ -87,7 +94,7 @@ impl Other {
     pub fn accept(&mut self, time: f64, step: f64) {
         match self {
             Self::Rust(rust) => rust.accept(time, step),
-            Self::Stated(stated) => stated.accept(),
+            Self::Stated(stated) => stated.accept(step),
         }
     }
 
@@ -166,8 +173,17 @@ fn same_end(a: &End, b: &End) -> bool {
     }
 }
 
+/// Both absent, or the same step and state.
+pub fn same_history([a, b]: &[Option<History>; 2]) -> bool {
+    match (a, b) {
+        (Some(a), Some(b)) => same(a.step, b.step) && all_same(&a.state, &b.state),
+        _ => a.is_none() && b.is_none(),
+    }
+}
+
 impl Made<Other, Option<Figures>> {
-    /// Compares with the same call of another kernel: the evaluations, the end, and every vector.
+    /// Compares with the same call of another kernel: the evaluations, the end, every vector, and the history where the call
+    /// came to its end: before that a callback has ended it on one side and not yet on the other.
     pub fn compare(&self, other: &Self) -> Result<(), String> {
         let evaluations = self.evaluated.iter().zip(&other.evaluated);
         let another = evaluations
@@ -182,6 +198,12 @@ impl Made<Other, Option<Figures>> {
         if !same_end(&self.end, &other.end) || self.evaluated.len() != other.evaluated.len() {
             let ends = (&self.end, &other.end);
             return Err(format!("{ours} and {theirs} end with {ends:?}"));
+        }
+        let histories = [&self.kernel, &other.kernel].map(Other::history);
+        if self.end.is_ok() && !same_history(&histories) {
+            return Err(format!(
+                "histories of {ours} and {theirs} at the end {histories:?}"
+            ));
         }
         let vectors = self.kernel.vectors().into_iter();
         let mut vectors = vectors.zip(other.kernel.vectors()).enumerate();
@@ -247,6 +269,13 @@ pub fn cause(
     }
     if iterated.end.is_ok_and(|r| oracle::overflows(family, r)) {
         return Some(Cause::Count);
+    }
+    // no stage is run, and so there is no error
+    if iterated
+        .end
+        .is_ok_and(|r| rust.needs_too_many(r, arguments.step))
+    {
+        return None;
     }
     let made = Made::on(rust, replies, until, &attempt);
     (made.end == Ok(f64::INFINITY)).then_some(Cause::Error)

@@ -1,5 +1,5 @@
-//! The engine and the other side, side by side: each call goes to both, and time, point, answer, counts, norm, s, k, r and all
-//! eleven vectors are compared, bit for bit with NaN matching NaN.
+//! The engine and the other side, side by side: each call goes to both, and time, point, answer, counts, norm, s, k, r, all
+//! eleven vectors and TSRKC2's history are compared, bit for bit with NaN matching NaN.
 //!
 //! The other side is the Rust. k and s of the Rust are the evaluations of its power iteration and of the rest of its attempt;
 //! r is |step| times what `spectral_radius` gives, multiplied there as driver.rs does. Before the first attempt in which the
@@ -12,20 +12,21 @@
 //! [`check`] settles every vector but previous_one, and that is the point, which is compared; so all eleven are settled at
 //! each evaluation.
 use crate::model::Replies;
-use crate::other::{Cause, End, Made, Other, Rhs, cause, stopped_at};
+use crate::other::{Cause, End, Made, Other, Rhs, cause, same_history, stopped_at};
 use crate::random::{Random, all_same, same};
 use crate::refusals::{
-    Arguments, Call, Given, Held, Kept, Outcome, Start, check, evaluate, finished, name, number,
-    refused, same_answer, stands, without_values,
+    Arguments, Call, Given, Held, Kept, Outcome, Start, check, evaluate, finished, history_in,
+    name, number, refused, same_answer, stands, without_values,
 };
 use crate::stated::{Stated, finite};
 use crate::trace::Trace;
-use oracle::{Figures, Oracle, SolveError};
-use stabilized::calls::{self, Answer, Counters, Record, VECTORS, Wholes, code, phase, vector};
+use oracle::{Figures, History, Oracle, SolveError, TSRKC2};
+use stabilized::calls::{self, Answer, Counters, Record, Wholes, code, phase, vector, vectors_of};
 use std::array;
 use std::collections::BTreeMap;
 
-/// The largest count of the families but RKMC2. Above it attempts are long: fewer are made, and less often all is looked at.
+/// The largest count of the families but RKMC2 and TSRKC2. Above it attempts are long: fewer are made, and less often all is
+/// looked at.
 pub const SHORT: usize = 200;
 
 /// How a run of evaluations ended.
@@ -35,6 +36,7 @@ pub enum Ending {
     Finished(Figures),
     BadDerivative,
     BadCandidate,
+    TooManyStages,
     Abandoned,
     /// Left with an evaluation pending, for a start in the middle.
     Pending,
@@ -52,7 +54,8 @@ pub type Compared = Result<Ending, String>;
 pub struct Pair {
     pub record: Record,
     pub counters: Counters,
-    pub area: Vec<f64>,
+    /// Room for the largest of the families' areas. A call is lent as much of it as the family's is.
+    pub room: Vec<f64>,
     /// The record's whole numbers at the latest evaluation.
     pub evaluated: Wholes,
     other: Other,
@@ -85,14 +88,27 @@ fn arguments_of(arguments: oracle::Arguments) -> Arguments {
     }
 }
 
+/// How many vectors a pair has room for.
+pub const ROOM: usize = vectors_of(TSRKC2);
+
+/// How many doubles a call is lent of the room: the area of the family that it is about, by what start brings and by the record
+/// of any other call.
+fn area_length(call: &Call, record: &Record, n: usize) -> usize {
+    let family = match call {
+        Call::Start(start) => start.family,
+        _ => record.wholes.family,
+    };
+    vectors_of(family) * n
+}
+
 impl Pair {
-    /// Both sides before any start, with an area as given.
-    pub fn new(n: usize, area: Vec<f64>, strict: bool, seed: u64) -> Self {
-        assert_eq!(area.len(), VECTORS * n);
+    /// Both sides before any start, with room as given.
+    pub fn new(n: usize, room: Vec<f64>, strict: bool, seed: u64) -> Self {
+        assert_eq!(room.len(), ROOM * n);
         Self {
             record: Record::default(),
             counters: Counters::default(),
-            area,
+            room,
             evaluated: Wholes::default(),
             other: Other::Rust(Oracle::new(1, n)),
             counted: 0,
@@ -114,7 +130,7 @@ impl Pair {
             && let Some(mut trace) = trace.take()
         {
             assert_eq!(self.record, Record::default());
-            trace.begin(&self.counters, &self.area);
+            trace.begin(self.n(), &self.counters, &self.room);
             self.trace = Some(trace);
         }
     }
@@ -125,17 +141,23 @@ impl Pair {
     }
 
     pub fn n(&self) -> usize {
-        self.area.len() / VECTORS
+        self.room.len() / ROOM
     }
 
     pub fn vector(&self, number: usize) -> &[f64] {
         let n = self.n();
-        &self.area[number * n..(number + 1) * n]
+        &self.room[number * n..(number + 1) * n]
     }
 
-    /// The definition with the engine's vectors.
+    /// The engine's history.
+    pub fn history(&self) -> Option<History> {
+        history_in(&self.record, &self.room)
+    }
+
+    /// The definition with the engine's vectors and history.
     fn stated(&self, family: u64) -> Stated {
-        Stated::with_vectors(family, array::from_fn(|number| self.vector(number)))
+        let vectors = array::from_fn(|number| self.vector(number));
+        Stated::with_vectors(family, vectors, self.history())
     }
 
     pub fn start(
@@ -151,7 +173,7 @@ impl Pair {
         self.other = match self.other {
             Other::Stated(_) => Other::Stated(self.stated(family)),
             Other::Rust(_) if self.strict => {
-                Other::Rust(Oracle::with_vectors(family, n, &self.area))
+                Other::Rust(Oracle::with_vectors(family, n, &self.room))
             }
             Other::Rust(_) => Other::Rust(Oracle::new(family, n)),
         };
@@ -232,20 +254,30 @@ impl Pair {
 
     /// One call of the engine; what document 01's table settles of it is checked.
     fn engine(&mut self, call: &Call) -> Result<Outcome, String> {
-        let before = self.area.clone();
+        let length = area_length(call, &self.record, self.n());
+        self.lent(call, length)
+    }
+
+    /// One call that is lent so much of the room.
+    fn lent(&mut self, call: &Call, length: usize) -> Result<Outcome, String> {
+        let (n, before) = (self.n(), self.room.clone());
         let held = Held {
             record: self.record,
             counters: self.counters,
-            area: &before,
+            area: &before[..length],
         };
-        let outcome = make(self.record, &mut self.counters, &mut self.area, call);
+        let area = &mut self.room[..length];
+        let outcome = make(self.record, &mut self.counters, area, call);
         let given = Given {
             outcome,
             counters: self.counters,
-            area: &self.area,
+            area,
         };
         check(&held, call, &given)?;
-        if let Some(trace) = &mut self.trace {
+        // replay lends by the family
+        if length == area_length(call, &self.record, n)
+            && let Some(trace) = &mut self.trace
+        {
             trace.call(&held, call, &given);
         }
         self.keeps(call, &held.record, &outcome)?;
@@ -352,8 +384,9 @@ impl Pair {
         if let Other::Stated(_) = self.other {
             return Ok(());
         }
-        let family = self.record.wholes.family;
-        let stated = Other::Stated(Stated::with_vectors(family, self.other.vectors()));
+        let (family, history) = (self.record.wholes.family, self.other.history());
+        let stated = Stated::with_vectors(family, self.other.vectors(), history);
+        let stated = Other::Stated(stated);
         let stated = Made::on(&stated, replies, place_of(stop), call);
         stated.compare(made)
     }
@@ -408,6 +441,10 @@ impl Pair {
                 self.expect(answer, &refused(9))?;
                 Ok(Ending::BadDerivative)
             }
+            Err(SolveError::TooManyStages) => {
+                self.expect(answer, &refused(11))?;
+                Ok(Ending::TooManyStages)
+            }
             Err(error) => Err(format!("{} ended with {error:?}", made.kernel.name())),
         }
     }
@@ -434,8 +471,22 @@ impl Pair {
             .ok_or_else(|| format!("answered {answer:?}, by {theirs} {expected:?}"))
     }
 
-    /// The engine's vectors against the other side's: all of them, or those that an attempt reads.
+    /// The engine's history against the other side's, but where the engine has marked it absent, or it no longer matters: at a
+    /// callback's evaluation and in the empty phase.
+    fn compare_history(&self, other: &Other, place: &str) -> Result<(), String> {
+        let both = [self.history(), other.history()];
+        let apart = [phase::CALLBACK, phase::EMPTY].contains(&self.record.wholes.phase);
+        if apart || same_history(&both) {
+            return Ok(());
+        }
+        let [ours, theirs] = both;
+        let by = other.name();
+        Err(format!("history at {place}: {ours:?}, by {by} {theirs:?}"))
+    }
+
+    /// The engine's vectors against the other side's: all of them, or those that an attempt reads; and the history.
     fn compare(&self, other: &Other, all: bool, place: &str) -> Result<(), String> {
+        self.compare_history(other, place)?;
         const READ: [usize; 3] = [vector::EIGENVECTOR, vector::STATE, vector::FIRST_DERIVATIVE];
         let begun = ![phase::FIRST, phase::EMPTY].contains(&self.record.wholes.phase);
         let read = if begun { &READ[..] } else { &READ[..2] };
@@ -475,23 +526,32 @@ impl Pair {
         let n = self.n();
         let (one_too_long, infinite) = (vec![0.0; n + 1], vec![f64::INFINITY; n]);
         let call = bad_calls(&one_too_long, &infinite)[which];
+        // the last ones are handed an area of the other size
+        let other_size = (ROOM + calls::VECTORS) * n - area_length(&call, &self.record, n);
+        let length = match which {
+            ..OTHER_SIZE => area_length(&call, &self.record, n),
+            _ => other_size,
+        };
         let held = Held {
             record: self.record,
             counters: self.counters,
-            area: &self.area,
+            area: &self.room[..length],
         };
         if number(&held, &call).is_some_and(stands) {
             self.turned_away += 1;
-            self.engine(&call)?;
+            self.lent(&call, length)?;
         }
         Ok(())
     }
 }
 
-const BAD_CALLS: usize = 15;
+const BAD_CALLS: usize = 18;
 
-/// Calls that are turned away in every phase or in some: each brings something bad, or comes out of turn. Together they
-/// are turned away with 1 to 7; with 8, for full counters, the random calls alone are.
+/// From here on what is bad of a call is that its area is as long as that of TSRKC2, or of another family in TSRKC2.
+const OTHER_SIZE: usize = 15;
+
+/// Calls that are turned away in every phase or in some: each brings something bad, is handed an area of the other size, or
+/// comes out of turn. Together they are turned away with 1 to 7; with 8, for full counters, the random calls alone are.
 fn bad_calls<'a>(one_too_long: &'a [f64], infinite: &'a [f64]) -> [Call<'a>; BAD_CALLS] {
     let n = infinite.len();
     let good = Start {
@@ -512,7 +572,7 @@ fn bad_calls<'a>(one_too_long: &'a [f64], infinite: &'a [f64]) -> [Call<'a>; BAD
     let callback = |state, time| Call::AcceptWithCallback { state, time };
     let time = f64::NAN;
     [
-        Call::Start(Start { family: 7, ..good }),
+        Call::Start(Start { family: 8, ..good }),
         Call::Start(Start { n: 513, ..good }),
         start(one_too_long),
         Call::Start(Start { time, ..good }),
@@ -526,6 +586,12 @@ fn bad_calls<'a>(one_too_long: &'a [f64], infinite: &'a [f64]) -> [Call<'a>; BAD
         callback(good.state, time),
         callback(good.state, 0.0),
         Call::Accept,
+        Call::Abandon,
+        Call::Start(good),
+        Call::Start(Start {
+            family: TSRKC2,
+            ..good
+        }),
         Call::Abandon,
     ]
 }

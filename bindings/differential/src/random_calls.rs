@@ -6,7 +6,10 @@ use crate::refusals::{
     Arguments, Call, Given, Held, Start, check, good_pass, name, numbers, permitted,
 };
 use crate::stated::overflows;
-use stabilized::calls::{Counters, Doubles, Record, VECTORS, Wholes, code, phase, vector};
+use oracle::TSRKC2;
+use stabilized::calls::{
+    Counters, Doubles, Record, VECTORS, Wholes, code, phase, vector, vectors_of,
+};
 use std::collections::{BTreeMap, BTreeSet};
 
 /// How often each call gave each answer: 0 for a call that was not turned away, else the number.
@@ -34,7 +37,7 @@ const HOT_NORMS: [&str; 3] = ["state", "direction", "error"];
 /// The hot norm of a call that was taken, if it has one, by the area that it left.
 fn hot_norm(call: &Call, given: &Given, before: &Record) -> Option<&'static str> {
     let answer = &given.outcome.answer;
-    let n = given.area.len() / VECTORS;
+    let n = before.wholes.n as usize;
     let [state, direction, error] = HOT_NORMS;
     let overflows = |vector: usize| overflows(&given.area[vector * n..(vector + 1) * n]);
     match (call, before.wholes.phase, answer.code) {
@@ -167,6 +170,14 @@ fn length(random: &mut Random, usual: usize) -> usize {
     }
 }
 
+/// The length of a family's area, and now and then that of the other size, or another.
+fn area_length(random: &mut Random, family: u64, n: usize) -> usize {
+    if random.chance(4) {
+        return random.pick(&[VECTORS, vectors_of(TSRKC2)]) * n;
+    }
+    length(random, vectors_of(family) * n)
+}
+
 /// A count of stages: one that is permitted or a little above, or one next to the permitted ones.
 fn stages(random: &mut Random, family: u64) -> u64 {
     let next = outside(family);
@@ -191,13 +202,14 @@ fn record(random: &mut Random, family: u64, n: u64) -> Record {
     let stage = random.draw() % (stages + 3);
     let stage = if random.chance(30) { stages } else { stage };
     let wholes = Wholes {
-        family: number(random, family, 9),
+        family: number(random, family, 10),
         n: number(random, n, 16),
         phase: usually_below(random, 8, 12),
         adaptive: usually_below(random, 2, 4),
         pass: pass(random),
         stages: number(random, stages, 2000),
         stage: number(random, stage, 2000),
+        history: usually_below(random, 2, 4),
     };
     let doubles = record_doubles(random);
     Record { wholes, doubles }
@@ -230,6 +242,8 @@ fn record_doubles(random: &mut Random) -> Doubles {
         b_previous_two: double(random),
         theta_previous_two: double(random),
         omega_zero: double(random),
+        gain: double(random),
+        previous_accepted_step: double(random) * random.sign(),
     }
 }
 
@@ -258,7 +272,7 @@ fn dimension(random: &mut Random) -> usize {
 fn any_call<'a>(random: &mut Random, family: u64, n: u64, brought: &'a [f64]) -> Call<'a> {
     match random.below(8) {
         0 => Call::Start(Start {
-            family: number(random, family, 9),
+            family: number(random, family, 10),
             n: number(random, n, 16),
             state: brought,
             time: double(random),
@@ -293,7 +307,7 @@ pub fn call(seed: u64, answers: &mut Answers) -> Result<(), String> {
     let family = random.pick(&oracle::FAMILIES);
     let record = record(random, family, n as u64);
     let counters = counters(random);
-    let size = length(random, VECTORS * n);
+    let size = area_length(random, family, n);
     let before = doubles(random, size);
     let size = length(random, n);
     let brought = doubles(random, size);

@@ -1,13 +1,16 @@
-//! Document 01, "When a call is turned away", stated anew, with what each call leaves; families 1 to 6 by document 02, CR 1,
-//! by CR 2 what a finished answer carries and the record keeps, and by CR 4 the norms, which [`crate::stated`] has. It is
-//! stated from the documents alone, but for the stage count of RKC and RKL, which is the Rust's, and RKMC2's, which is by the
-//! stored thresholds.
+//! Document 01, "When a call is turned away", stated anew, with what each call leaves; families 1 to 7 by document 02, CR 1 and
+//! CR 6, by CR 2 what a finished answer carries and the record keeps, by CR 4 the norms, which [`crate::stated`] has, and by
+//! CR 6 the history and number 11. It is stated from the documents alone, but for the stage count of RKC and RKL, which is the
+//! Rust's, RKMC2's, which is by the stored thresholds, and TSRKC2's formula.
 //!
 //! [`number`] gives the number of the first test from 1 to 9 that a call fails. [`check`] compares what an engine answered
-//! and left with what the document settles, number 10 included: whether a candidate is finite is seen in the area.
+//! and left with what the documents settle, numbers 10 and 11 included: whether a candidate is finite is seen in the area, and
+//! how many stages would be needed in what the reply makes of the record.
 use crate::random::{all_same, same};
-use crate::stated::{Combination, Stated, finite, last_pass, scaled, stages_for};
-use oracle::RKMC2;
+use crate::stated::{
+    Combination, Stated, count_for, finite, last_pass, mixed_in, quotient, scaled,
+};
+use oracle::{History, RKMC2, TSRKC2};
 use stabilized::calls::{Answer, Counters, Doubles, Record, code, phase, vector};
 use std::array;
 
@@ -62,12 +65,12 @@ pub fn name(call: &Call) -> &'static str {
 }
 
 /// The numbers that a call can answer. "Every call has 1 to 4 (start: no phase); start and accept with a callback 5 and time
-/// in 6; attempt 6 and 7; every reply 8 and 9; the reply that ends stage s also 10."
+/// in 6; attempt 6 and 7; every reply 8 and 9; the reply that ends stage s also 10." The one that ends the power iteration 11.
 pub fn numbers(call: &Call) -> &'static [u64] {
     match call {
         Call::Start(_) => &[1, 2, 3, 5, 6],
         Call::Attempt(_) => &[1, 2, 3, 4, 6, 7],
-        Call::Reply { .. } => &[1, 2, 3, 4, 8, 9, 10],
+        Call::Reply { .. } => &[1, 2, 3, 4, 8, 9, 10, 11],
         Call::Accept | Call::Abandon => &[1, 2, 3, 4],
         Call::AcceptWithCallback { .. } => &[1, 2, 3, 4, 5, 6],
     }
@@ -78,8 +81,14 @@ pub fn stands(number: u64) -> bool {
     [1, 2, 3, 4, 5, 6, 7, 8].contains(&number)
 }
 
-const VECTORS: u64 = 11;
+/// The vectors of every family.
+const VECTORS: usize = 11;
 const LIMIT: u64 = u64::MAX;
+
+/// "Its area is 12 × n", TSRKC2's; that of the others 11 × n.
+fn vectors_of(family: u64) -> u64 {
+    if family == TSRKC2 { 12 } else { 11 }
+}
 
 pub fn permitted(family: u64, stages: u64) -> bool {
     match family {
@@ -87,6 +96,7 @@ pub fn permitted(family: u64, stages: u64) -> bool {
         2 | 3 => (3..=199).contains(&stages) && stages % 2 == 1,
         5 => (3..=200).contains(&stages),
         6 => (3..=1000).contains(&stages),
+        7 => (2..=1000).contains(&stages),
         _ => false,
     }
 }
@@ -127,13 +137,13 @@ fn shape(held: &Held, call: &Call) -> Option<u64> {
         Call::AcceptWithCallback { state, .. } => (kept.family, kept.n, Some(state)),
         _ => (kept.family, kept.n, None),
     };
-    if !(1..=6).contains(&family) {
+    if !(1..=7).contains(&family) {
         return Some(1);
     }
     if n == 0 || n > 512 {
         return Some(2);
     }
-    let fits = held.area.len() as u64 == VECTORS * n;
+    let fits = held.area.len() as u64 == vectors_of(family) * n;
     (!fits || brought.is_some_and(|values| values.len() as u64 != n)).then_some(3)
 }
 
@@ -247,6 +257,8 @@ fn listed(doubles: &Doubles) -> Vec<f64> {
         first_previous_two,
         second_previous,
         second_previous_two,
+        gain,
+        previous_accepted_step,
     } = *doubles;
     vec![
         time,
@@ -268,6 +280,8 @@ fn listed(doubles: &Doubles) -> Vec<f64> {
         first_previous_two,
         second_previous,
         second_previous_two,
+        gain,
+        previous_accepted_step,
     ]
 }
 
@@ -344,6 +358,13 @@ fn at_time(record: Record, phase: u64, time: f64) -> Record {
     after
 }
 
+/// With the history marked absent; the step stands.
+fn without_history(record: Record) -> Record {
+    let mut after = record;
+    after.wholes.history = 0;
+    after
+}
+
 /// At a pass of the power iteration: r is known once the passes end, and 0 before.
 fn at_pass(record: Record, pass: u64, perturbation: f64, previous_radius: f64) -> Record {
     let mut after = record;
@@ -363,6 +384,8 @@ fn with_stages(record: Record, other: &Record) -> Record {
     after.wholes.phase = wholes.phase;
     after.wholes.adaptive = wholes.adaptive;
     after.wholes.pass = wholes.pass;
+    after.wholes.history = wholes.history;
+    after.doubles.previous_accepted_step = doubles.previous_accepted_step;
     after.doubles.time = doubles.time;
     after.doubles.step = doubles.step;
     after.doubles.absolute_tolerance = doubles.absolute_tolerance;
@@ -371,6 +394,16 @@ fn with_stages(record: Record, other: &Record) -> Record {
     after.doubles.previous_radius = doubles.previous_radius;
     after.doubles.scaled_radius = doubles.scaled_radius;
     after
+}
+
+/// What a record and an area hold of a history; none in a family that keeps none.
+pub fn history_in(record: &Record, area: &[f64]) -> Option<History> {
+    let (wholes, n) = (record.wholes, record.wholes.n as usize);
+    let kept = wholes.family == TSRKC2 && wholes.history != 0;
+    kept.then(|| History {
+        step: record.doubles.previous_accepted_step,
+        state: area[vector::OLDER_STATE * n..(vector::OLDER_STATE + 1) * n].to_vec(),
+    })
 }
 
 impl Settled {
@@ -398,13 +431,14 @@ impl Settled {
         self.area.copy_within(from * n..(from + 1) * n, to * n);
     }
 
-    /// The area as part of an attempt leaves it, and what that part gives.
+    /// The area as part of an attempt leaves it, and what that part gives. The older state stands in every part.
     fn by_definition<T>(&mut self, record: &Record, part: impl Fn(&mut Stated) -> T) -> T {
         let n = record.wholes.n as usize;
         let vectors = array::from_fn(|vector| self.vector(vector, n));
-        let mut stated = Stated::with_vectors(record.wholes.family, vectors);
+        let history = history_in(record, &self.area);
+        let mut stated = Stated::with_vectors(record.wholes.family, vectors, history);
         let given = part(&mut stated);
-        self.area = stated.vectors().concat();
+        self.area[..VECTORS * n].copy_from_slice(&stated.vectors().concat());
         given
     }
 }
@@ -417,7 +451,7 @@ fn settled(held: &Held, call: &Call, given: &Given) -> Settled {
     match *call {
         Call::Start(start) => {
             s.answer = Some(evaluate(vector::STATE, start.time));
-            let mut after = at_time(record, phase::FIRST, start.time);
+            let mut after = without_history(at_time(record, phase::FIRST, start.time));
             after.wholes.family = start.family;
             after.wholes.n = start.n;
             s.record = after;
@@ -425,24 +459,32 @@ fn settled(held: &Held, call: &Call, given: &Given) -> Settled {
             s.put(vector::EIGENVECTOR, &vec![0.0; start.n as usize]);
         }
         Call::Attempt(arguments) => settle_attempt(&mut s, record, arguments),
-        Call::Accept => {
-            s.answer = Some(without_values(code::READY));
-            s.record = with_phase(record, phase::READY);
-            s.copy(vector::LAST_DERIVATIVE, vector::FIRST_DERIVATIVE, n);
-            s.copy(vector::CANDIDATE, vector::STATE, n);
-        }
+        Call::Accept => settle_accept(&mut s, record, n),
         Call::AcceptWithCallback { state, time } => {
             s.answer = Some(evaluate(vector::STATE, time));
-            s.record = at_time(record, phase::CALLBACK, time);
+            s.record = without_history(at_time(record, phase::CALLBACK, time));
             s.put(vector::STATE, state);
         }
         Call::Abandon => {
             s.answer = Some(without_values(code::EMPTY));
-            s.record = with_phase(record, phase::EMPTY);
+            s.record = without_history(with_phase(record, phase::EMPTY));
         }
         Call::Reply { derivative } => settle_reply(&mut s, record, derivative, given),
     }
     s
+}
+
+/// In TSRKC2 the kept state and the step are the history.
+fn settle_accept(s: &mut Settled, record: Record, n: usize) {
+    s.answer = Some(without_values(code::READY));
+    s.record = with_phase(record, phase::READY);
+    if record.wholes.family == TSRKC2 {
+        s.record.wholes.history = 1;
+        s.record.doubles.previous_accepted_step = record.doubles.step;
+        s.copy(vector::STATE, vector::OLDER_STATE, n);
+    }
+    s.copy(vector::LAST_DERIVATIVE, vector::FIRST_DERIVATIVE, n);
+    s.copy(vector::CANDIDATE, vector::STATE, n);
 }
 
 fn settle_attempt(s: &mut Settled, record: Record, arguments: Arguments) {
@@ -499,7 +541,8 @@ fn settle_candidate(s: &mut Settled, record: Record) {
     s.counters.finished_attempts += 1;
 }
 
-/// On to the next pass, or to stage 2.
+/// On to the next pass, or to stage 2, or turned away with 11: "the iteration's work kept, the reply counted, the phase empty
+/// and all else standing".
 fn settle_pass(s: &mut Settled, record: Record, given: &Given) {
     let n = record.wholes.n as usize;
     let (pass, doubles) = (record.wholes.pass, record.doubles);
@@ -513,9 +556,14 @@ fn settle_pass(s: &mut Settled, record: Record, given: &Given) {
         return;
     }
     let scaled_radius = scaled(step, radius);
+    let Some(stages) = count_for(record.wholes.family, scaled_radius, quotient_in(&record)) else {
+        s.answer = Some(refused(11));
+        s.record = with_phase(record, phase::EMPTY);
+        return;
+    };
     let mut begun = with_stages(record, &given.outcome.record);
     begun.wholes.phase = phase::STAGE;
-    begun.wholes.stages = stages_for(record.wholes.family, scaled_radius);
+    begun.wholes.stages = stages;
     begun.wholes.stage = 2;
     begun.doubles.scaled_radius = scaled_radius;
     s.record = begun;
@@ -525,8 +573,15 @@ fn settle_pass(s: &mut Settled, record: Record, given: &Given) {
     s.open = &[vector::PREVIOUS_ONE];
 }
 
+/// q of the attempt that a record is in.
+fn quotient_in(record: &Record) -> f64 {
+    let doubles = &record.doubles;
+    let previous = (record.wholes.history != 0).then_some(doubles.previous_accepted_step);
+    quotient(previous, doubles.step)
+}
+
 /// On to the next stage with the exchange, or to the candidate, which is turned away with 10 where it is not finite. It is
-/// the last stage, but in RKMC2 made from it and others.
+/// the last stage, but in RKMC2 made from it and others, and in TSRKC2 from it and the older state.
 fn settle_stage(s: &mut Settled, record: Record, given: &Given, n: usize) {
     let (time, step) = (record.doubles.time, record.doubles.step);
     if record.wholes.stage < record.wholes.stages {
@@ -546,6 +601,7 @@ fn settle_stage(s: &mut Settled, record: Record, given: &Given, n: usize) {
     s.put(vector::NEXT_STAGE, last);
     let candidate = match record.wholes.family {
         RKMC2 => combination(&record, &s.area, n),
+        TSRKC2 => with_older(&record, &s.area, n),
         _ => last.to_vec(),
     };
     s.put(vector::CANDIDATE, &candidate);
@@ -579,6 +635,17 @@ fn combination(record: &Record, area: &[f64], n: usize) -> Vec<f64> {
         vector::FIRST_DERIVATIVE,
     ];
     let entry = |i: usize| combination.entry(from.map(|of| area[of * n + i]));
+    (0..n).map(entry).collect()
+}
+
+/// TSRKC2's candidate, from the gain that the record carries. Without a history the older state is the state.
+fn with_older(record: &Record, area: &[f64], n: usize) -> Vec<f64> {
+    let older = match record.wholes.history {
+        0 => vector::STATE,
+        _ => vector::OLDER_STATE,
+    };
+    let gain = record.doubles.gain;
+    let entry = |i: usize| mixed_in(gain, [older, vector::NEXT_STAGE].map(|of| area[of * n + i]));
     (0..n).map(entry).collect()
 }
 
@@ -621,16 +688,16 @@ pub fn check(held: &Held, call: &Call, given: &Given) -> Result<(), String> {
 }
 
 fn check_area(s: &Settled, given: &Given) -> Result<(), String> {
-    let n = given.area.len() / VECTORS as usize;
+    let n = s.record.wholes.n as usize;
     if s.open.is_empty() || n == 0 {
         let same = all_same(&s.area, given.area);
         return same
             .then_some(())
             .ok_or_else(|| "the area changed".to_string());
     }
-    for vector in 0..VECTORS as usize {
+    for (vector, expected) in s.area.chunks(n).enumerate() {
         let range = vector * n..(vector + 1) * n;
-        if !s.open.contains(&vector) && !all_same(&s.area[range.clone()], &given.area[range]) {
+        if !s.open.contains(&vector) && !all_same(expected, &given.area[range]) {
             return Err(format!("vector {vector} is not as expected"));
         }
     }

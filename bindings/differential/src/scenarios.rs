@@ -1,14 +1,15 @@
 //! Seeded scenarios: the stage counts and pass counts one by one, and random sessions of starts, attempts, rejections,
-//! accepts, callbacks and failures. [`crate::hot`] has those in which the Rust does not count. Here stands also what all of
-//! them reach.
+//! accepts, callbacks and failures. [`crate::hot`] has those in which the Rust does not count, [`crate::history`] those of
+//! TSRKC2's history. Here stands also what all of them reach.
+use crate::history;
 use crate::hot::{Placement, SENSORS, is_hot};
 use crate::model::{Bad, Model, Replies};
 use crate::other::Cause;
-use crate::pair::{Ending, Pair, SHORT, Stop};
+use crate::pair::{Ending, Pair, ROOM, SHORT, Stop};
 use crate::random::{Random, mixed};
 use crate::trace::Trace;
-use oracle::{Arguments, Figures, RKC};
-use stabilized::calls::{VECTORS, Wholes, phase, vector};
+use oracle::{Arguments, Figures, RKC, TSRKC2};
+use stabilized::calls::{Wholes, phase, vector};
 use std::collections::BTreeMap;
 use std::fmt::{Display, Formatter};
 
@@ -98,13 +99,22 @@ pub fn wanted_of_hot() -> impl Iterator<Item = &'static str> {
 }
 
 /// How attempts of every family end in every run.
-pub const ENDINGS: [&str; 5] = [
+const ENDINGS: [&str; 5] = [
     "finished attempts",
     "ended with 9",
     "ended with 10",
     "abandoned",
     "left for a start in the middle",
 ];
+
+/// What an attempt is counted as that needs too many stages. TSRKC2 alone is turned away there.
+pub const TOO_MANY: &str = "ended with 11";
+
+/// How attempts of a family end in every run.
+pub fn endings_of(family: u64) -> impl Iterator<Item = &'static str> {
+    let own = (family == TSRKC2).then_some(TOO_MANY);
+    ENDINGS.into_iter().chain(own)
+}
 
 /// The endings that can be at every evaluation, and where they are wanted in every family.
 pub const EARLY: [&str; 3] = [
@@ -152,6 +162,10 @@ pub struct Coverage {
     pub endings: BTreeMap<(u64, &'static str), u64>,
     /// Attempts that were compared with the Rust and ended early, by family, ending and place.
     pub early: BTreeMap<(u64, &'static str, &'static str), u64>,
+    /// TSRKC2's attempts that were compared with the Rust, by the kind of their q and their ending.
+    pub quotients: BTreeMap<(&'static str, &'static str), u64>,
+    /// Those that were finished with a history, by stages.
+    pub with_history: BTreeMap<u64, u64>,
     /// By dimension.
     pub dimensions: BTreeMap<usize, u64>,
     /// Calls that a record kept s, k and r of a finished attempt through, by name and number.
@@ -174,7 +188,9 @@ impl Coverage {
             .filter(|n| !self.dimensions.contains_key(n))
             .map(|n| format!("n = {n}"));
         let kept = self.kept_missing();
+        let histories = families.contains(&TSRKC2).then(|| history::missing(self));
         of_families
+            .chain(histories.into_iter().flatten())
             .chain(kinds)
             .chain(dimensions)
             .chain(kept)
@@ -232,8 +248,7 @@ impl Coverage {
             FINISHED_WITH_THE_RUST,
             FINISHED_BY_THE_DEFINITION,
         ];
-        let endings = ENDINGS
-            .into_iter()
+        let endings = endings_of(family)
             .chain(compared)
             .chain((family != RKC).then_some(RADIUS_INFINITE))
             .filter(|ending| !self.endings.contains_key(&(family, ending)))
@@ -295,6 +310,7 @@ impl Coverage {
         }
         if let Some(name) = named(ending) {
             self.ended(pair, name);
+            history::count(self, pair, arguments, name);
         }
         if let Ending::Finished(figures) = *ending {
             self.finish(pair, arguments, figures);
@@ -360,14 +376,18 @@ fn named(ending: &Ending) -> Option<&'static str> {
         Ending::Finished(_) => Some("finished attempts"),
         Ending::BadDerivative => Some("ended with 9"),
         Ending::BadCandidate => Some("ended with 10"),
+        Ending::TooManyStages => Some(TOO_MANY),
         Ending::Abandoned => Some("abandoned"),
         Ending::Pending => Some("left for a start in the middle"),
         Ending::Ready => None,
     }
 }
 
-/// An r for which the Rust gives this count: the middle of those below the next count.
+/// An r for which the Rust gives this count, without a history: the middle of those below the next count.
 fn radius_for(family: u64, stages: usize) -> f64 {
+    if family == TSRKC2 {
+        return oracle::radius_for(stages);
+    }
     let first_at_least = |count: usize| {
         let (mut low, mut high) = (0.0, 1.0e6);
         for _ in 0..80 {
@@ -473,8 +493,8 @@ impl Counted {
         coverage: &mut Coverage,
     ) -> Result<Ending, String> {
         let random = &mut Random::new(self.seed(seed));
-        let area = vec![0.0; VECTORS * self.n];
-        let mut pair = Pair::new(self.n, area, true, random.draw());
+        let room = vec![0.0; ROOM * self.n];
+        let mut pair = Pair::new(self.n, room, true, random.draw());
         pair.write_down(&mut coverage.trace);
         let arguments = Arguments {
             time: random.between(-2.0, 2.0),
@@ -686,7 +706,7 @@ pub fn session(
     let dimensions: Vec<usize> = DIMENSIONS.into_iter().filter(|n| *n <= largest).collect();
     let n = random.pick(&dimensions);
     let garbage = random.chance(40);
-    let area: Vec<f64> = (0..VECTORS * n)
+    let room: Vec<f64> = (0..ROOM * n)
         .map(|_| if garbage { random.any_double() } else { 0.0 })
         .collect();
     let strict = !garbage || random.chance(50);
@@ -695,7 +715,7 @@ pub fn session(
     } else {
         "areas of zeros"
     });
-    let mut pair = Pair::new(n, area, strict, random.draw());
+    let mut pair = Pair::new(n, room, strict, random.draw());
     pair.write_down(&mut coverage.trace);
     let result = starts(&mut pair, random, wild, families, coverage);
     coverage.scenario(pair);

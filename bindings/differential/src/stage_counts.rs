@@ -1,12 +1,14 @@
 //! The stage counts of the test build, before anything is run on them. In RKC, RKL and RKMC2 they are those of the checkout. In
-//! RKG they are those that [`crate::stated`] has from document 02, CR 5, change at the reaches that it has, and are never more
-//! than the checkout's; told and compared with what is named here are the smallest r at which the two builds differ, and the
-//! stages that are saved. The stored counts are the test build's.
+//! TSRKC2, whose count depends on q too, they are those that [`crate::stated`] has. In RKG they are those that it has from
+//! document 02, CR 5, change at the reaches that it has, and are never more than the checkout's; told and compared with what is
+//! named here are the smallest r at which the two builds differ, and the stages that are saved. The stored counts are the test
+//! build's.
 use crate::build::{Departure, stored_thresholds};
-use crate::stated::stages_for;
+use crate::random::Random;
+use crate::stated::{stages_for, two_step_stages};
 use oracle::checkout::{self, LEAST_UP_TO, SHOWN, first_difference};
 use oracle::radii::{around, radii, reach};
-use oracle::{FAMILIES, RKG, RKMC2, name, overflows, permitted, stages, stored_counts};
+use oracle::{BY_RADIUS, RKG, RKMC2, name, overflows, permitted, stages, stored_counts};
 use std::path::Path;
 
 /// What is known of RKG1 and of RKG2.
@@ -37,7 +39,7 @@ const KNOWN: [Known; 2] = [
 /// Makes every comparison, and tells what was compared.
 pub fn compare(departures: &[Departure]) -> Result<(), String> {
     let radii = all_radii();
-    for family in FAMILIES.into_iter().filter(|family| !RKG.contains(family)) {
+    for family in BY_RADIUS.into_iter().filter(|family| !RKG.contains(family)) {
         as_in_the_checkout(family, &radii)?;
     }
     for family in RKG {
@@ -49,7 +51,47 @@ pub fn compare(departures: &[Departure]) -> Result<(), String> {
         radii.len()
     );
     KNOWN.iter().try_for_each(Known::compare)?;
+    two_step(&radii)?;
     as_stored(departures)
+}
+
+/// q that TSRKC2's counts are compared with: ordinary ones, the ends of the doubles, where the rule's bracket is rounded away,
+/// and any.
+fn quotients() -> Vec<f64> {
+    let mut all = vec![0.0, 0.5, 1.0, 2.0, 10.0, 1e3, 1e-3, 1e-300, 5e-324];
+    all.extend([1e154, 1.35e154, 1e300, f64::MAX, f64::INFINITY, f64::NAN]);
+    all.extend((48..56).flat_map(|e| [1.0, 1.000_000_1].map(|x| x * 2.0_f64.powi(e))));
+    let mut random = Random::new(1);
+    all.extend((0..40).map(|_| random.magnitude(-3.0, 3.0)));
+    all.extend((0..10).map(|_| random.any_double()));
+    let negatives: Vec<f64> = all.iter().map(|q| -q).collect();
+    all.extend(negatives);
+    all
+}
+
+/// That the Rust's count of TSRKC2 is as stated, or above 1000, or not there for an overflow, where no count is stated.
+fn two_step(radii: &[f64]) -> Result<(), String> {
+    let (quotients, mut too_many) = (quotients(), 0);
+    let radii: Vec<f64> = radii.iter().copied().step_by(7).collect();
+    for &q in &quotients {
+        for &radius in &radii {
+            let rust = oracle::two_step_stages(radius, Some(q));
+            let within = rust.filter(|stages| *stages <= 1000);
+            let stated = two_step_stages(radius, q);
+            if within.map(|stages| stages as u64) != stated {
+                return Err(format!(
+                    "TSRKC2 at r = {radius:e}, q = {q:e}: {rust:?} stages in the Rust, stated {stated:?}"
+                ));
+            }
+            too_many += usize::from(stated.is_none());
+        }
+    }
+    println!(
+        "TSRKC2's stage counts on {} radii with {} q: the Rust's as stated; {too_many} of them are above 1000",
+        radii.len(),
+        quotients.len()
+    );
+    Ok(())
 }
 
 /// That the stored counts are those of the test build. Their radii are drawn by RKMC2's thresholds.

@@ -1,11 +1,13 @@
 //! The definition of an attempt and of the calls around it, stated anew from documents 01 and 02 in plain doubles. Of the Rust
-//! it takes the coefficients of the rows, the order of the operations in a row and in RKMC2's candidate, and the stage counts
-//! of RKC and RKL, which are no matter of norms. RKG's counts are by the formulas of document 02, CR 5, which the checkout does
-//! not have; RKMC2's are by the stored thresholds. Where a norm of the Rust is infinite (CR 4), or its count overflows, this
-//! alone says what is right; where not, it is held against the Rust too.
+//! it takes the coefficients of the rows, with TSRKC2's gain, the order of the operations in a row, in RKMC2's candidate and in
+//! TSRKC2's, TSRKC2's stage formula, and the stage counts of RKC and RKL, which are no matter of norms. RKG's counts are by the
+//! formulas of document 02, CR 5, which the checkout does not have; RKMC2's are by the stored thresholds. Where a norm of the
+//! Rust is infinite (CR 4), or its count overflows, this alone says what is right; where not, it is held against the Rust too.
 use crate::build::stored_thresholds;
 use oracle::thresholds::count_by;
-use oracle::{Arguments, Figures, RKC, RKMC2, RightHandSide, Row, Rows, SolveError};
+use oracle::{
+    Arguments, Figures, History, RKC, RKMC2, RightHandSide, Row, Rows, SolveError, TSRKC2,
+};
 use stabilized::calls::{VECTORS, vector};
 use std::cell::RefCell;
 use std::collections::BTreeMap;
@@ -78,8 +80,8 @@ fn rkg_stages(family: u64, scaled_radius: f64) -> usize {
     (number as usize).clamp(least, 200)
 }
 
-/// The count for r: RKG's by its formulas, RKMC2's by the thresholds, 200 where the Rust's overflows in RKC, and else the
-/// Rust's.
+/// The count for r in families 1 to 6: RKG's by its formulas, RKMC2's by the thresholds, 200 where the Rust's overflows in RKC,
+/// and else the Rust's.
 pub fn stages_for(family: u64, scaled_radius: f64) -> u64 {
     if oracle::overflows(family, scaled_radius) {
         return 200;
@@ -90,6 +92,33 @@ pub fn stages_for(family: u64, scaled_radius: f64) -> u64 {
         _ => oracle::stages(family, scaled_radius),
     };
     stages as u64
+}
+
+/// TSRKC2's: "The saturating cast, plus 1 without overflow", and at least 2. Nothing "when family 7 would need more than 1000
+/// stages". r is not limited below by 0, and a NaN is cast to 0.
+pub fn two_step_stages(scaled_radius: f64, q: f64) -> Option<u64> {
+    let bracket = 1.0 - q + (1.0 + q * (q - 0.598_626_091_572_911)).sqrt();
+    let root = (1.0 + 0.759_782_816_506_459 * scaled_radius * bracket).sqrt();
+    let number = (root.floor() as u64).saturating_add(1);
+    (number <= 1000).then_some(number.max(2))
+}
+
+/// The count for r and q; nothing where TSRKC2 would need too many.
+pub fn count_for(family: u64, scaled_radius: f64, q: f64) -> Option<u64> {
+    match family {
+        TSRKC2 => two_step_stages(scaled_radius, q),
+        _ => Some(stages_for(family, scaled_radius)),
+    }
+}
+
+/// "q is the last accepted step over the present one, or 0 without history."
+pub fn quotient(previous_step: Option<f64>, step: f64) -> f64 {
+    previous_step.map_or(0.0, |previous| previous / step)
+}
+
+/// An entry of TSRKC2's candidate, from those of the older state and of the last stage.
+pub fn mixed_in(gain: f64, [older, last]: [f64; 2]) -> f64 {
+    (1.0 - gain) * older + gain * last
 }
 
 thread_local! {
@@ -130,6 +159,7 @@ fn next_stage(family: u64, step: f64, row: &Row, at: [f64; 5]) -> f64 {
                 + nu * previous_two
                 + step * mu_tilde * (derivative - gamma_tilde * first)
         }
+        TSRKC2 => mu * previous + nu * previous_two + step * mu_tilde * derivative,
         _ => {
             mu * previous
                 + nu * previous_two
@@ -189,27 +219,39 @@ fn error(family: u64, step: f64, [initial, last_stage, first, last]: [f64; 4]) -
     match family {
         RKC => (4.0 * (initial - last_stage) + 2.0 * step * (first + last)) / 5.0,
         RKMC2 => (initial - last_stage + step * last) / 10.0,
+        TSRKC2 => (initial - last_stage + step * last) / 3.0,
         _ => last_stage - (initial + step * first),
     }
 }
 
-/// The eleven vectors, and the calls on them. As in the Rust a call has its right-hand side, and a derivative is written
-/// before it is tested.
+/// The eleven vectors, TSRKC2's history, and the calls on them. As in the Rust a call has its right-hand side, and a
+/// derivative is written before it is tested.
 #[derive(Clone)]
 pub struct Stated {
     family: u64,
     vectors: [Vec<f64>; VECTORS],
+    history: Option<History>,
     evaluations: u64,
 }
 
 impl Stated {
-    /// With vectors as they stand, in the order of the area.
-    pub fn with_vectors(family: u64, vectors: [&[f64]; VECTORS]) -> Self {
+    /// With vectors as they stand, in the order of the area, and a history.
+    pub fn with_vectors(family: u64, vectors: [&[f64]; VECTORS], history: Option<History>) -> Self {
         Self {
             family,
             vectors: vectors.map(<[f64]>::to_vec),
+            history,
             evaluations: 0,
         }
+    }
+
+    pub fn history(&self) -> Option<History> {
+        self.history.clone()
+    }
+
+    /// q of a step.
+    fn quotient(&self, step: f64) -> f64 {
+        quotient(self.history.as_ref().map(|kept| kept.step), step)
     }
 
     pub fn vectors(&self) -> [&[f64]; VECTORS] {
@@ -221,7 +263,7 @@ impl Stated {
         self.evaluations
     }
 
-    /// Start: the state is kept, the eigenvector zeroed, and the first derivative evaluated.
+    /// Start: the state is kept, the eigenvector zeroed, the history marked absent, and the first derivative evaluated.
     pub fn initialize<F: RightHandSide + ?Sized>(
         &mut self,
         state: &[f64],
@@ -230,10 +272,12 @@ impl Stated {
     ) -> Result<(), SolveError> {
         self.vectors[vector::STATE].copy_from_slice(state);
         self.vectors[vector::EIGENVECTOR].fill(0.0);
+        self.history = None;
         self.evaluate(vector::STATE, vector::FIRST_DERIVATIVE, time, rhs)
     }
 
-    /// "It runs k passes, stages 2 to s, then evaluates the candidate at time + step."
+    /// "It runs k passes, stages 2 to s, then evaluates the candidate at time + step." Where TSRKC2 would need too many stages,
+    /// it ends after the passes.
     pub fn attempt<F: RightHandSide + ?Sized>(
         &mut self,
         arguments: Arguments,
@@ -242,8 +286,9 @@ impl Stated {
         let Arguments { time, step, .. } = arguments;
         let (passes, radius) = self.power_iteration(time, rhs)?;
         let scaled_radius = scaled(step, radius);
-        let stages = stages_for(self.family, scaled_radius);
-        self.stages(&rows(self.family, stages), time, step, rhs)?;
+        let stages = self.count_for(scaled_radius, step)?;
+        let rows = self.rows(stages, scaled_radius, step);
+        self.stages(&rows, time, step, rhs)?;
         self.all_finite(vector::CANDIDATE)?;
         let end = time + step;
         self.evaluate(vector::CANDIDATE, vector::LAST_DERIVATIVE, end, rhs)?;
@@ -262,16 +307,41 @@ impl Stated {
         rhs: &F,
     ) -> Result<u64, SolveError> {
         let (passes, radius) = self.clone().power_iteration(arguments.time, rhs)?;
-        Ok(passes + stages_for(self.family, scaled(arguments.step, radius)))
+        let step = arguments.step;
+        Ok(passes + self.count_for(scaled(step, radius), step)?)
     }
 
-    /// Without a callback: "the last derivative becomes the first, the candidate becomes the kept state".
-    pub fn accept(&mut self) {
+    fn count_for(&self, scaled_radius: f64, step: f64) -> Result<u64, SolveError> {
+        let count = count_for(self.family, scaled_radius, self.quotient(step));
+        count.ok_or(SolveError::TooManyStages)
+    }
+
+    /// The coefficients of an attempt: TSRKC2's depend on q too.
+    fn rows(&self, stages: u64, scaled_radius: f64, step: f64) -> Rc<Rows> {
+        if self.family != TSRKC2 {
+            return rows(self.family, stages);
+        }
+        let q = self.history.as_ref().map(|_| self.quotient(step));
+        let rows = oracle::two_step_rows(scaled_radius, q);
+        assert_eq!(
+            rows.stages as u64, stages,
+            "stages for {scaled_radius}, {q:?}"
+        );
+        Rc::new(rows)
+    }
+
+    /// Without a callback: "the last derivative becomes the first, the candidate becomes the kept state". In TSRKC2 the kept
+    /// state before that and the step of the finished attempt are the history.
+    pub fn accept(&mut self, step: f64) {
+        if self.family == TSRKC2 {
+            let state = self.vectors[vector::STATE].clone();
+            self.history = Some(History { step, state });
+        }
         self.copy(vector::LAST_DERIVATIVE, vector::FIRST_DERIVATIVE);
         self.copy(vector::CANDIDATE, vector::STATE);
     }
 
-    /// With one: "that state is kept and evaluated, then the eigenvector is zeroed".
+    /// With one: "that state is kept and evaluated, then the eigenvector is zeroed". The history is marked absent at the call.
     pub fn accept_with_callback<F: RightHandSide + ?Sized>(
         &mut self,
         state: &[f64],
@@ -279,6 +349,7 @@ impl Stated {
         rhs: &F,
     ) -> Result<(), SolveError> {
         self.vectors[vector::STATE].copy_from_slice(state);
+        self.history = None;
         self.evaluate(vector::STATE, vector::FIRST_DERIVATIVE, time, rhs)?;
         self.vectors[vector::EIGENVECTOR].fill(0.0);
         Ok(())
@@ -384,12 +455,25 @@ impl Stated {
         });
     }
 
-    /// The last stage; in RKMC2 made from it and others.
+    /// The last stage; in RKMC2 made from it and others, in TSRKC2 from it and the older state.
     fn candidate(&mut self, rows: &Rows, step: f64) {
-        if self.family != RKMC2 {
-            return self.copy(vector::NEXT_STAGE, vector::CANDIDATE);
+        match self.family {
+            RKMC2 => self.combined(&Combination::of_rows(rows, step)),
+            TSRKC2 => self.with_older(rows.two_step.expect("TSRKC2's gain").gain),
+            _ => self.copy(vector::NEXT_STAGE, vector::CANDIDATE),
         }
-        let combination = Combination::of_rows(rows, step);
+    }
+
+    /// "Without history the previous state is the state itself."
+    fn with_older(&mut self, gain: f64) {
+        let [state, last] = [vector::STATE, vector::NEXT_STAGE].map(|of| &self.vectors[of]);
+        let older = self.history.as_ref().map_or(state, |kept| &kept.state);
+        let entries = older.iter().zip(last);
+        let candidate = entries.map(|(&older, &last)| mixed_in(gain, [older, last]));
+        self.vectors[vector::CANDIDATE] = candidate.collect();
+    }
+
+    fn combined(&mut self, combination: &Combination) {
         let from = [
             vector::STATE,
             vector::NEXT_STAGE,
@@ -423,7 +507,7 @@ impl Stated {
         let scaled: Vec<f64> = errors.iter().zip(tolerances).map(|(e, t)| e / t).collect();
         let norm = root_of_squares(scaled.len() as f64, &scaled);
         match family {
-            RKC | RKMC2 => norm,
+            RKC | RKMC2 | TSRKC2 => norm,
             _ => norm / stages as f64,
         }
     }

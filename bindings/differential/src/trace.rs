@@ -1,11 +1,12 @@
 //! Calls and what they left, written down as words for the program `replay`, whose src/trace.rt has the layout.
 use crate::refusals::{Call, Given, Held, Kept};
-use stabilized::calls::{Answer, Counters, VECTORS, code};
+use stabilized::calls::{Answer, Counters, code};
 
 /// What is written so far.
 #[derive(Default)]
 pub struct Trace {
     pub words: Vec<u64>,
+    n: usize,
 }
 
 /// A double's bits; one pattern for every NaN.
@@ -46,33 +47,35 @@ impl Trace {
 
     /// The vectors that are not as before, and the record's s, k and r if they are not.
     fn left(&mut self, before: &[f64], after: &[f64], kept: Option<[u64; 3]>) {
-        let n = after.len() / VECTORS;
-        let changed: Vec<usize> = (0..VECTORS)
-            .filter(|vector| {
-                let entries = vector * n..(vector + 1) * n;
-                entries
-                    .into_iter()
-                    .any(|i| bits(before[i]) != bits(after[i]))
-            })
-            .collect();
-        let vectors: u64 = changed.iter().map(|vector| 1 << vector).sum();
+        let both = before.chunks(self.n).zip(after.chunks(self.n));
+        let differ = |(before, after): (&[f64], &[f64])| {
+            let mut entries = before.iter().zip(after);
+            entries.any(|(before, after)| bits(*before) != bits(*after))
+        };
+        let changed: Vec<bool> = both.map(differ).collect();
+        let vectors = changed.iter().enumerate();
+        let vectors: u64 = vectors.map(|(at, changed)| u64::from(*changed) << at).sum();
         self.words.push(vectors + kept.map_or(0, |_| KEPT));
-        for vector in changed {
-            self.doubles(&after[vector * n..(vector + 1) * n]);
+        for (vector, _) in after
+            .chunks(self.n)
+            .zip(changed)
+            .filter(|(_, changed)| *changed)
+        {
+            self.doubles(vector);
         }
         self.words.extend(kept.into_iter().flatten());
     }
 
-    /// A session begins, with the default record, which holds zeros.
-    pub fn begin(&mut self, counters: &Counters, area: &[f64]) {
-        let n = area.len() / VECTORS;
+    /// A session begins, with the default record, which holds zeros, and the room that its areas are part of.
+    pub fn begin(&mut self, n: usize, counters: &Counters, room: &[f64]) {
+        self.n = n;
         self.words.extend([
             0,
             n as u64,
             counters.evaluations,
             counters.finished_attempts,
         ]);
-        self.left(&vec![0.0; area.len()], area, None);
+        self.left(&vec![0.0; room.len()], room, None);
     }
 
     /// A call, and what it answered and left.

@@ -2,10 +2,10 @@
 //! driver.rs of a checkout, behind stand-ins for what they lean on. In family.rs the two stage formulas of RKG are replaced by
 //! those of document 02, CR 5 ([`formulas`]); nothing else is changed.
 //!
-//! [`Oracle`] runs `initialize`, `attempt_step` and `accept_step` and shows all eleven vectors, and s, k and r of an attempt.
-//! [`stages`] are the test build's stage counts, [`checkout::stages`] those of the checkout as it stands. [`rows`] reads the
-//! coefficients of a stage, which are locals of the Rust, from a copy with added lines. [`thresholds`] holds RKMC2's stage rule
-//! as the engine has it.
+//! [`Oracle`] runs `initialize`, `attempt_step` and `accept_step` and shows all eleven vectors, TSRKC2's history, and s, k and r
+//! of an attempt. [`stages`] are the test build's stage counts, [`checkout::stages`] those of the checkout as it stands. [`rows`]
+//! reads the coefficients of a stage, which are locals of the Rust, from a copy with added lines, and so does
+//! [`two_step_stages`] the stage count of TSRKC2. [`thresholds`] holds RKMC2's stage rule as the engine has it.
 pub mod checkout;
 pub mod formulas;
 pub mod radii;
@@ -17,10 +17,13 @@ pub mod thresholds;
 mod recorded;
 
 use formulas::{FORMULAS, Formula};
-pub use recorded::{Row, Rows, rows};
+pub use recorded::{
+    Row, Rows, TwoStep, radius_for, rows, two_step_count, two_step_overflows, two_step_rows,
+    two_step_stages,
+};
 pub use shim::SolveError;
 pub(crate) use shim::{OdeFunction, OdeProblem, SolveOptions, SolverStats, integrator};
-pub use test_build::{Arguments, Figures, Iteration, Oracle, RightHandSide, stages};
+pub use test_build::{Arguments, Figures, History, Iteration, Oracle, RightHandSide, stages};
 
 /// The number of RKC.
 pub const RKC: u64 = 1;
@@ -31,8 +34,14 @@ pub const RKG: [u64; 2] = [4, 5];
 /// The number of RKMC2.
 pub const RKMC2: u64 = 6;
 
+/// The number of TSRKC2.
+pub const TSRKC2: u64 = 7;
+
 /// The families, by their numbers.
-pub const FAMILIES: [u64; 6] = [RKC, 2, 3, 4, 5, RKMC2];
+pub const FAMILIES: [u64; 7] = [RKC, 2, 3, 4, 5, RKMC2, TSRKC2];
+
+/// Those whose stage count depends on r alone. TSRKC2's depends on the history too.
+pub const BY_RADIUS: [u64; 6] = [RKC, 2, 3, 4, 5, RKMC2];
 
 /// From this r on the Rust's stage count of RKC overflows: a listed difference.
 pub const RKC_OVERFLOW: f64 = f64::from_bits(0x47E4_C77B_0353_1DEC);
@@ -44,7 +53,7 @@ pub fn overflows(family: u64, scaled_radius: f64) -> bool {
 
 /// A family's name, by its number.
 pub fn name(family: u64) -> &'static str {
-    ["RKC", "RKL1", "RKL2", "RKG1", "RKG2", "RKMC2"][family as usize - 1]
+    ["RKC", "RKL1", "RKL2", "RKG1", "RKG2", "RKMC2", "TSRKC2"][family as usize - 1]
 }
 
 /// The least and the largest stage count that documents 01 and 02 permit to a family.
@@ -54,6 +63,7 @@ pub fn ends(family: u64) -> (usize, usize) {
         2 | 3 => (3, 199),
         5 => (3, 200),
         RKMC2 => (3, 1000),
+        TSRKC2 => (2, 1000),
         _ => panic!("no family {family}"),
     }
 }

@@ -1,5 +1,5 @@
 //! Scaled radii to compare stage counts on: near those at which a count changes, special ones, and random ones.
-use crate::{FAMILIES, RKC, RKC_OVERFLOW, RKMC2, permitted};
+use crate::{BY_RADIUS, RKC, RKC_OVERFLOW, RKMC2, permitted};
 
 /// How far from a radius its neighbors go, in units in the last place.
 const NEIGHBORS: i64 = 8;
@@ -7,7 +7,7 @@ const NEIGHBORS: i64 = 8;
 /// All of them, with these thresholds of RKMC2.
 pub fn radii(thresholds: &[f64]) -> Vec<f64> {
     let mut all = special();
-    for family in FAMILIES {
+    for family in BY_RADIUS {
         if family == RKMC2 {
             all.extend(thresholds.iter().flat_map(|threshold| around(*threshold)));
         } else {

@@ -23,13 +23,15 @@ impl<F, P> OdeProblem<F, P> {
     }
 }
 
-/// The errors that the five files name, and one of ours: the right-hand side asks to stop.
+/// The errors that the five files name, and two of ours: the right-hand side asks to stop, and TSRKC2 would need more than 1000
+/// stages, which the Rust does not limit.
 #[derive(Clone, Copy, Debug, Eq, PartialEq)]
 pub enum SolveError {
     NonFiniteDerivative,
     InvalidTableau,
     InvalidMultistepHistory,
     Stopped,
+    TooManyStages,
 }
 
 #[derive(Clone, Copy, Debug, Default, Eq, PartialEq)]
@@ -129,15 +131,16 @@ macro_rules! carried_families {
                 4 => StabilizedFamily::Rkg1,
                 5 => StabilizedFamily::Rkg2,
                 6 => StabilizedFamily::Rkmc2,
+                7 => StabilizedFamily::Tsrkc2,
                 _ => panic!("no family {number}"),
             }
         }
 
-        /// The stage count that this build gives for a scaled radius.
+        /// The stage count that this build gives for a scaled radius, of a family that has it by that alone.
         pub fn stages(family: u64, scaled_radius: f64) -> usize {
             family_of(family)
                 .stages(scaled_radius)
-                .expect("a family with a stage rule")
+                .expect("a count by the radius alone")
         }
     };
 }

@@ -1,10 +1,10 @@
 //! The stage counts of the test build as crates/counts/data/counts holds them: for each scaled radius its bits in eight bytes,
 //! and then the counts of families 1 to 8 in two bytes each, always the lowest first. A count is 0 where the Rust's sum
-//! overflows, and for a family that is not carried. A radius at which RKMC2's count by thresholds is not the Rust's, a listed
-//! difference, is left out.
+//! overflows, for TSRKC2, whose count depends on the history too, and for a family that is not carried. A radius at which
+//! RKMC2's count by thresholds is not the Rust's, a listed difference, is left out.
 use crate::radii::radii;
 use crate::thresholds::count_by;
-use crate::{FAMILIES, RKMC2, overflows, stages};
+use crate::{BY_RADIUS, RKMC2, overflows, stages};
 
 /// The bytes, with these thresholds of RKMC2, and how many radii they hold and leave out.
 pub fn bytes(thresholds: &[f64]) -> (Vec<u8>, [usize; 2]) {
@@ -24,7 +24,7 @@ fn record(radius: f64) -> Vec<u8> {
 /// By family, 1 to 8.
 fn counts(radius: f64) -> [u16; 8] {
     let mut all = [0; 8];
-    for family in FAMILIES {
+    for family in BY_RADIUS {
         if !overflows(family, radius) {
             let count = stages(family, radius);
             all[family as usize - 1] = u16::try_from(count).expect("a count of two bytes");

@@ -2,7 +2,9 @@
 #![allow(dead_code)]
 
 use crate::integrator::StepKernel;
-use crate::{OdeFunction, OdeProblem, SolveError, SolveOptions, SolverStats};
+use crate::{
+    OdeFunction, OdeProblem, SolveError, SolveOptions, SolverStats, TSRKC2, two_step_stages,
+};
 use family::StabilizedFamily;
 use std::fmt::{Display, Formatter};
 use workspace::StabilizedKernel;
@@ -58,6 +60,13 @@ impl Display for Figures {
     }
 }
 
+/// What TSRKC2 keeps of the last accepted step: the step, and the state before it.
+#[derive(Clone, Debug, PartialEq)]
+pub struct History {
+    pub step: f64,
+    pub state: Vec<f64>,
+}
+
 /// A right-hand side: writes the derivative at a point and time, or stops the attempt with an error.
 pub trait RightHandSide: Fn(&mut [f64], &[f64], f64) -> Result<(), SolveError> {}
 
@@ -103,7 +112,7 @@ impl Oracle {
         }
     }
 
-    /// A kernel whose eleven vectors hold what is given, the eigenvector zeroed.
+    /// A kernel without a history whose eleven vectors hold what is given, the eigenvector zeroed.
     pub fn with_vectors(family: u64, n: usize, area: &[f64]) -> Self {
         let mut oracle = Self::new(family, n);
         for (vector, part) in oracle.vectors_mut().into_iter().zip(area.chunks(n)) {
@@ -215,15 +224,44 @@ impl Oracle {
         })
     }
 
+    /// The stage count that the Rust gives for r and a step; nothing where TSRKC2's sum overflows.
+    fn by_rule(&self, scaled_radius: f64, step: f64) -> Option<usize> {
+        let kernel = &self.kernel;
+        let q = kernel
+            .previous_accepted_step
+            .map(|previous| previous / step);
+        let by_radius = kernel.family.stages(scaled_radius);
+        by_radius.or_else(|| two_step_stages(scaled_radius, q))
+    }
+
+    /// Whether TSRKC2 would need more than its largest count, at which the Rust goes on and the engine does not.
+    pub fn needs_too_many(&self, scaled_radius: f64, step: f64) -> bool {
+        let (_, largest) = crate::ends(TSRKC2);
+        let two_step = self.kernel.family == family_of(TSRKC2);
+        let within = || {
+            self.by_rule(scaled_radius, step)
+                .filter(|count| *count <= largest)
+        };
+        two_step && within().is_none()
+    }
+
     /// `attempt` after `iteration` on the same replies. What it evaluates beside the passes are its stages, stages 2 to s and
     /// the candidate, as many as the Rust's rule gives for r. `attempt_step` writes the eigenvector in the power iteration
-    /// alone, so that the same bits afterwards show the same last pass.
+    /// alone, so that the same bits afterwards show the same last pass. Where TSRKC2 would need too many stages, only the power
+    /// iteration is made.
     pub fn figures<F: RightHandSide + ?Sized>(
         &mut self,
         iteration: &Result<Iteration, SolveError>,
         arguments: Arguments,
         rhs: &F,
     ) -> Result<Figures, SolveError> {
+        if iteration
+            .as_ref()
+            .is_ok_and(|ended| self.needs_too_many(ended.scaled_radius, arguments.step))
+        {
+            self.iterate(arguments, rhs)?;
+            return Err(SolveError::TooManyStages);
+        }
         let before = self.evaluations();
         let norm = self.attempt(arguments, rhs)?;
         let ended = iteration.as_ref();
@@ -236,7 +274,7 @@ impl Oracle {
         let last_pass = bits(&self.kernel.eigenvector);
         assert_eq!(last_pass, bits(eigenvector), "the eigenvector");
         let stages = self.evaluations() - before - passes;
-        let by_rule = self.kernel.family.stages(scaled_radius);
+        let by_rule = self.by_rule(scaled_radius, arguments.step);
         assert_eq!(by_rule, Some(stages as usize), "stages for {scaled_radius}");
         Ok(Figures {
             norm,
@@ -249,6 +287,16 @@ impl Oracle {
     /// Evaluations so far, as the Rust counts them.
     pub fn evaluations(&self) -> u64 {
         self.stats.rhs_evaluations as u64
+    }
+
+    /// What TSRKC2 keeps of the last accepted step. The kernel has either both parts or none.
+    pub fn history(&self) -> Option<History> {
+        let kernel = &self.kernel;
+        let both = kernel
+            .previous_accepted_step
+            .zip(kernel.previous_accepted_state.clone());
+        assert_eq!(both.is_some(), kernel.previous_accepted_step.is_some());
+        both.map(|(step, state)| History { step, state })
     }
 
     /// The nine vectors in the order of workspace.rs, then the state, then the candidate.
@@ -299,6 +347,8 @@ impl Clone for Oracle {
             to.clear();
             to.extend_from_slice(from);
         }
+        copy.kernel.previous_accepted_step = self.kernel.previous_accepted_step;
+        copy.kernel.previous_accepted_state = self.kernel.previous_accepted_state.clone();
         copy
     }
 }

@@ -3,8 +3,16 @@
 //! No call has a precondition: whatever it is handed, it answers, and a call that is turned away says so by its number
 //! (document 01, "When a call is turned away"). The layouts are those of bindings/c/stabilized.h.
 
-/// How many vectors the area holds, each n doubles long.
+/// How many vectors the area of families 1 to 6 holds, each n doubles long. TSRKC2's holds one more, [`vector::OLDER_STATE`].
 pub const VECTORS: usize = 11;
+
+/// The number of TSRKC2, whose area is the larger one.
+pub const TSRKC2: u64 = 7;
+
+/// How many vectors the area of a family holds.
+pub const fn vectors_of(family: u64) -> usize {
+    VECTORS + (family == TSRKC2) as usize
+}
 
 /// The largest n.
 pub const LARGEST: usize = 512;
@@ -17,7 +25,7 @@ pub struct Counters {
 }
 
 /// What the engine keeps in whole numbers. `adaptive` is a no at 0, else a yes; `pass` is the power iteration's, and after it
-/// k; `stages` is s.
+/// k; `stages` is s; `history` is 0 without a history, else there is one.
 #[repr(C)]
 #[derive(Clone, Copy, Debug, Default, Eq, PartialEq)]
 pub struct Wholes {
@@ -28,11 +36,13 @@ pub struct Wholes {
     pub pass: u64,
     pub stages: u64,
     pub stage: u64,
+    pub history: u64,
 }
 
-/// What it keeps in doubles: the attempt's arguments, the power iteration's position, and what the stages carry on: `theta`;
-/// for RKC and RKMC2 also `omega`, `b` and `value`; for RKC alone `first` and `second`, which RKMC2 sets to 0 and carries
-/// along. They stand in the order in which the engine reads them fastest.
+/// What it keeps in doubles: the attempt's arguments, the power iteration's position, what the stages carry on, and with a
+/// history the last accepted step. The stages carry `theta`; RKC's, RKMC2's and TSRKC2's also `omega` and `value`; RKC's and
+/// RKMC2's `b`; RKC's alone `first` and `second`; TSRKC2's alone `gain`. What one of these three does not use, it sets to 0 and
+/// carries along. They stand in the order in which the engine reads them fastest, the last two as they came.
 #[repr(C)]
 #[derive(Clone, Copy, Debug, Default, PartialEq)]
 pub struct Doubles {
@@ -55,6 +65,8 @@ pub struct Doubles {
     pub b_previous_two: f64,
     pub theta_previous_two: f64,
     pub omega_zero: f64,
+    pub gain: f64,
+    pub previous_accepted_step: f64,
 }
 
 /// All that the engine keeps beside the area. The default one is in the empty phase.
@@ -62,7 +74,11 @@ pub struct Doubles {
 /// `stages`, `pass` and `scaled_radius` are s, k and r of a finished answer from that answer until the next attempt that is
 /// taken: accept, a callback or a start with its reply, abandon and every call that is turned away keep them. Such an attempt
 /// sets `pass` to 1 and `scaled_radius` to 0; `stages` stands until its own stages begin. An attempt that is abandoned or turned
-/// away with 9 or 10 leaves the three as they stood at that call; they are then not those of a finished answer.
+/// away with 9, 10 or 11 leaves the three as they stood at that call; they are then not those of a finished answer.
+///
+/// TSRKC2 has a history from an accept on: `previous_accepted_step` is then the step that was accepted, and the area's last
+/// vector the state before it. A start, an accept with a callback and an abandon end it, in every family, and let step and vector
+/// stand.
 #[repr(C)]
 #[derive(Clone, Copy, Debug, Default, PartialEq)]
 pub struct Record {
@@ -104,6 +120,8 @@ pub mod vector {
     pub const PERTURBED_DERIVATIVE: usize = 8;
     pub const STATE: usize = 9;
     pub const CANDIDATE: usize = 10;
+    /// In TSRKC2's area alone.
+    pub const OLDER_STATE: usize = 11;
 }
 
 /// An answer: evaluate (vector `number` at `time`), finished (with `norm`, `stages`, `passes` and `scaled_radius`, which are

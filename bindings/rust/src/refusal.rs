@@ -4,7 +4,7 @@ use std::fmt::{Display, Formatter, Result};
 /// The causes, each with its number and what it says: the one list of them.
 macro_rules! causes {
     ($($cause:ident = $number:literal, $text:literal;)+) => {
-        /// Why a call was turned away, by document 01's numbers.
+        /// Why a call was turned away, by the numbers of documents 01 and 02.
         #[derive(Clone, Copy, Debug, Eq, PartialEq)]
         pub enum Refusal {
             $(#[doc = $text] $cause = $number,)+
@@ -24,9 +24,9 @@ macro_rules! causes {
 }
 
 causes! {
-    Family = 1, "the family is not carried: not one of 1 to 6";
+    Family = 1, "the family is not carried: not one of 1 to 7";
     Dimension = 2, "the dimension is not one of 1 to 512";
-    Length = 3, "the area is not 11 vectors long, or a vector has another dimension";
+    Length = 3, "the area is not 11 vectors long, TSRKC2's not 12, or a vector has another dimension";
     Phase = 4,
         "called out of turn: an attempt needs a start or a finished attempt before it, an accept a finished \
          attempt, a reply or abandon a pending evaluation, and after a refused reply or an abandon only a \
@@ -37,10 +37,11 @@ causes! {
     Counters = 8, "a counter has reached its limit";
     Derivative = 9, "the derivative is not finite";
     Candidate = 10, "the candidate is not finite";
+    Stages = 11, "TSRKC2 would need more than 1000 stages";
 }
 
 impl Refusal {
-    /// Document 01's number.
+    /// Its number.
     pub fn number(self) -> u64 {
         self as u64
     }

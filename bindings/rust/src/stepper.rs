@@ -1,4 +1,4 @@
-use crate::calls::{self, Answer, Counters, LARGEST, Record, VECTORS, code, vector};
+use crate::calls::{self, Answer, Counters, LARGEST, Record, TSRKC2, code, vector, vectors_of};
 use crate::{Error, Refusal, check_environment};
 
 /// The methods that the engine carries.
@@ -16,6 +16,9 @@ pub enum Family {
     Rkg2 = 5,
     /// RKMC2, another Runge-Kutta-Chebyshev method of second order, with up to 1000 stages.
     Rkmc2 = 6,
+    /// TSRKC2, a two-step Runge-Kutta-Chebyshev method of second order: after an accept it takes the step and the state before
+    /// into account. With up to 1000 stages; where more would be needed, an attempt is turned away.
+    Tsrkc2 = 7,
 }
 
 /// What an attempt is given.
@@ -51,8 +54,8 @@ pub struct Figures {
     pub stages: u64,
     /// k, the passes of the power iteration, 1 to 12.
     pub passes: u64,
-    /// r, the step's size times 1.2 times the radius of the last pass. It may be infinite, or a NaN, for which s is chosen as
-    /// for 0.
+    /// r, the step's size times 1.2 times the radius of the last pass. It may be infinite, or a NaN, for which s is the least
+    /// count.
     pub scaled_radius: f64,
 }
 
@@ -73,8 +76,15 @@ pub struct Stepper<F> {
     rhs: F,
     record: Record,
     counters: Counters,
-    area: Vec<f64>,
+    /// With room for the largest of the families' areas, so that a restart may bring another family.
+    room: Vec<f64>,
     derivative: Vec<f64>,
+}
+
+/// The part of the room that is the area of a family.
+fn area_of(family: u64, room: &mut [f64]) -> &mut [f64] {
+    let n = room.len() / vectors_of(TSRKC2);
+    &mut room[..vectors_of(family) * n]
 }
 
 impl<F: FnMut(&mut [f64], &[f64], f64)> Stepper<F> {
@@ -87,7 +97,7 @@ impl<F: FnMut(&mut [f64], &[f64], f64)> Stepper<F> {
             rhs,
             record: Record::default(),
             counters: Counters::default(),
-            area: vec![0.0; VECTORS * held],
+            room: vec![0.0; vectors_of(TSRKC2) * held],
             derivative: vec![0.0; held],
         };
         stepper.restart(family, state, time)?;
@@ -97,9 +107,9 @@ impl<F: FnMut(&mut [f64], &[f64], f64)> Stepper<F> {
     /// Begins anew at another state of the same dimension, whatever went before, with the same check. The counters go on.
     pub fn restart(&mut self, family: Family, state: &[f64], time: f64) -> Result<(), Error> {
         check_environment()?;
-        let n = state.len() as u64;
-        let family = family as u64;
-        let answer = calls::start(&mut self.record, &mut self.area, family, n, state, time);
+        let (family, n) = (family as u64, state.len() as u64);
+        let area = area_of(family, &mut self.room);
+        let answer = calls::start(&mut self.record, area, family, n, state, time);
         self.run(answer)?;
         Ok(())
     }
@@ -107,9 +117,10 @@ impl<F: FnMut(&mut [f64], &[f64], f64)> Stepper<F> {
     /// Steps from the kept state. Gives back the figures of the finished attempt, or why it was turned away. The step is good
     /// when the norm is at most 1. A step that is not wanted needs no call: attempt again.
     pub fn attempt(&mut self, attempt: Attempt) -> Result<Figures, Refusal> {
+        let area = area_of(self.record.wholes.family, &mut self.room);
         let answer = calls::attempt(
             &mut self.record,
-            &mut self.area,
+            area,
             attempt.time,
             attempt.step,
             attempt.absolute_tolerance,
@@ -120,16 +131,19 @@ impl<F: FnMut(&mut [f64], &[f64], f64)> Stepper<F> {
         Ok(Figures::of_answer(&finished))
     }
 
-    /// Takes the candidate of a finished attempt as the kept state.
+    /// Takes the candidate of a finished attempt as the kept state. TSRKC2 has a history from here on.
     pub fn accept(&mut self) -> Result<(), Refusal> {
-        let answer = calls::accept(&mut self.record, &mut self.area);
+        let area = area_of(self.record.wholes.family, &mut self.room);
+        let answer = calls::accept(&mut self.record, area);
         self.run(answer)?;
         Ok(())
     }
 
-    /// After a finished attempt, keeps another state at another time, and evaluates its derivative.
+    /// After a finished attempt, keeps another state at another time, and evaluates its derivative. TSRKC2 has no history
+    /// then.
     pub fn accept_with_callback(&mut self, state: &[f64], time: f64) -> Result<(), Refusal> {
-        let answer = calls::accept_with_callback(&mut self.record, &mut self.area, state, time);
+        let area = area_of(self.record.wholes.family, &mut self.room);
+        let answer = calls::accept_with_callback(&mut self.record, area, state, time);
         self.run(answer)?;
         Ok(())
     }
@@ -139,12 +153,8 @@ impl<F: FnMut(&mut [f64], &[f64], f64)> Stepper<F> {
         let mut answer = first;
         while answer.code == code::EVALUATE {
             self.evaluate(answer.number as usize, answer.time);
-            answer = calls::reply(
-                &mut self.record,
-                &mut self.counters,
-                &mut self.area,
-                &self.derivative,
-            );
+            let area = area_of(self.record.wholes.family, &mut self.room);
+            answer = calls::reply(&mut self.record, &mut self.counters, area, &self.derivative);
         }
         match answer.code {
             code::REFUSED => Err(Refusal::of_number(answer.number).expect("a number of the list")),
@@ -154,7 +164,7 @@ impl<F: FnMut(&mut [f64], &[f64], f64)> Stepper<F> {
 
     fn evaluate(&mut self, number: usize, time: f64) {
         let n = self.derivative.len();
-        let point = &self.area[number * n..(number + 1) * n];
+        let point = &self.room[number * n..(number + 1) * n];
         (self.rhs)(&mut self.derivative, point, time);
     }
 }
@@ -175,15 +185,25 @@ impl<F> Stepper<F> {
         self.vector(vector::FIRST_DERIVATIVE)
     }
 
-    /// A vector of the area, by its number from 0 to 10.
+    /// A vector of the area, by its number from 0 to 10, and in TSRKC2 11.
     pub fn vector(&self, number: usize) -> &[f64] {
         let n = self.derivative.len();
-        &self.area[number * n..(number + 1) * n]
+        &self.room[number * n..(number + 1) * n]
     }
 
     /// Evaluations and finished attempts so far.
     pub fn counters(&self) -> Counters {
         self.counters
+    }
+
+    /// The state before the last accepted step and that step, while TSRKC2 has a history.
+    pub fn history(&self) -> Option<(&[f64], f64)> {
+        let Record { wholes, doubles } = self.record;
+        let kept = wholes.family == TSRKC2 && wholes.history != 0;
+        kept.then(|| {
+            let state = self.vector(vector::OLDER_STATE);
+            (state, doubles.previous_accepted_step)
+        })
     }
 
     /// What the engine keeps beside the area. From a finished attempt until the next one that is taken, `stages`, `pass` and

@@ -4,13 +4,14 @@ use stabilized::calls::Record;
 use stabilized::{Attempt, Error, Family, Figures, Refusal, Stepper};
 use std::cell::Cell;
 
-const FAMILIES: [Family; 6] = [
+const FAMILIES: [Family; 7] = [
     Family::Rkc,
     Family::Rkl1,
     Family::Rkl2,
     Family::Rkg1,
     Family::Rkg2,
     Family::Rkmc2,
+    Family::Tsrkc2,
 ];
 
 /// A rod of cells that exchange heat at this rate.
@@ -88,7 +89,11 @@ fn hot_vectors_have_finite_figures() {
 fn a_stiff_model_stays_stiff_where_its_square_overflows() {
     let overflowing = 2.0_f64.powi(512);
     for rate in [overflowing.next_down(), overflowing] {
-        for (family, evaluations) in [(Family::Rkg1, 180), (Family::Rkmc2, 328)] {
+        for (family, evaluations) in [
+            (Family::Rkg1, 180),
+            (Family::Rkmc2, 328),
+            (Family::Tsrkc2, 159),
+        ] {
             let cooling = |derivative: &mut [f64], state: &[f64], _: f64| {
                 derivative[0] = -rate * state[0];
             };

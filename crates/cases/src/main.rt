@@ -4,7 +4,6 @@ mod worked;
 
 ghost use mathlib.Core.Path.{_≡_};
 ghost use Prim.Native.Nat.{_+_, _-_, _^_, _≤_, _<_};
-use family::Setting;
 use libc::STDOUT_FILENO;
 use stored::Tally;
 
@@ -34,9 +33,9 @@ fn print_named(name: &[u8], t: Tally) {
 
 // Document 01, "orthogonal.rs": the example, RKL2 with s = 3.
 fn legendre_two_figures() {
-    let c = coefficients::first_recurrence(Setting { family: 3 }, 3);
-    let two = coefficients::row_coefficients(Setting { family: 3 }, 3, 2, c);
-    let three = coefficients::row_coefficients(Setting { family: 3 }, 3, 3, c);
+    let c = coefficients::first_recurrence(family::without_history(3), 3);
+    let two = coefficients::row_coefficients(family::without_history(3), 3, 2, c);
+    let three = coefficients::row_coefficients(family::without_history(3), 3, 3, c);
     print_figure(
         b"RKL2 s = 3, omega_one, 2/5",
         coefficients::omega_one(3, 3),
@@ -60,7 +59,7 @@ fn near(x: f64, y: f64, parts: f64) -> bool {
 // Sommeijer, Shampine and Verwer, "RKC: an explicit solver for parabolic PDEs", J. Comput. Appl. Math. 88 (1998): the real
 // stability interval is (omega_zero + 1) / omega_one, close to 2/3 (s^2 - 1) (1 - 2/15 eps) with eps = 2/13.
 fn interval_agrees(s: u64) -> bool {
-    let c = coefficients::first_recurrence(Setting { family: 1 }, s);
+    let c = coefficients::first_recurrence(family::without_history(1), s);
     let p = c.polynomials;
     let x = ieee::double_of(s);
     let figure = 2.0 / 3.0 * (x * x - 1.0) * (1.0 - 2.0 / 15.0 * (2.0 / 13.0));
@@ -96,12 +95,12 @@ fn times_of(s: u64, before: Tally) -> Tally
     requires { ⌜ (2 ≤ s) × (s < 2 ^ 16) ⌝ }
 {
     let mut t = before;
-    let mut c = coefficients::first_recurrence(Setting { family: 1 }, s);
+    let mut c = coefficients::first_recurrence(family::without_history(1), s);
     let mut j: u64 = 2;
     while j <= s {
-        let row = coefficients::row_coefficients(Setting { family: 1 }, s, j, c);
+        let row = coefficients::row_coefficients(family::without_history(1), s, j, c);
         t = stored::tallied(t, time_agrees(s, j, row.theta));
-        c = coefficients::next_recurrence(Setting { family: 1 }, c, row);
+        c = coefficients::next_recurrence(family::without_history(1), c, row);
         j += 1;
     }
     t

@@ -24,7 +24,7 @@ use Rattle.fractions.proofs.Ring.{var, _:*_}
 use Rattle.ieee.specs.Double.{nought}
 use Rattle.coefficients.specs.declared.Recurrence.{Recurrence}
 use Rattle.coefficients.specs.declared.Coefficients.{Coefficients}
-use Rattle.coefficients.specs.Rows.{coefficients-of, recurrence-of, omega-one-of, legendre-one, legendre-two, gegenbauer-one, gegenbauer-two, with-theta}
+use Rattle.coefficients.specs.Rows.{coefficients-of, recurrence-of, orthogonal-omega, legendre-one, legendre-two, gegenbauer-one, gegenbauer-two, with-theta}
 use Rattle.coefficients.specs.Closeness.{Close-row, Same-row, gamma-zero}
 use Rattle.ieee.specs.Close.{signed, sign, value, Close}
 use Rattle.ieee.proofs.Value.{round-none}
@@ -34,11 +34,11 @@ use Rattle.coefficients.proofs.RowTable.{Zero-or-fit, mu-fit, nu-fit, a
 
 -- ---- mu_tilde is mu · omega_one
 mu-tilde-fit : (f : Orthogonal) (s j : ℕ) → 2 ≤ s → s ≤ 200 → 2 ≤ j → j ≤ 200
-    → Fit 201 17 false (mul binary64 (mu-of f j) (omega-one-of (made-of f) s)) (mu-tilde f s j)
+    → Fit 201 17 false (mul binary64 (mu-of f j) (orthogonal-omega f s)) (mu-tilde f s j)
 unfolding mu-tilde _⊗_
 mu-tilde-fit f s j l h l' h' =
     fit-same (*ℤ-comm (mu f j .num) (omega-one f s .num)) (mul-comm (mu f j .den) (omega-one f s .den))
-    (fit-times 100 100 8 8 false false (mu-of f j) (omega-one-of (made-of f) s) (mu f j) (omega-one f s) (lit≤ tt) (mu-fit f j l' h') (omega-fit f s l h))
+    (fit-times 100 100 8 8 false false (mu-of f j) (orthogonal-omega f s) (mu f j) (omega-one f s) (lit≤ tt) (mu-fit f j l' h') (omega-fit f s l h))
 
 -- ---- a zero
 zero-signed : (s : Bool) → signed s 0 ≡ pos 0
@@ -121,7 +121,7 @@ pub record Fit-row (f : Orthogonal) (s j : ℕ) (row : Coefficients) : Type 0 wh
 
 module _ (f : Orthogonal) (s j : ℕ) (l : 2 ≤ s) (h : s ≤ 200) (l' : 2 ≤ j) (h' : j ≤ 200) where
   abbrev tilde : Float
-  tilde = mul binary64 (mu-of f j) (omega-one-of (made-of f) s)
+  tilde = mul binary64 (mu-of f j) (orthogonal-omega f s)
 
   row-is : (row : Coefficients) → row .mu ≡ mu-of f j → row .nu ≡ nu-of f j → row .«mu_tilde» ≡ tilde
       → Zero-or-fit (gamma-zero f j) 302 26 true (row .«gamma_tilde») (gamma-tilde f s j) → Fit-row f s j row
@@ -171,9 +171,10 @@ same-row Gegenbauer1 s j c c' = record { same-mu = refl; same-nu = refl; same-mu
 same-row Gegenbauer2 s j c c' = record { same-mu = refl; same-nu = refl; same-mu-tilde = refl; same-gamma-tilde = refl }
 
 -- the coefficient of stage 1, which the calls take from the recurrence
-pub close-first : (f : Orthogonal) (s : ℕ) → T (permitted (made-of f) s) → Close 48 (recurrence-of (made-of f) s .«theta_previous») (Paper.first-mu-tilde f s)
-close-first f s t = let r = orthogonal-range f s t in
-    fit-close 100 8 false (stage-one-of f s) (Paper.first-mu-tilde f s) (lit≤ tt) (first-fit f s (r .0) (r .1))
+pub close-first : (f : Orthogonal) (q : Float) (s : ℕ) → T (permitted (made-of f) s)
+    → Close 48 (recurrence-of (made-of f) q s .«theta_previous») (Paper.first-mu-tilde f s)
+close-first f q s t = let r = orthogonal-range f s t in
+    fit-close 100 8 false (stage-one-of f q s) (Paper.first-mu-tilde f s) (lit≤ tt) (first-fit f q s (r .0) (r .1))
 
 -- where the fraction is 0 the double is
 pub zero-where : (n : ℕ) (x : Float) (q : Frac) → Close n x q → q .num ≡ pos 0 → num x ≡ 0

@@ -266,15 +266,15 @@ close-omega s l h =
     last = omega arith
 
 -- ---- the rows: each takes omega_zero, and the entry that was read, as they were when the stages began
-pub zero-taken : (s i : ℕ) → carried-of RKC s i .polynomials .«omega_zero» ≡ Rows.omega-zero s
+pub zero-taken : (q : Float) (s i : ℕ) → carried-of RKC q s i .polynomials .«omega_zero» ≡ Rows.omega-zero s
 unfolding carried-of recurrence-of first-polynomials first-polynomials-in next-of next-polynomials polynomials-on facts-of
-zero-taken s zero = refl
-zero-taken s (suc i) = zero-taken s i
+zero-taken q s zero = refl
+zero-taken q s (suc i) = zero-taken q s i
 
-pub entry-taken : (s i : ℕ) → carried-of RKC s i .polynomials .«omega_one» ≡ Table.omega s
+pub entry-taken : (q : Float) (s i : ℕ) → carried-of RKC q s i .polynomials .«omega_one» ≡ Table.omega s
 unfolding carried-of recurrence-of first-polynomials first-polynomials-in omega-one-of next-of next-polynomials polynomials-on facts-of
-entry-taken s zero = refl
-entry-taken s (suc i) = entry-taken s i
+entry-taken q s zero = refl
+entry-taken q s (suc i) = entry-taken q s i
 
-pub close-taken : (s i : ℕ) → 2 ≤ s → s ≤ 200 → Close 36 (carried-of RKC s i .polynomials .«omega_one») (omega-one s)
-close-taken s i l h = subst (λ (x : Float). Close 36 x (omega-one s)) (sym (entry-taken s i)) (close-omega s l h)
+pub close-taken : (q : Float) (s i : ℕ) → 2 ≤ s → s ≤ 200 → Close 36 (carried-of RKC q s i .polynomials .«omega_one») (omega-one s)
+close-taken q s i l h = subst (λ (x : Float). Close 36 x (omega-one s)) (sym (entry-taken q s i)) (close-omega s l h)

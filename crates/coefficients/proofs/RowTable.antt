@@ -14,9 +14,9 @@ use Rattle.fractions.specs.Frac.{Frac, _⊗_, _⊕_, _⊘_, opp, int, frac, inv
 use Rattle.family.specs.Family.{Orthogonal, Legendre1, Legendre2, Gegenbauer1, Gegenbauer2, made-of}
 use Rattle.coefficients.specs.Paper as Paper
 use Rattle.coefficients.specs.Paper.{omega-one, mu, nu, a, b, b-later, b-zero, b-one, value-at-one, mu-factor, nu-factor}
-use Rattle.ieee.specs.Double.{double, square}
+use Rattle.ieee.specs.Double.{double, square, nought}
 use Rattle.coefficients.specs.Closeness.{gamma-zero, Both-zero}
-use Rattle.coefficients.specs.Rows.{omega-one-of, first-mu-tilde, recurrence-of, legendre-two-b, gegenbauer-one-b, gegenbauer-two-b}
+use Rattle.coefficients.specs.Rows.{orthogonal-omega, omega-one-of, first-mu-tilde, recurrence-of, legendre-two-b, gegenbauer-one-b, gegenbauer-two-b}
 use Rattle.ieee.specs.Close.{signed, sign}
 use Rattle.ieee.proofs.Rounding.{P}
 use Rattle.ieee.proofs.Fit.{Fit}
@@ -110,7 +110,7 @@ unfoldable pub row-fits : Orthogonal → ℕ → Float → Float → Float → B
 row-fits f j x y z = fits false (mu-with f j z y) (mu f j) && fits true (nu-with f j z x) (nu f j) && a-fits (gamma-zero f j) (a f (j - 1)) (a-with f j y)
 
 unfoldable pub s-fits : Orthogonal → ℕ → Bool
-s-fits f s = fits false (omega-one-of (made-of f) s) (omega-one f s)
+s-fits f s = fits false (orthogonal-omega f s) (omega-one f s)
 
 rows-Legendre1 : T (every₃ (b-of Legendre1) (row-fits Legendre1) 199 2 (b-of Legendre1 0) (b-of Legendre1 1))
 unfolding every₃ row-fits fits a-fits gamma-zero is-zero b-of mu-with nu-with a-with negative double add sub mul div neg legendre-two-b gegenbauer-one-b
@@ -133,30 +133,30 @@ unfolding every₃ row-fits fits a-fits gamma-zero is-zero b-of mu-with nu-with 
 rows-Gegenbauer2 = tt
 
 stages-Legendre1 : T (every (s-fits Legendre1) 199 2)
-unfolding every s-fits fits omega-one-of made-of negative double square add sub mul div omega-one frac int _over_
+unfolding every s-fits fits orthogonal-omega negative double square add sub mul div omega-one frac int _over_
 stages-Legendre1 = tt
 
 stages-Legendre2 : T (every (s-fits Legendre2) 199 2)
-unfolding every s-fits fits omega-one-of made-of negative double square add sub mul div omega-one frac int _over_
+unfolding every s-fits fits orthogonal-omega negative double square add sub mul div omega-one frac int _over_
 stages-Legendre2 = tt
 
 stages-Gegenbauer1 : T (every (s-fits Gegenbauer1) 199 2)
-unfolding every s-fits fits omega-one-of made-of negative double square add sub mul div omega-one frac int _over_
+unfolding every s-fits fits orthogonal-omega negative double square add sub mul div omega-one frac int _over_
 stages-Gegenbauer1 = tt
 
 stages-Gegenbauer2 : T (every (s-fits Gegenbauer2) 199 2)
-unfolding every s-fits fits omega-one-of made-of negative double square add sub mul div omega-one frac int _over_
+unfolding every s-fits fits orthogonal-omega negative double square add sub mul div omega-one frac int _over_
 stages-Gegenbauer2 = tt
 
 -- the coefficient of stage 1, as the recurrence hands it to the calls
-abbrev pub stage-one-of : Orthogonal → ℕ → Float
-stage-one-of f s = recurrence-of (made-of f) s .«theta_previous»
+abbrev pub stage-one-of : Orthogonal → Float → ℕ → Float
+stage-one-of f q s = recurrence-of (made-of f) q s .«theta_previous»
 
 legendre2-first-fits : ℕ → Bool
-legendre2-first-fits s = fits false (stage-one-of Legendre2 s) (Paper.first-mu-tilde Legendre2 s)
+legendre2-first-fits s = fits false (stage-one-of Legendre2 nought s) (Paper.first-mu-tilde Legendre2 s)
 
 legendre2-firsts : T (every legendre2-first-fits 199 2)
-unfolding every legendre2-first-fits fits recurrence-of first-mu-tilde omega-one-of made-of negative double square add sub mul div omega-one
+unfolding every legendre2-first-fits fits recurrence-of first-mu-tilde omega-one-of orthogonal-omega made-of negative double square add sub mul div omega-one
     Paper.first-mu-tilde _⊗_ frac int _over_
 legendre2-firsts = tt
 
@@ -203,14 +203,14 @@ module _ (f : Orthogonal) (j : ℕ) (l : 2 ≤ j) (h : j ≤ 200) where
   unfolding row-fits mu-of nu-of a-of
   a-fit = a-says (gamma-zero f j) (a f (j - 1)) (a-of f j) (and-r (mu-part && nu-part) a-part row)
 
-pub omega-fit : (f : Orthogonal) (s : ℕ) → 2 ≤ s → s ≤ 200 → Fit 100 8 false (omega-one-of (made-of f) s) (omega-one f s)
+pub omega-fit : (f : Orthogonal) (s : ℕ) → 2 ≤ s → s ≤ 200 → Fit 100 8 false (orthogonal-omega f s) (omega-one f s)
 unfolding s-fits
-omega-fit f s l h = fit-says false (omega-one-of (made-of f) s) (omega-one f s) (among (s-fits f) 199 2 s (stages f) l (omega arith))
+omega-fit f s l h = fit-says false (orthogonal-omega f s) (omega-one f s) (among (s-fits f) 199 2 s (stages f) l (omega arith))
 
-pub first-fit : (f : Orthogonal) (s : ℕ) → 2 ≤ s → s ≤ 200 → Fit 100 8 false (stage-one-of f s) (Paper.first-mu-tilde f s)
-unfolding recurrence-of first-mu-tilde Paper.first-mu-tilde made-of legendre2-first-fits
-first-fit Legendre1 s l h = omega-fit Legendre1 s l h
-first-fit Legendre2 s l h = fit-says false (stage-one-of Legendre2 s) (Paper.first-mu-tilde Legendre2 s)
+pub first-fit : (f : Orthogonal) (q : Float) (s : ℕ) → 2 ≤ s → s ≤ 200 → Fit 100 8 false (stage-one-of f q s) (Paper.first-mu-tilde f s)
+unfolding recurrence-of first-mu-tilde omega-one-of Paper.first-mu-tilde made-of legendre2-first-fits
+first-fit Legendre1 q s l h = omega-fit Legendre1 s l h
+first-fit Legendre2 q s l h = fit-says false (stage-one-of Legendre2 q s) (Paper.first-mu-tilde Legendre2 s)
     (among legendre2-first-fits 199 2 s legendre2-firsts l (omega arith))
-first-fit Gegenbauer1 s l h = omega-fit Gegenbauer1 s l h
-first-fit Gegenbauer2 s l h = omega-fit Gegenbauer2 s l h
+first-fit Gegenbauer1 q s l h = omega-fit Gegenbauer1 s l h
+first-fit Gegenbauer2 q s l h = omega-fit Gegenbauer2 s l h

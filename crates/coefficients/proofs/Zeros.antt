@@ -42,8 +42,8 @@ zeros f s j t l g c =
     }
 
 -- stage 1
-pub first-zero : (f : Orthogonal) (s : ℕ) → T (permitted (made-of f) s)
-    → Zero-as false (recurrence-of (made-of f) s .«theta_previous») (Paper.first-mu-tilde f s)
+pub first-zero : (f : Orthogonal) (q : Float) (s : ℕ) → T (permitted (made-of f) s)
+    → Zero-as false (recurrence-of (made-of f) q s .«theta_previous») (Paper.first-mu-tilde f s)
 unfolding Zero-or-fit
-first-zero f s t = let r = orthogonal-range f s t in
-    zero-as false 100 8 false (stage-one-of f s) (Paper.first-mu-tilde f s) (lit≤ tt) (first-fit f s (r .0) (r .1))
+first-zero f q s t = let r = orthogonal-range f s t in
+    zero-as false 100 8 false (stage-one-of f q s) (Paper.first-mu-tilde f s) (lit≤ tt) (first-fit f q s (r .0) (r .1))

@@ -255,6 +255,7 @@ pub fn first_polynomials(omega: f64, s: u64) -> Polynomials
         first_previous_two: 0.0,
         second_previous: 0.0,
         second_previous_two: 0.0,
+        gain: 0.0,
     }
 }
 
@@ -277,6 +278,7 @@ pub fn next_polynomials(p: Polynomials) -> Polynomials
         first_previous_two: p.first_previous,
         second_previous: second,
         second_previous_two: p.second_previous,
+        gain: p.gain,
     }
 }
 

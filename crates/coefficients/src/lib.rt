@@ -1,7 +1,7 @@
-// The coefficients of a stage's row: orthogonal.rs, and `run_rkc` and `run_rkmc2` of chebyshev.rs.
+// The coefficients of a stage's row: orthogonal.rs, and `run_rkc`, `run_rkmc2` and `run_tsrkc2` of chebyshev.rs.
 ghost use mathlib.Core.Path.{_≡_};
 ghost use Prim.Native.Nat.{_+_, _≤_, _<_, _^_};
-ghost use Rattle.family.specs.Family.{family-of};
+ghost use Rattle.family.specs.Family.{kind};
 ghost use Rattle.coefficients.specs.Rows as rows;
 use family::RowForm;
 use family::Setting;
@@ -9,9 +9,10 @@ use family::Setting;
 mod chebyshev;
 mod orthogonal;
 pub mod rkmc2;
+mod tsrkc2;
 
 // A row's coefficients, and `theta` after its stage. In RKC `gamma_tilde` holds the Rust's `nu_tilde`, in
-// RKMC2 its `b_previous`.
+// RKMC2 its `b_previous`; in TSRKC2 it is 0 and not read.
 pub struct Coefficients {
     pub mu: f64,
     pub nu: f64,
@@ -22,7 +23,7 @@ pub struct Coefficients {
 
 // What RKC carries from stage to stage: omega_zero and omega_one as the stages began with them, b, and the Chebyshev polynomial
 // at omega_zero with its first and second derivative, each of the two stages before. RKMC2 carries the same without the
-// derivatives. The other families leave it as it is and never read it.
+// derivatives, TSRKC2 without b too, and the gain of its candidate. The other families leave it as it is and never read it.
 pub struct Polynomials {
     pub omega_zero: f64,
     pub omega_one: f64,
@@ -34,6 +35,7 @@ pub struct Polynomials {
     pub first_previous_two: f64,
     pub second_previous: f64,
     pub second_previous_two: f64,
+    pub gain: f64,
 }
 
 // What the loop over the stages carries on.
@@ -58,48 +60,53 @@ pub struct Weights {
     pub slope: f64,
 }
 
-pub fn omega_one(family: u64, s: u64) -> f64
-    ensures { λ r. ⌜ r ≡ rows.omega-one-of (family-of family) s ⌝ }
+pub fn omega_one(setting: Setting, s: u64) -> f64
+    ensures { λ r. ⌜ r ≡ rows.omega-one-of (kind setting) (setting .quotient) s ⌝ }
 {
+    let family = setting.family;
     match family {
         1 => chebyshev::omega_one(s),
         2 => orthogonal::legendre_one_omega(s),
         3 => orthogonal::legendre_two_omega(s),
         4 => orthogonal::gegenbauer_one_omega(s),
         6 => rkmc2_omega_one::omega_one(s),
+        7 => tsrkc2::omega_one(setting.quotient, s),
         _ => orthogonal::gegenbauer_two_omega(s),
     }
 }
 
 // From omega_one, here `w`.
-fn first_from(family: u64, s: u64, w: f64) -> f64
-    requires { ⌜ w ≡ rows.omega-one-of (family-of family) s ⌝ }
-    ensures { λ r. ⌜ r ≡ rows.first-mu-tilde (family-of family) s ⌝ }
+fn first_from(setting: Setting, s: u64, w: f64) -> f64
+    requires { ⌜ w ≡ rows.omega-one-of (kind setting) (setting .quotient) s ⌝ }
+    ensures { λ r. ⌜ r ≡ rows.first-mu-tilde (kind setting) (setting .quotient) s ⌝ }
 {
+    let family = setting.family;
     match family {
         1 => w * chebyshev::first_b(s),
         2 => w,
         3 => w / 3.0,
         4 => w,
         6 => rkmc2::first_b(s) * w,
+        7 => w / tsrkc2::omega_zero(s),
         _ => w,
     }
 }
 
-pub fn first_mu_tilde(family: u64, s: u64) -> f64
-    ensures { λ r. ⌜ r ≡ rows.first-mu-tilde (family-of family) s ⌝ }
+pub fn first_mu_tilde(setting: Setting, s: u64) -> f64
+    ensures { λ r. ⌜ r ≡ rows.first-mu-tilde (kind setting) (setting .quotient) s ⌝ }
 {
-    let w = omega_one(family, s);
-    first_from(family, s, w)
+    let w = omega_one(setting, s);
+    first_from(setting, s, w)
 }
 
-fn first_polynomials(form: RowForm, w: f64, s: u64) -> Polynomials
-    ensures { λ r. ⌜ r ≡ rows.first-polynomials-in form w s ⌝ }
+fn first_polynomials(form: RowForm, q: f64, w: f64, s: u64) -> Polynomials
+    ensures { λ r. ⌜ r ≡ rows.first-polynomials-in form q w s ⌝ }
 {
     match form {
         RowForm::ChebyshevRow => chebyshev::first_polynomials(w, s),
         RowForm::OrthogonalRow => chebyshev::first_polynomials(w, s),
         RowForm::InitialFirstRow => rkmc2::first_polynomials(w, s),
+        RowForm::PlainRow => tsrkc2::first_polynomials(q, w, s),
     }
 }
 
@@ -107,11 +114,11 @@ fn first_polynomials(form: RowForm, w: f64, s: u64) -> Polynomials
 pub fn first_recurrence(setting: Setting, s: u64) -> Recurrence
     ensures { λ r. ⌜ r ≡ rows.recurrence setting s ⌝ }
 {
-    let w = omega_one(setting.family, s);
-    let theta = first_from(setting.family, s, w);
+    let w = omega_one(setting, s);
+    let theta = first_from(setting, s, w);
     let own = family::facts_of(setting.family);
     let form = own.row;
-    let polynomials = first_polynomials(form, w, s);
+    let polynomials = first_polynomials(form, setting.quotient, w, s);
     Recurrence {
         theta_previous: theta,
         theta_previous_two: 0.0,
@@ -131,6 +138,7 @@ pub fn row_coefficients(setting: Setting, s: u64, j: u64, c: Recurrence) -> Coef
         3 => orthogonal::legendre_two(orthogonal::legendre_two_omega(s), j, c),
         4 => orthogonal::gegenbauer_one(orthogonal::gegenbauer_one_omega(s), j, c),
         6 => rkmc2::row(c),
+        7 => tsrkc2::row(c),
         _ => orthogonal::gegenbauer_two(orthogonal::gegenbauer_two_omega(s), j, c),
     }
 }
@@ -142,6 +150,7 @@ fn next_polynomials(form: RowForm, p: Polynomials) -> Polynomials
         RowForm::ChebyshevRow => chebyshev::next_polynomials(p),
         RowForm::OrthogonalRow => p,
         RowForm::InitialFirstRow => rkmc2::next_polynomials(p),
+        RowForm::PlainRow => tsrkc2::next_polynomials(p),
     }
 }
 
@@ -160,7 +169,7 @@ pub fn next_recurrence(setting: Setting, c: Recurrence, row: Coefficients) -> Re
     }
 }
 
-// Both of stage j at once. RKC and RKMC2 stand apart, since their row and what they carry on share the polynomials.
+// Both of stage j at once. RKC, RKMC2 and TSRKC2 stand apart, since their row and what they carry on share the polynomials.
 pub fn row_and_recurrence(setting: Setting, s: u64, j: u64, c: Recurrence) -> Advance
     requires { ⌜ (2 ≤ j) × (j + 1 < 2 ^ 32) ⌝ }
     ensures { λ r. ⌜ r .row ≡ rows.coefficients setting s j c ⌝ }
@@ -171,6 +180,9 @@ pub fn row_and_recurrence(setting: Setting, s: u64, j: u64, c: Recurrence) -> Ad
     }
     if setting.family == 6 {
         return rkmc2::advance(c);
+    }
+    if setting.family == 7 {
+        return tsrkc2::advance(c);
     }
     let row = row_coefficients(setting, s, j, c);
     let after = next_recurrence(setting, c, row);

@@ -1,35 +1,35 @@
 // orthogonal.rs: the rows of RKL1, RKL2, RKG1 and RKG2, from omega_one, here `w`, and the stage j.
 ghost use mathlib.Core.Path.{_≡_};
 ghost use Prim.Native.Nat.{_+_, _≤_, _<_, _^_};
-ghost use Rattle.family.specs.Family.{RKL1, RKL2, RKG1, RKG2};
+ghost use Rattle.family.specs.Family.{Legendre1, Legendre2, Gegenbauer1, Gegenbauer2};
 ghost use Rattle.coefficients.specs.Rows as rows;
 use crate::Coefficients;
 use crate::Recurrence;
 
 // omega_one of each family. Apart from RKC's table, so that a row has it compiled in place.
 pub fn legendre_one_omega(s: u64) -> f64
-    ensures { λ r. ⌜ r ≡ rows.omega-one-of RKL1 s ⌝ }
+    ensures { λ r. ⌜ r ≡ rows.orthogonal-omega Legendre1 s ⌝ }
 {
     let x = ieee::double_of(s);
     2.0 / (x * x + x)
 }
 
 pub fn legendre_two_omega(s: u64) -> f64
-    ensures { λ r. ⌜ r ≡ rows.omega-one-of RKL2 s ⌝ }
+    ensures { λ r. ⌜ r ≡ rows.orthogonal-omega Legendre2 s ⌝ }
 {
     let x = ieee::double_of(s);
     4.0 / (x * x + x - 2.0)
 }
 
 pub fn gegenbauer_one_omega(s: u64) -> f64
-    ensures { λ r. ⌜ r ≡ rows.omega-one-of RKG1 s ⌝ }
+    ensures { λ r. ⌜ r ≡ rows.orthogonal-omega Gegenbauer1 s ⌝ }
 {
     let x = ieee::double_of(s);
     4.0 / (x * (x + 3.0))
 }
 
 pub fn gegenbauer_two_omega(s: u64) -> f64
-    ensures { λ r. ⌜ r ≡ rows.omega-one-of RKG2 s ⌝ }
+    ensures { λ r. ⌜ r ≡ rows.orthogonal-omega Gegenbauer2 s ⌝ }
 {
     let x = ieee::double_of(s);
     6.0 / ((x + 4.0) * (x - 1.0))

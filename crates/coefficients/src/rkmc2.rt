@@ -31,6 +31,7 @@ pub fn first_polynomials(omega: f64, s: u64) -> Polynomials
         first_previous_two: 0.0,
         second_previous: 0.0,
         second_previous_two: 0.0,
+        gain: 0.0,
     }
 }
 
@@ -50,6 +51,7 @@ pub fn next_polynomials(p: Polynomials) -> Polynomials
         first_previous_two: p.first_previous_two,
         second_previous: p.second_previous,
         second_previous_two: p.second_previous_two,
+        gain: p.gain,
     }
 }
 

@@ -11,7 +11,7 @@ pub struct Tallies {
 
 // Where the Rust's sum overflows it gives no count, 0, and the count is to be 200.
 fn with_count(tallies: Tallies, family: u64, radius: f64, theirs: u64) -> Tallies {
-    let ours = family::stages(family, radius);
+    let ours = family::stages(family, 0.0, radius);
     let compared = tallies.compared;
     let overflowing = tallies.overflowing;
     if theirs == 0 {

@@ -1,12 +1,13 @@
 -- The position's range, from the tests of it; the stages that a need is met with are at most 1000.
 use mathlib.Core.Path.{_≡_, sym, ap, subst}
-use mathlib.Core.Bool.{true, _&&_}
+use mathlib.Core.Bool.{Bool, true, false, cond, _&&_}
+use native.Mathlib.Omega.{arith}
 use Prim.Native.Nat.{ℕ, _≤_}
 use borrow.Author.Tests.{leb-true}
 use lib.Dec.{T, leb}
 use lib.Ieee.{Float}
 use Rattle.family.specs.declared.Setting.{Setting}
-use Rattle.family.specs.Family.{kind, stage-count, most-stages}
+use Rattle.family.specs.Family.{Family, kind, stage-count, exceeds, most-stages}
 use Rattle.family.proofs.Range.{permitted-range}
 use Rattle.family.proofs.Counts.{stage-count-permitted}
 use Rattle.driver.specs.declared.Phase.the-variants as P
@@ -45,6 +46,14 @@ count (Unmet i) = 0
 
 pub need-most : (m : Setting) (radius : Float) (s : ℕ) → Met s ≡ stage-need m radius → s ≤ most-stages
 unfolding stage-need count
-need-most m radius s e =
-    let f = kind m in
-    subst (λ (k : ℕ). k ≤ most-stages) (sym (ap count e)) (permitted-range f (stage-count f radius) (stage-count-permitted f radius) .1)
+need-most m radius s e = subst (λ (k : ℕ). k ≤ most-stages) (sym (ap count e)) (go (exceeds f q radius))
+  where
+    f : Family
+    f = kind m
+
+    q : Float
+    q = m .quotient
+
+    go : (t : Bool) → count (cond t (Unmet 11) (Met (stage-count f q radius))) ≤ most-stages
+    go true = omega arith
+    go false = permitted-range f (stage-count f q radius) (stage-count-permitted f q radius) .1

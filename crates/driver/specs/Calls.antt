@@ -1,5 +1,5 @@
 -- The calls, one after another: what each answers, and what it leaves of record, counters and area. Document 01, "driver.rs: the calls" and "When a call is
--- turned away". ⊕ ⊗ are operations on doubles: they round.
+-- turned away", and document 02, CR 2 and CR 6 (the history). ⊕ ⊗ ⊘ are operations on doubles: they round.
 use Prim.Native.Nat.{ℕ, _+_, _-_, _*_, _^_}
 use mathlib.Core.Path.{_≡_}
 use mathlib.Core.Bool.{Bool, true, false, cond, not, _&&_, _||_}
@@ -8,20 +8,21 @@ use lib.Dec.{leb, ltb, eqb}
 use lib.ListN.{length, replicate}
 use lib.Ieee.{Float, eq, lt}
 use lib.Ieee.Scale.{finite}
-use Rattle.ieee.specs.Double.{_⊕_, _⊗_, nought}
+use Rattle.ieee.specs.Double.{_⊕_, _⊗_, _⊘_, nought}
 use Rattle.family.specs.declared.Setting.{Setting}
-use Rattle.family.specs.Family.{known, family-of, setting, kind, stage-count, permitted}
+use Rattle.family.specs.Family.{Family, known, family-of, setting, kind, keeps-older, stage-count, exceeds, permitted}
 use Rattle.coefficients.specs.declared.Recurrence.{Recurrence}
 use Rattle.coefficients.specs.Rows.{recurrence, coefficients, next}
 use Rattle.workspace.specs.declared.Arguments.{Arguments}
 use Rattle.workspace.specs.Vectors.{Vector, Vectors, _with_≔_, number, vector-count, unpack, pack, all-finite, first-derivative, last-derivative, previous-one}
-use Rattle.workspace.specs.Vectors.{eigenvector, perturbed-state, state, candidate}
+use Rattle.workspace.specs.Vectors.{eigenvector, perturbed-state, state, candidate, older-state}
 use Rattle.workspace.specs.Kernel.{with-direction, perturbation-of, perturbed, turned, radius-of, ended, scaled, first-stage, with-row, exchanged}
 use Rattle.workspace.specs.Kernel.{with-candidate, with-last, error-norm}
 use Rattle.driver.specs.declared.Phase.{Phase}
 use Rattle.driver.specs.declared.Phase.the-variants as P
 use Rattle.driver.specs.declared.Iteration.{Iteration}
 use Rattle.driver.specs.declared.Staging.{Staging}
+use Rattle.driver.specs.declared.History.{History}
 use Rattle.driver.specs.declared.Record.{Record}
 use Rattle.driver.specs.declared.Counters.{Counters}
 use Rattle.driver.specs.declared.Need.{Need}
@@ -59,13 +60,37 @@ same-phase p q = eqb (phase-number p) (phase-number q)
 
 -- ---- the record in another phase, and further on
 
--- with another phase, arguments and position: family and n stand
+-- with another phase, arguments and position: family, n and history stand
 abbrev pub moved-to : Phase → Arguments → Iteration → Staging → Record → Record
-moved-to p a i g r = record { family = r .family; n = r .n; phase = p; arguments = a; iteration = i; staging = g }
+moved-to p a i g r = record { family = r .family; n = r .n; phase = p; arguments = a; iteration = i; staging = g; history = r .history }
 
--- of this family, with vectors of this length: the position stands
+-- of this family, with vectors of this length: position and history stand
 abbrev pub sized-for : ℕ → ℕ → Record → Record
-sized-for f n r = record { family = f; n = n; phase = r .phase; arguments = r .arguments; iteration = r .iteration; staging = r .staging }
+sized-for f n r = record {
+  family = f;
+  n = n;
+  phase = r .phase;
+  arguments = r .arguments;
+  iteration = r .iteration;
+  staging = r .staging;
+  history = r .history;
+}
+
+-- with another history: all else stands
+abbrev pub with-history : History → Record → Record
+with-history x r = record {
+  family = r .family;
+  n = r .n;
+  phase = r .phase;
+  arguments = r .arguments;
+  iteration = r .iteration;
+  staging = r .staging;
+  history = x;
+}
+
+-- the history marked absent: the step that it held stands, and nothing reads it
+abbrev pub without-history : Record → Record
+without-history r = with-history (record { present = false; «previous_accepted_step» = r .history .«previous_accepted_step» }) r
 
 unfoldable pub in-phase : Phase → Record → Record
 in-phase p r = moved-to p (r .arguments) (r .iteration) (r .staging) r
@@ -79,9 +104,9 @@ at-time t a = record {
   adaptive = a .adaptive;
 }
 
--- waiting for the derivative of a state that is kept at this time
+-- waiting for the derivative of a state that is kept at this time, with no history: a start's or a callback's
 unfoldable pub first-at : Phase → ℕ → ℕ → Float → Record → Record
-first-at p f n t r = moved-to p (at-time t (r .arguments)) (r .iteration) (r .staging) (sized-for f n r)
+first-at p f n t r = without-history (moved-to p (at-time t (r .arguments)) (r .iteration) (r .staging) (sized-for f n r))
 
 abbrev pub iteration-at : ℕ → Float → Float → Float → Iteration
 iteration-at k perturbation previous radius = record { pass = k; perturbation = perturbation; «previous_radius» = previous; «scaled_radius» = radius }
@@ -99,8 +124,19 @@ at-stage s j c r = moved-to P.Stage (r .arguments) (r .iteration) (record { stag
 
 -- ---- what an attempt of this record runs under: it decides the stage need, the permitted counts, the rows, the candidate and the error
 
+-- q: the last accepted step over the present one, 0 without a history
+unfoldable pub quotient-of : History → Float → Float
+quotient-of x step = cond (x .present) (x .«previous_accepted_step» ⊘ step) nought
+
+abbrev pub setting-under : ℕ → History → Float → Setting
+setting-under f x step = setting f (x .present) (quotient-of x step)
+
+-- and with these arguments
+abbrev pub setting-for : Record → Arguments → Setting
+setting-for r a = setting-under (r .family) (r .history) (a .step)
+
 abbrev pub setting-of : Record → Setting
-setting-of r = setting (r .family)
+setting-of r = setting-for r (r .arguments)
 
 -- ---- a reply that is not turned away with 1 to 9: by the phase, what comes next
 
@@ -127,12 +163,11 @@ unfoldable pub ask-stage : Record → Vectors → Step
 ask-stage r v = let a = r .arguments in
     step-to (Evaluate (a .time ⊕ a .step ⊗ r .staging .recurrence .«theta_previous») (number previous-one)) r v
 
--- how many stages this scaled radius takes (here every need is met)
+-- how many stages this scaled radius takes; 11 where TSRKC2 would need more than 1000
 unfoldable pub stage-need : Setting → Float → Need
-stage-need m radius = Met (stage-count (kind m) radius)
+stage-need m radius = cond (exceeds (kind m) (m .quotient) radius) (Unmet 11) (Met (stage-count (kind m) (m .quotient) radius))
 
--- the stages begin; or the need is refused: the iteration's work is kept, the phase is empty and all else stands (an empty branch today: no family's need is
--- refused yet)
+-- the stages begin; or the need is refused: the iteration's work is kept, the phase is empty and all else stands
 unfoldable pub by-need : Need → Record → Vectors → Float → Step
 by-need (Met s) r v radius = let c = recurrence (setting-of r) s in
     ask-stage (at-stage s 2 c (with-radius radius r)) (first-stage (r .n) (r .arguments .step) (c .«theta_previous») v)
@@ -367,7 +402,7 @@ abandon-tests r area =
 
 -- ---- the calls
 
--- allowed in every phase; what it does not bring stands in the record too
+-- allowed in every phase; what it does not bring stands in the record too, but for the history
 unfoldable pub start : Held → ℕ → ℕ → List Float → Float → Called
 start h f n y t = guarded h (start-tests f n (h .area) y t) (record {
   answer = Evaluate t (number state);
@@ -415,14 +450,22 @@ reply h d = let r = h .kept in
     (settled (h .counters) (replied (r .phase) r (unpack (r .n) (h .area)) d))
     (spoiled h))
 
+-- the history that a family with an older state takes on: the kept state, before the candidate takes its place, and the step of the finished attempt
+unfoldable pub with-older : Family → Vectors → Vectors
+with-older f v = cond (keeps-older f) (v with older-state ≔ v state) v
+
+unfoldable pub history-after : Record → History
+history-after r = cond (keeps-older (family-of (r .family))) (record { present = true; «previous_accepted_step» = r .arguments .step }) (r .history)
+
 -- the last derivative becomes the first, the candidate the kept state; the record's time stands
 unfoldable pub accepted : Record → Vectors → Step
-accepted r v = step-to Ready (in-phase P.Ready r) (v with first-derivative ≔ v last-derivative with state ≔ v candidate)
+accepted r v = let w = with-older (family-of (r .family)) v in
+    step-to Ready (with-history (history-after r) (in-phase P.Ready r)) (w with first-derivative ≔ w last-derivative with state ≔ w candidate)
 
 unfoldable pub accept : Held → Called
 accept h = guarded h (accept-tests (h .kept) (h .area)) (going-on (h .counters) (accepted (h .kept) (unpack (h .kept .n) (h .area))))
 
--- a new state is kept and evaluated
+-- a new state is kept and evaluated, and there is no history
 unfoldable pub called-back : Record → List Float → Float → Vectors → Step
 called-back r y t v = step-to (Evaluate t (number state)) (first-at P.Callback (r .family) (r .n) t r) (v with state ≔ y)
 
@@ -430,10 +473,13 @@ unfoldable pub accept-with-callback : Held → List Float → Float → Called
 accept-with-callback h y t = let r = h .kept in
     guarded h (callback-tests r (h .area) y t) (going-on (h .counters) (called-back r y t (unpack (r .n) (h .area))))
 
--- the pending evaluation ends uncounted
+-- the pending evaluation ends uncounted, and there is no history any more
 unfoldable pub abandon : Held → Called
 abandon h = let r = h .kept in
-    guarded h (abandon-tests r (h .area)) (record { answer = Empty; held = record { kept = in-phase P.Empty r; counters = h .counters; area = h .area } })
+    guarded h (abandon-tests r (h .area)) (record {
+      answer = Empty;
+      held = record { kept = without-history (in-phase P.Empty r); counters = h .counters; area = h .area };
+    })
 
 -- ---- any of them
 

@@ -14,6 +14,7 @@ use Rattle.driver.specs.declared.Phase.{Phase}
 use Rattle.driver.specs.declared.Phase.the-variants as P
 use Rattle.driver.specs.declared.Iteration.{Iteration}
 use Rattle.driver.specs.declared.Staging.{Staging}
+use Rattle.driver.specs.declared.History.{History}
 use Rattle.driver.specs.declared.Record.{Record}
 use Rattle.driver.specs.declared.Counters.{Counters}
 use Rattle.driver.specs.declared.Answer.{Answer}
@@ -91,6 +92,7 @@ no-recurrence =
       «first_previous_two» = nought;
       «second_previous» = nought;
       «second_previous_two» = nought;
+      gain = nought;
     } in
     record { «theta_previous» = nought; «theta_previous_two» = nought; polynomials = p }
 
@@ -99,4 +101,5 @@ new-record =
     let staging : Staging = record { stages = 0; stage = 0; recurrence = no-recurrence } in
     let iteration : Iteration = record { pass = 0; perturbation = nought; «previous_radius» = nought; «scaled_radius» = nought } in
     let arguments : Arguments = record { time = nought; step = nought; «absolute_tolerance» = nought; «relative_tolerance» = nought; adaptive = false } in
-    record { family = 0; n = 0; phase = P.Empty; arguments = arguments; iteration = iteration; staging = staging }
+    let history : History = record { present = false; «previous_accepted_step» = nought } in
+    record { family = 0; n = 0; phase = P.Empty; arguments = arguments; iteration = iteration; staging = staging; history = history }

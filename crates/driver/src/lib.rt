@@ -3,7 +3,10 @@
 // `reply`, for a caller that has asked `stage_taken`.
 ghost use mathlib.Core.Path.{_≡_};
 ghost use mathlib.Core.Bool.{true, false};
-ghost use Prim.Native.Nat.{_<_, _-_, _^_};
+ghost use Prim.Native.Nat.{_<_, _-_, _*_, _^_};
+ghost use lib.ListN.{length};
+ghost use Rattle.family.specs.Family.{family-of};
+ghost use Rattle.workspace.specs.Vectors.{unpack, vector-count};
 ghost use Rattle.driver.specs.declared.Phase.the-variants as P;
 ghost use Rattle.driver.specs.declared.Answer.the-variants.{Refused};
 ghost use Rattle.driver.specs.Answers.{case-number};
@@ -50,6 +53,13 @@ pub struct Staging {
     pub recurrence: Recurrence,
 }
 
+// The step accepted before, if there is one: the Rust's `previous_accepted_step`. The state from which it was taken stands
+// last in the area.
+pub struct History {
+    pub present: bool,
+    pub previous_accepted_step: f64,
+}
+
 pub struct Record {
     pub family: u64,
     pub n: usize,
@@ -57,6 +67,7 @@ pub struct Record {
     pub arguments: Arguments,
     pub iteration: Iteration,
     pub staging: Staging,
+    pub history: History,
 }
 
 pub struct Counters {
@@ -137,6 +148,10 @@ pub fn new_record() -> Record
             stage: 0,
             recurrence: no_recurrence(),
         },
+        history: History {
+            present: false,
+            previous_accepted_step: 0.0,
+        },
     }
 }
 
@@ -157,6 +172,7 @@ fn no_recurrence() -> Recurrence
             first_previous_two: 0.0,
             second_previous: 0.0,
             second_previous_two: 0.0,
+            gain: 0.0,
         },
     }
 }
@@ -382,6 +398,17 @@ pub fn reply(record: Record, counters: Counters, area: &mut [f64], derivative: &
     evaluated_with(answer, after, counters)
 }
 
+// The kept state becomes the older one, in a family that keeps it.
+fn keep_older(record: Record, area: &mut [f64])
+    requires { ⌜ length (now area) ≡ vector-count (family-of («record» .family)) * «record» .n ⌝ }
+    ensures { λ _. ⌜ unpack («record» .n) (now (area .exit)) ≡ calls.with-older (family-of («record» .family)) (unpack («record» .n) (now (area .entry))) ⌝ }
+{
+    let n = record.n;
+    if family::keeps_older(record.family) {
+        workspace::copy_vector(area, n, workspace::STATE, workspace::OLDER_STATE);
+    }
+}
+
 // After a finished attempt: its candidate and last derivative are where the next attempt begins.
 pub fn accept(record: Record, area: &mut [f64]) -> Next
     ensures { λ r. ⌜ Keeps (λ c. calls.accept (holding «record» c (now (area .entry)))) r (now (area .exit)) ⌝ }
@@ -391,6 +418,7 @@ pub fn accept(record: Record, area: &mut [f64]) -> Next
         return refused(record, cause);
     }
     let n = record.n;
+    keep_older(record, area);
     workspace::copy_vector(
         area,
         n,
@@ -398,7 +426,7 @@ pub fn accept(record: Record, area: &mut [f64]) -> Next
         workspace::FIRST_DERIVATIVE,
     );
     workspace::copy_vector(area, n, workspace::CANDIDATE, workspace::STATE);
-    let ready = position::in_phase(record, Phase::Ready);
+    let ready = position::accepted(record);
     Next {
         answer: Answer::Ready,
         record: ready,
@@ -425,7 +453,7 @@ pub fn accept_with_callback(record: Record, area: &mut [f64], state: &[f64], tim
     }
 }
 
-// Ends the pending evaluation, uncounted.
+// Ends the pending evaluation, uncounted, and the history with it.
 pub fn abandon(record: Record, area: &[f64]) -> Next
     ensures { λ r. ⌜ Keeps (λ c. calls.abandon (holding «record» c (now (area .entry)))) r (now (area .entry)) ⌝ }
 {
@@ -433,7 +461,7 @@ pub fn abandon(record: Record, area: &[f64]) -> Next
     if cause != 0 {
         return refused(record, cause);
     }
-    let empty = position::in_phase(record, Phase::Empty);
+    let empty = position::abandoned(record);
     Next {
         answer: Answer::Empty,
         record: empty,

@@ -1,7 +1,10 @@
 // What a record runs under, its phase by number, the record in another phase and further on, and what it tells at the end.
 ghost use mathlib.Core.Path.{_≡_};
+ghost use mathlib.Core.Bool.{false};
+ghost use Rattle.driver.specs.declared.Phase.the-variants as P;
 ghost use Rattle.driver.specs.Calls as calls;
 use crate::Figures;
+use crate::History;
 use crate::Iteration;
 use crate::Phase;
 use crate::Record;
@@ -10,11 +13,26 @@ use coefficients::Recurrence;
 use family::Setting;
 use workspace::Arguments;
 
+// The last accepted step over the present one, 0 without a history.
+fn quotient_of(history: History, step: f64) -> f64
+    ensures { λ r. ⌜ r ≡ calls.quotient-of history step ⌝ }
+{
+    if history.present {
+        history.previous_accepted_step / step
+    } else {
+        0.0
+    }
+}
+
 pub fn setting_of(record: Record) -> Setting
     ensures { λ r. ⌜ r ≡ calls.setting-of «record» ⌝ }
 {
+    let history = record.history;
+    let quotient = quotient_of(history, record.arguments.step);
     Setting {
         family: record.family,
+        history: history.present,
+        quotient,
     }
 }
 
@@ -40,7 +58,7 @@ pub fn same_phase(phase: Phase, other: Phase) -> bool
     phase_number(phase) == phase_number(other)
 }
 
-// With another phase and position: family and n stand.
+// With another phase and position: family, n and history stand.
 fn moved_to(
     record: Record,
     phase: Phase,
@@ -50,6 +68,7 @@ fn moved_to(
 ) -> Record
     ensures { λ r. ⌜ r ≡ calls.moved-to phase arguments iteration staging «record» ⌝ }
 {
+    let history = record.history;
     Record {
         family: record.family,
         n: record.n,
@@ -57,7 +76,66 @@ fn moved_to(
         arguments,
         iteration,
         staging,
+        history,
     }
+}
+
+// With another history: all else stands.
+fn with_history(record: Record, history: History) -> Record
+    ensures { λ r. ⌜ r ≡ calls.with-history history «record» ⌝ }
+{
+    let phase = record.phase;
+    let arguments = record.arguments;
+    let iteration = record.iteration;
+    let staging = record.staging;
+    Record {
+        family: record.family,
+        n: record.n,
+        phase,
+        arguments,
+        iteration,
+        staging,
+        history,
+    }
+}
+
+// The history marked absent.
+fn no_history(record: Record) -> History
+    ensures { λ r. ⌜ r ≡ record { present = false; «previous_accepted_step» = «record» .history .«previous_accepted_step» } ⌝ }
+{
+    History {
+        present: false,
+        previous_accepted_step: record.history.previous_accepted_step,
+    }
+}
+
+// In the empty phase, without a history.
+pub fn abandoned(record: Record) -> Record
+    ensures { λ r. ⌜ r ≡ calls.without-history (calls.in-phase P.Empty «record») ⌝ }
+{
+    let empty = in_phase(record, Phase::Empty);
+    with_history(empty, no_history(record))
+}
+
+// The history that the family takes on.
+fn history_after(record: Record) -> History
+    ensures { λ r. ⌜ r ≡ calls.history-after «record» ⌝ }
+{
+    if family::keeps_older(record.family) {
+        return History {
+            present: true,
+            previous_accepted_step: record.arguments.step,
+        };
+    }
+    record.history
+}
+
+// Ready, with that history.
+pub fn accepted(record: Record) -> Record
+    ensures { λ r. ⌜ r ≡ calls.with-history (calls.history-after «record») (calls.in-phase P.Ready «record») ⌝ }
+{
+    let ready = in_phase(record, Phase::Ready);
+    with_history(ready, history_after(record))
 }
 
 pub fn in_phase(record: Record, phase: Phase) -> Record
@@ -72,7 +150,7 @@ pub fn in_phase(record: Record, phase: Phase) -> Record
     )
 }
 
-// Waiting for the derivative of a state that is kept at this time.
+// Waiting for the derivative of a state that is kept at this time, without a history.
 pub fn first_at(record: Record, phase: Phase, family: u64, n: usize, time: f64) -> Record
     ensures { λ r. ⌜ r ≡ calls.first-at phase family n time «record» ⌝ }
 {
@@ -80,6 +158,7 @@ pub fn first_at(record: Record, phase: Phase, family: u64, n: usize, time: f64) 
     arguments.time = time;
     let iteration = record.iteration;
     let staging = record.staging;
+    let history = no_history(record);
     Record {
         family,
         n,
@@ -87,6 +166,7 @@ pub fn first_at(record: Record, phase: Phase, family: u64, n: usize, time: f64) 
         arguments,
         iteration,
         staging,
+        history,
     }
 }
 

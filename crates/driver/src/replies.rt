@@ -4,7 +4,8 @@ ghost use mathlib.Core.Bool.{true, false, _||_};
 ghost use Prim.Native.Nat.{_+_, _*_, _≤_, _<_, _^_};
 ghost use lib.Dec.{eqb};
 ghost use lib.ListN.{length};
-ghost use Rattle.workspace.specs.Vectors.{Vectors, unpack, eigenvector, vector-norm};
+ghost use Rattle.family.specs.Family.{family-of};
+ghost use Rattle.workspace.specs.Vectors.{Vectors, vector-count, unpack, eigenvector, vector-norm};
 ghost use Rattle.workspace.specs.Kernel.{ended};
 ghost use Rattle.coefficients.specs.declared.Coefficients.{Coefficients};
 ghost use Rattle.coefficients.specs.Rows.{next};
@@ -89,11 +90,14 @@ fn ask_stage(record: Record) -> Next
     }
 }
 
-// How many stages this scaled radius takes.
+// How many stages this scaled radius takes, or 11 where TSRKC2 would need more than 1000.
 fn stage_need(setting: Setting, scaled_radius: f64) -> Need
     ensures { λ r. ⌜ r ≡ calls.stage-need setting «scaled_radius» ⌝ }
 {
-    Need::Met(family::stages(setting.family, scaled_radius))
+    if family::exceeds(setting.family, setting.quotient, scaled_radius) {
+        return Need::Unmet(11);
+    }
+    Need::Met(family::stages(setting.family, setting.quotient, scaled_radius))
 }
 
 fn first_stage(record: Record, area: &mut [f64], scaled_radius: f64, stages: u64) -> Next
@@ -174,6 +178,7 @@ fn onward(setting: Setting, time: f64, staging: Staging) -> Staged
             theta: staging.recurrence.theta_previous,
         },
         RowForm::InitialFirstRow => Staged::On { time, staging },
+        RowForm::PlainRow => Staged::On { time, staging },
     }
 }
 
@@ -181,6 +186,7 @@ fn onward(setting: Setting, time: f64, staging: Staging) -> Staged
 // are compiled in place.
 pub fn take_stage(record: Record, area: &mut [f64], derivative: &[f64]) -> Staged
     requires { ⌜ 11 * «record» .n ≤ length (now area) ⌝ }
+    requires { ⌜ vector-count (family-of («record» .family)) * «record» .n ≤ length (now area) ⌝ }
     requires { ⌜ length (now derivative) ≡ «record» .n ⌝ }
     requires { ⌜ (2 ≤ «record» .staging .stage) × («record» .staging .stage + 1 < 2 ^ 32) ⌝ }
     ensures { λ r. ⌜ Steps (calls.take-stage «record» (unpack («record» .n) (now (area .entry))) (now (derivative .entry))) (outcome-of r «record»)

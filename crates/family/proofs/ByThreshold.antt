@@ -15,7 +15,7 @@ use Rattle.table.proofs.Search as search-by
 use Rattle.table.proofs.Search.{Bracket, smallest-from, smallest-to}
 use Rattle.rkmc2_threshold.specs.Table.{threshold}
 use Rattle.rkmc2_threshold.proofs.Rising.{above-zero, rises}
-use Rattle.family.specs.Family.{RKMC2, smallest-count, largest-count, odd-only, odd-step, limited, before-limits, by-rule, facts-of, stage-count}
+use Rattle.family.specs.Family.{RKMC2, smallest-count, largest-count, odd-only, odd-step, limited, before-limits, by-rule, radius-for, facts-of, stage-count}
 
 some : (i : ℕ) → 3 ≤ i → i < 3 + 997 → T (positive (threshold i))
 some i l h = above-zero i l (omega arith)
@@ -45,6 +45,6 @@ module _ (r : Float) where
 pub rule-kept : (r : Float) → smallest threshold r 997 3 ≡ min (smallest threshold r 997 3) (2 ^ 64 - 1)
 rule-kept r = omega (arith, smallest-to threshold r 997 3)
 
-pub rkmc2-count : (r : Float) → stage-count RKMC2 r ≡ smallest threshold (Whole.max r nought) 997 3
-unfolding stage-count before-limits limited odd-step odd-only smallest-count largest-count by-rule facts-of
-rkmc2-count r = let x = Whole.max r nought in omega (arith, smallest-from threshold x 997 3, smallest-to threshold x 997 3)
+pub rkmc2-count : (q r : Float) → stage-count RKMC2 q r ≡ smallest threshold (Whole.max r nought) 997 3
+unfolding stage-count before-limits limited odd-step odd-only smallest-count largest-count by-rule radius-for facts-of
+rkmc2-count q r = let x = Whole.max r nought in omega (arith, smallest-from threshold x 997 3, smallest-to threshold x 997 3)

@@ -1,6 +1,6 @@
 -- The stage counts serve every finite r that is not below 0 (`serves`), and every count of every family is permitted (`stage-count-permitted`). Assumes
 -- nothing. ⊕ ⊗ are operations on doubles: they round.
-use mathlib.Core.Path.{_≡_, sym, ap, _∙_, subst}
+use mathlib.Core.Path.{_≡_, refl, sym, ap, _∙_, subst}
 use mathlib.Core.Logic.{_⊎_, inl, inr}
 use Prim.Native.Nat.{ℕ, zero, suc, _+_, _-_, _*_, _≤_, _<_}
 use native.Mathlib.Nat.{le-trans, le-of-eq, lt-of-lt-of-le, lt-of-not-le, not-le-of-lt, mul-right-comm, mul-assoc, mul-le-mul-left, mul-le-mul-right}
@@ -21,15 +21,15 @@ use Rattle.ieee.proofs.Monotone.{NonNeg, infinite, number, le-of-cross}
 use Rattle.ieee.proofs.Logic.{le-or-le}
 use Rattle.ieee.proofs.Value.{round-none}
 use Rattle.family.specs.Family.{Family, Orthogonal, Legendre1, Legendre2, Gegenbauer1, Gegenbauer2, made-of, largest-count, permitted, before-limits}
-use Rattle.family.specs.Family.{limited, stage-count}
+use Rattle.family.specs.Family.{facts-of, radius-for, number-of-stages, limited, stage-count}
 use Rattle.family.specs.Reach.{reach-num, reach-den, parts, Serves}
 use Rattle.family.proofs.Rule.{offset, slope, inner, after, rule-is, more-from, less-to, nearest-nonneg}
 use Rattle.family.proofs.Thresholds.{high, deep, past, full, Above, Below, thresholds}
 use Rattle.family.proofs.Limits.{limits}
 
-pub stage-count-permitted : (f : Family) (r : Float) → T (permitted f (stage-count f r))
+pub stage-count-permitted : (f : Family) (q r : Float) → T (permitted f (stage-count f q r))
 unfolding stage-count
-stage-count-permitted f r = limits f (before-limits f (Whole.max r nought)) .allowed
+stage-count-permitted f q r = limits f (number-of-stages f q r) .allowed
 
 -- ---- what holds at a double u, carried to r: n / d is r, n' / d' is u, and q / under a bound
 regroup : (p under a b : ℕ) → p * a * under * b ≡ p * under * (a * b)
@@ -64,9 +64,9 @@ unfolding deep
 deep-nonneg f k = nearest-nonneg _ _
 
 -- ---- r is not negative. Where r lies above k's upper threshold, the number before limits passes k; where it lies below the lower one, it does not
-module _ (f : Orthogonal) (r : Float) (p : NonNeg r) (i : T (finite r)) where
+module _ (f : Orthogonal) (quotient r : Float) (p : NonNeg r) (i : T (finite r)) where
   abbrev n : ℕ
-  n = before-limits (made-of f) r
+  n = before-limits (made-of f) quotient r
 
   covers : (k : ℕ) → T (permitted (made-of f) k) → n ≤ k → (parts - 1) * num r * reach-den f k ≤ parts * reach-num f k * den r
   covers k t h =
@@ -75,7 +75,7 @@ module _ (f : Orthogonal) (r : Float) (p : NonNeg r) (i : T (finite r)) where
     where
       go : (P Q : ℕ) → P * num (high f k) * reach-den f k ≤ Q * den (high f k) → Above f k (high f k) (past f k)
           → T (le (high f k) r) ⊎ (num r * den (high f k) ≤ num (high f k) * den r) → P * num r * reach-den f k ≤ Q * den r
-      go P Q z a (inl l) = absurd (not-le-of-lt (lt-of-lt-of-le (a .count) (more-from f (high f k) r (past f k) (high-nonneg f k) p l (a .root) (a .from))) h)
+      go P Q z a (inl l) = absurd (not-le-of-lt (lt-of-lt-of-le (a .count) (more-from f quotient (high f k) r (past f k) (high-nonneg f k) p l (a .root) (a .from))) h)
       go P Q z a (inr l) = carry P Q (reach-den f k) (num r) (den r) (num (high f k)) (den (high f k)) (den-pos (high f k)) l z
 
   needed : (k : ℕ) → T (permitted (made-of f) k) → k < n → parts * reach-num f k * den r ≤ (parts + 1) * num r * reach-den f k
@@ -86,10 +86,10 @@ module _ (f : Orthogonal) (r : Float) (p : NonNeg r) (i : T (finite r)) where
       go : (P Q : ℕ) → Q * den (deep f k) ≤ P * num (deep f k) * reach-den f k → Below f k (deep f k) (full f k)
           → T (le r (deep f k)) ⊎ (num (deep f k) * den r ≤ num r * den (deep f k)) → Q * den r ≤ P * num r * reach-den f k
       go P Q z a (inl l) =
-          absurd (not-le-of-lt h (le-trans (less-to f (deep f k) r (full f k) (deep-nonneg f k) p l (a .finite-x) (a .root) (a .from)) (a .count)))
+          absurd (not-le-of-lt h (le-trans (less-to f quotient (deep f k) r (full f k) (deep-nonneg f k) p l (a .finite-x) (a .root) (a .from)) (a .count)))
       go P Q z a (inr l) = carry-back P Q (reach-den f k) (num r) (den r) (num (deep f k)) (den (deep f k)) (den-pos (deep f k)) l z
 
-  limited-serves : Serves f r (limited (made-of f) (before-limits (made-of f) r))
+  limited-serves : Serves f r (limited (made-of f) (before-limits (made-of f) quotient r))
   limited-serves =
       let l = limits (made-of f) n in
       record {
@@ -118,8 +118,8 @@ inner-zero Legendre2 e = ap (λ (z : Float). fin false 9 (pos 0) ⊕ z) (minus-z
 inner-zero Gegenbauer1 e = ap (λ (z : Float). fin false 9 (pos 0) ⊕ z) (minus-zero 1 (pos 3) e)
 inner-zero Gegenbauer2 e = ap (λ (z : Float). fin false 25 (pos 0) ⊕ z) (minus-zero 3 (pos 2) e)
 
-rule-zero : (f : Orthogonal) (e : ℤ) → before-limits (made-of f) (fin true 0 e) ≡ before-limits (made-of f) nought
-rule-zero f e = rule-is f (fin true 0 e) ∙ ap (λ (x : Float). after f (sqrt x)) (inner-zero f e) ∙ sym (rule-is f nought)
+rule-zero : (f : Orthogonal) (q : Float) (e : ℤ) → before-limits (made-of f) q (fin true 0 e) ≡ before-limits (made-of f) q nought
+rule-zero f q e = rule-is f q (fin true 0 e) ∙ ap (λ (x : Float). after f (sqrt x)) (inner-zero f e) ∙ sym (rule-is f q nought)
 
 -- what serves 0 serves −0
 zero-serves : (f : Orthogonal) (e : ℤ) (s : ℕ) → Serves f nought s → Serves f (fin true 0 e) s
@@ -150,19 +150,31 @@ negative-below m e = is-true (ltb 0 (suc m * up e * 1 + 0 * 1 * down e))
     some : (a d : ℕ) → 0 < a → 0 < a * 1 + 0 * 1 * d
     some a d h = omega arith
 
-not-below : (g : Orthogonal) (r : Float) → lt r nought ≡ false → T (finite r) → stage-count (made-of g) r ≡ limited (made-of g) (before-limits (made-of g) r)
-unfolding stage-count Whole.max
-not-below g nan h i = absurd i
-not-below g (inf s) h i = absurd i
-not-below g (fin s m e) h i = ap (λ (b : Bool). limited (made-of g) (before-limits (made-of g) (cond b nought (fin s m e)))) h
+-- their rules take a NaN and what is negative as 0
+pub from-zero : (g : Orthogonal) (r : Float) → radius-for (facts-of (made-of g) .rule) r ≡ Whole.max r nought
+unfolding made-of facts-of radius-for
+from-zero Legendre1 r = refl
+from-zero Legendre2 r = refl
+from-zero Gegenbauer1 r = refl
+from-zero Gegenbauer2 r = refl
 
-pub serves : (f : Orthogonal) (r : Float) → T (finite r) → lt r nought ≡ false → Serves f r (stage-count (made-of f) r)
-serves f r i h = subst (λ (s : ℕ). Serves f r s) (sym (not-below f r h i)) (go r i h)
+not-below : (g : Orthogonal) (q r : Float) → lt r nought ≡ false → T (finite r)
+    → stage-count (made-of g) q r ≡ limited (made-of g) (before-limits (made-of g) q r)
+unfolding stage-count Whole.max
+not-below g q r h i = ap (λ (x : Float). limited (made-of g) (before-limits (made-of g) q x)) (from-zero g r ∙ go r h i)
   where
-    go : (r : Float) → T (finite r) → lt r nought ≡ false → Serves f r (limited (made-of f) (before-limits (made-of f) r))
+    go : (r : Float) → lt r nought ≡ false → T (finite r) → Whole.max r nought ≡ r
+    go nan h i = absurd i
+    go (inf s) h i = absurd i
+    go (fin s m e) h i = ap (λ (b : Bool). cond b nought (fin s m e)) h
+
+pub serves : (f : Orthogonal) (q r : Float) → T (finite r) → lt r nought ≡ false → Serves f r (stage-count (made-of f) q r)
+serves f q r i h = subst (λ (s : ℕ). Serves f r s) (sym (not-below f q r h i)) (go r i h)
+  where
+    go : (r : Float) → T (finite r) → lt r nought ≡ false → Serves f r (limited (made-of f) (before-limits (made-of f) q r))
     go nan i h = absurd i
     go (inf s) i h = absurd i
-    go (fin false m e) i h = limited-serves f (fin false m e) (number m e) tt
-    go (fin true zero e) i h = subst (λ (k : ℕ). Serves f (fin true 0 e) (limited (made-of f) k)) (sym (rule-zero f e))
-        (zero-serves f e (limited (made-of f) (before-limits (made-of f) nought)) (limited-serves f nought (number 0 (pos 0)) tt))
+    go (fin false m e) i h = limited-serves f q (fin false m e) (number m e) tt
+    go (fin true zero e) i h = subst (λ (k : ℕ). Serves f (fin true 0 e) (limited (made-of f) k)) (sym (rule-zero f q e))
+        (zero-serves f e (limited (made-of f) (before-limits (made-of f) q nought)) (limited-serves f q nought (number 0 (pos 0)) tt))
     go (fin true (suc m) e) i h = absurd (true≢false (sym (negative-below m e) ∙ h))

@@ -7,7 +7,7 @@ use mathlib.Core.Bool.{Bool, true, false, not, _&&_, _||_}
 use lib.Dec.{T, leb, eqb, leb→le, le→leb, eqb→eq, lit≤}
 use lib.Ieee.Fits.{and-l, and-r, and-i, eq→eqb}
 use Rattle.family.specs.declared.Facts.{Facts}
-use Rattle.family.specs.Family.{Family, RKC, RKL1, RKL2, RKG1, RKG2, RKMC2, smallest-count, largest-count, odd-only, permitted, facts-of, most-stages}
+use Rattle.family.specs.Family.{Family, RKC, RKL1, RKL2, RKG1, RKG2, RKMC2, TSRKC2, smallest-count, largest-count, odd-only, permitted, facts-of, most-stages}
 use Rattle.family.specs.Family.{Orthogonal, Legendre1, Legendre2, Gegenbauer1, Gegenbauer2, made-of}
 
 pub record Permitted (f : Family) (s : ℕ) : Type 0 where
@@ -68,6 +68,7 @@ facts-sound RKL2 = tt
 facts-sound RKG1 = tt
 facts-sound RKG2 = tt
 facts-sound RKMC2 = tt
+facts-sound TSRKC2 = tt
 
 record Sound (f : Family) : Type 0 where
   from-two : 2 ≤ smallest-count f

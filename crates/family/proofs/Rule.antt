@@ -52,16 +52,16 @@ inner f r = offset f ⊕ slope f ⊗ r
 unfoldable pub after : Orthogonal → Float → ℕ
 after f y = toUnsigned 64 (ceil ((y ⊖ shifted f) ⊘ two))
 
-divided-is : (f : Orthogonal) (r : Float) → by-division (facts-of (made-of f) .rule) r ≡ after f (sqrt (inner f r))
+divided-is : (f : Orthogonal) (q r : Float) → by-division (facts-of (made-of f) .rule) q r ≡ after f (sqrt (inner f r))
 unfolding made-of inner after offset slope shifted by-division facts-of
-divided-is Legendre1 r = refl
-divided-is Legendre2 r = refl
-divided-is Gegenbauer1 r = refl
-divided-is Gegenbauer2 r = refl
+divided-is Legendre1 q r = refl
+divided-is Legendre2 q r = refl
+divided-is Gegenbauer1 q r = refl
+divided-is Gegenbauer2 q r = refl
 
-pub rule-is : (f : Orthogonal) (r : Float) → before-limits (made-of f) r ≡ after f (sqrt (inner f r))
+pub rule-is : (f : Orthogonal) (q r : Float) → before-limits (made-of f) q r ≡ after f (sqrt (inner f r))
 unfolding before-limits
-rule-is f r = rule-divided (facts-of (made-of f) .rule) r ∙ divided-is f r
+rule-is f q r = rule-divided (facts-of (made-of f) .rule) q r ∙ divided-is f q r
 
 -- ---- inner
 module _ (n : ℕ) (d : ℤ) (n' : ℕ) (d' : ℤ) where
@@ -155,30 +155,30 @@ from-shift f r p =
     (sqrt-mono (inner f nought) (inner f r) n n' o o' (inner-mono f nought r z p (least r p)))
 
 -- ---- the count at one double, u, bounds it at another, r. a / L is a bound of the root at u
-pub more-from : (f : Orthogonal) (u r : Float) (a : ℕ) → NonNeg u → NonNeg r → T (le u r) → a * a ≤ squared-units (inner f u) → T (le (shifted f) (nearest a L))
-    → after f (nearest a L) ≤ before-limits (made-of f) r
-more-from f u r a p q h w l =
+pub more-from : (f : Orthogonal) (quotient u r : Float) (a : ℕ) → NonNeg u → NonNeg r → T (le u r) → a * a ≤ squared-units (inner f u) → T (le (shifted f) (nearest a L))
+    → after f (nearest a L) ≤ before-limits (made-of f) quotient r
+more-from f quotient u r a p q h w l =
     let n = inner-nonneg f u p in
     let o = inner-some f u p in
     let n' = inner-nonneg f r q in
     let o' = inner-some f r q in
     let s = sqrt-nonneg (inner f u) n o in
     let s' = sqrt-nonneg (inner f r) n' o' in
-    subst (λ (z : ℕ). after f (nearest a L) ≤ z) (sym (rule-is f r))
+    subst (λ (z : ℕ). after f (nearest a L) ≤ z) (sym (rule-is f quotient r))
     (after-mono f (nearest a L) (sqrt (inner f r)) (nearest-nonneg a L) s' l (from-shift f r q)
     (le-both (nearest a L) (sqrt (inner f u)) (sqrt (inner f r)) (nearest-nonneg a L) s s' (root-from (inner f u) n o a w)
     (sqrt-mono (inner f u) (inner f r) n n' o o' (inner-mono f u r p q h))))
 
-pub less-to : (f : Orthogonal) (u r : Float) (a : ℕ) → NonNeg u → NonNeg r → T (le r u) → T (finite (inner f u)) → squared-units (inner f u) ≤ a * a
-    → T (le (shifted f) (nearest a L)) → before-limits (made-of f) r ≤ after f (nearest a L)
-less-to f u r a p q h i w l =
+pub less-to : (f : Orthogonal) (quotient u r : Float) (a : ℕ) → NonNeg u → NonNeg r → T (le r u) → T (finite (inner f u)) → squared-units (inner f u) ≤ a * a
+    → T (le (shifted f) (nearest a L)) → before-limits (made-of f) quotient r ≤ after f (nearest a L)
+less-to f quotient u r a p q h i w l =
     let n = inner-nonneg f u p in
     let o = inner-some f u p in
     let n' = inner-nonneg f r q in
     let o' = inner-some f r q in
     let s = sqrt-nonneg (inner f u) n o in
     let s' = sqrt-nonneg (inner f r) n' o' in
-    subst (λ (z : ℕ). z ≤ after f (nearest a L)) (sym (rule-is f r))
+    subst (λ (z : ℕ). z ≤ after f (nearest a L)) (sym (rule-is f quotient r))
     (after-mono f (sqrt (inner f r)) (nearest a L) s' (nearest-nonneg a L) (from-shift f r q) l
     (le-both (sqrt (inner f r)) (sqrt (inner f u)) (nearest a L) s' s (nearest-nonneg a L)
     (sqrt-mono (inner f r) (inner f u) n' n o' o (inner-mono f r u q p h)) (root-to (inner f u) n o i a w)))

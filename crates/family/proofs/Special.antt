@@ -1,11 +1,11 @@
 -- The counts of an infinite r, of what counts as 0, of RKC: in 2 to 200, and 200 where the root reaches 2 ^ 64; and of RKMC2: in 3 to 1000, 3 for a NaN and
 -- 1000 for an infinite r. Assumes nothing.
 -- ⊕ ⊗ are operations on doubles: they round.
-use mathlib.Core.Path.{_≡_, refl, ap}
+use mathlib.Core.Path.{_≡_, refl, sym, ap, _∙_}
 use Prim.Native.Nat.{ℕ, _+_, _-_, _*_, _^_, _≤_, _<_}
 use native.Mathlib.Nat.{le-div-iff-mul-le, mul-le-mul-right}
 use native.Mathlib.Omega.{arith}
-use mathlib.Core.Bool.{Bool, true, false, _&&_, cond}
+use mathlib.Core.Bool.{Bool, true, false, _&&_, cond, true≢false}
 use lib.IntN.{pos}
 use lib.Dec.{T, eqb, eqb→eq, lit≤, lit<}
 use lib.Ieee.{Float, nan, inf, fin, binary64, up, down, lt, le, toUnsigned, add, sub, mul, round, ofBits}
@@ -19,37 +19,60 @@ use Rattle.table.specs.Smallest.{smallest}
 use Rattle.rkmc2_threshold.specs.Table.{threshold}
 use Rattle.ieee.proofs.Monotone.{cross, round-nonneg}
 use Rattle.ieee.proofs.Casts.{cast-mono}
-use Rattle.family.specs.Family.{Family, RKC, RKL1, RKL2, RKG1, RKG2, RKMC2, smallest-count, largest-count, odd-only, before-limits}
-use Rattle.family.specs.Family.{odd-step, limited, stage-count, facts-of, by-rule}
-use Rattle.family.proofs.Range.{rkc-between, rkmc2-between}
+use Rattle.family.specs.Family.{Family, RKC, RKL1, RKL2, RKG1, RKG2, RKMC2, TSRKC2, smallest-count, largest-count, odd-only}
+use Rattle.family.specs.Family.{before-limits, odd-step, limited, stage-count, facts-of, by-rule, radius-for}
+use Rattle.family.proofs.Range.{rkc-between, rkmc2-between, permitted-range}
 use Rattle.family.proofs.Limits.{limited-largest}
 use Rattle.family.proofs.Counts.{stage-count-permitted}
 
--- ---- an infinite r gives the largest
-pub infinite-count : (f : Family) → stage-count f (inf false) ≡ largest-count f
+-- ---- an infinite r gives the largest, but in TSRKC2, which refuses more than the largest
+pub infinite-count : (f : Family) (q : Float) → facts-of f .«refuses_more» ≡ false → stage-count f q (inf false) ≡ largest-count f
 unfolding stage-count before-limits limited odd-step odd-only smallest-count largest-count Whole.max lt nearest add sub mul sqrt floor ceil toUnsigned
-    by-rule facts-of smallest threshold ofBits le
-infinite-count RKC = refl
-infinite-count RKL1 = refl
-infinite-count RKL2 = refl
-infinite-count RKG1 = refl
-infinite-count RKG2 = refl
-infinite-count RKMC2 = refl
+    by-rule radius-for facts-of smallest threshold ofBits le
+infinite-count RKC q h = refl
+infinite-count RKL1 q h = refl
+infinite-count RKL2 q h = refl
+infinite-count RKG1 q h = refl
+infinite-count RKG2 q h = refl
+infinite-count RKMC2 q h = refl
+infinite-count TSRKC2 q h = absurd (true≢false h)
 
--- ---- a NaN and what is below 0 count as 0
-pub nan-count : (f : Family) → stage-count f nan ≡ stage-count f nought
-unfolding stage-count Whole.max lt
-nan-count f = refl
+-- ---- a NaN and what is below 0 count as 0, but in TSRKC2
+from-zero : (f : Family) (r : Float) → facts-of f .«refuses_more» ≡ false → radius-for (facts-of f .rule) r ≡ Whole.max r nought
+unfolding facts-of radius-for
+from-zero RKC r h = refl
+from-zero RKL1 r h = refl
+from-zero RKL2 r h = refl
+from-zero RKG1 r h = refl
+from-zero RKG2 r h = refl
+from-zero RKMC2 r h = refl
+from-zero TSRKC2 r h = absurd (true≢false h)
 
-pub negative-count : (f : Family) (r : Float) → lt r nought ≡ true → stage-count f r ≡ stage-count f nought
-unfolding stage-count Whole.max
-negative-count f nan h = refl
-negative-count f (inf s) h = ap (λ (b : Bool). limited f (before-limits f (cond b nought (inf s)))) h
-negative-count f (fin s m e) h = ap (λ (b : Bool). limited f (before-limits f (cond b nought (fin s m e)))) h
+counted-as : (f : Family) (q r x : Float) → facts-of f .«refuses_more» ≡ false → Whole.max r nought ≡ Whole.max x nought
+    → stage-count f q r ≡ stage-count f q x
+unfolding stage-count
+counted-as f q r x h e = ap (λ (z : Float). limited f (before-limits f q z)) (from-zero f r h ∙ e ∙ sym (from-zero f x h))
+
+pub nan-count : (f : Family) (q : Float) → facts-of f .«refuses_more» ≡ false → stage-count f q nan ≡ stage-count f q nought
+unfolding Whole.max lt
+nan-count f q h = counted-as f q nan nought h refl
+
+pub negative-count : (f : Family) (q r : Float) → facts-of f .«refuses_more» ≡ false → lt r nought ≡ true → stage-count f q r ≡ stage-count f q nought
+unfolding Whole.max lt
+negative-count f q r one-step h = counted-as f q r nought one-step (go r h)
+  where
+    go : (r : Float) → lt r nought ≡ true → Whole.max r nought ≡ Whole.max nought nought
+    go nan h = refl
+    go (inf s) h = ap (λ (b : Bool). cond b nought (inf s)) h
+    go (fin s m e) h = ap (λ (b : Bool). cond b nought (fin s m e)) h
+
+-- ---- TSRKC2: in 2 to 1000; a NaN gives 2; an infinite r without a history exceeds
+pub tsrkc2-range : (q r : Float) → (2 ≤ stage-count TSRKC2 q r) × (stage-count TSRKC2 q r ≤ 1000)
+tsrkc2-range q r = permitted-range TSRKC2 (stage-count TSRKC2 q r) (stage-count-permitted TSRKC2 q r)
 
 -- ---- RKC
-pub rkc-range : (r : Float) → (2 ≤ stage-count RKC r) × (stage-count RKC r ≤ 200)
-rkc-range r = rkc-between (stage-count RKC r) (stage-count-permitted RKC r)
+pub rkc-range : (q r : Float) → (2 ≤ stage-count RKC q r) × (stage-count RKC q r ≤ 200)
+rkc-range q r = rkc-between (stage-count RKC q r) (stage-count-permitted RKC q r)
 
 -- where the root reaches 2 ^ 64 the cast is 2 ^ 64 - 1, and the number before limits is far above the largest count
 from-too-many : (y : Float) → T (le (nearest (2 ^ 64) 1) y) → 200 ≤ toUnsigned 64 (floor y) + 1
@@ -72,18 +95,19 @@ from-too-many (fin false m e) h =
     enough : {c : ℕ} → 2 ^ 64 - 1 ≤ c → 200 ≤ c + 1
     enough h = omega arith
 
-pub rkc-from-too-many : (r : Float) → T (le (nearest (2 ^ 64) 1) (sqrt (nearest 154 100 ⊗ Whole.max r nought ⊕ one))) → stage-count RKC r ≡ 200
-unfolding stage-count before-limits largest-count by-rule facts-of
-rkc-from-too-many r h = limited-largest RKC _ (from-too-many (sqrt (nearest 154 100 ⊗ Whole.max r nought ⊕ one)) h)
+pub rkc-from-too-many : (q r : Float) → T (le (nearest (2 ^ 64) 1) (sqrt (nearest 154 100 ⊗ Whole.max r nought ⊕ one))) → stage-count RKC q r ≡ 200
+unfolding stage-count before-limits largest-count by-rule radius-for facts-of
+rkc-from-too-many q r h = limited-largest RKC _ (from-too-many (sqrt (nearest 154 100 ⊗ Whole.max r nought ⊕ one)) h)
 
 -- ---- RKMC2
-pub rkmc2-range : (r : Float) → (3 ≤ stage-count RKMC2 r) × (stage-count RKMC2 r ≤ 1000)
-rkmc2-range r = rkmc2-between (stage-count RKMC2 r) (stage-count-permitted RKMC2 r)
+pub rkmc2-range : (q r : Float) → (3 ≤ stage-count RKMC2 q r) × (stage-count RKMC2 q r ≤ 1000)
+rkmc2-range q r = rkmc2-between (stage-count RKMC2 q r) (stage-count-permitted RKMC2 q r)
 
-pub rkmc2-nan : stage-count RKMC2 nan ≡ 3
-unfolding stage-count before-limits limited odd-step odd-only smallest-count largest-count Whole.max lt by-rule facts-of smallest threshold ofBits le
-rkmc2-nan = refl
+pub rkmc2-nan : (q : Float) → stage-count RKMC2 q nan ≡ 3
+unfolding stage-count before-limits limited odd-step odd-only smallest-count largest-count Whole.max lt by-rule radius-for facts-of smallest threshold
+    ofBits le
+rkmc2-nan q = refl
 
-pub rkmc2-infinite : stage-count RKMC2 (inf false) ≡ 1000
+pub rkmc2-infinite : (q : Float) → stage-count RKMC2 q (inf false) ≡ 1000
 unfolding largest-count facts-of
-rkmc2-infinite = infinite-count RKMC2
+rkmc2-infinite q = infinite-count RKMC2 q refl

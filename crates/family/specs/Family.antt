@@ -1,8 +1,9 @@
--- The families, and how many stages each runs: family.rs. Document 01, "family.rs: stage counts", and document 02, CR 1, CR 3 and CR 5.
+-- The families, and how many stages each runs: family.rs, and for TSRKC2 the head of `run_tsrkc2`. Document 01, "family.rs: stage counts", and document 02,
+-- CR 1, CR 3, CR 5 and CR 6.
 -- ⊕ ⊖ ⊗ are operations on doubles: they round.
 use Prim.Native.Nat.{ℕ, _+_, _%_, min, max}
 use mathlib.Core.Bool.{Bool, true, false, cond, not, _&&_, _||_}
-use lib.Dec.{leb, eqb}
+use lib.Dec.{leb, ltb, eqb}
 use lib.Ieee.{Float, toUnsigned}
 use Rattle.ieee.specs.Double.{_⊕_, _⊖_, _⊗_, nearest, nought, half, one, three, four, eight, nine, ten, twelve, twenty-five}
 use Rattle.ieee.specs.Sqrt.{sqrt}
@@ -13,28 +14,34 @@ use Rattle.rkmc2_threshold.specs.Table.{threshold}
 use Rattle.family.specs.declared.Setting.{Setting}
 use Rattle.family.specs.declared.Facts.{Facts}
 use Rattle.family.specs.declared.StageRule.{StageRule}
-use Rattle.family.specs.declared.StageRule.the-variants.{RoundedDown, RoundedUp, ByThreshold}
-use Rattle.family.specs.declared.RowForm.the-variants.{ChebyshevRow, OrthogonalRow, InitialFirstRow}
+use Rattle.family.specs.declared.StageRule.the-variants.{RoundedDown, RoundedUp, ByThreshold, WithQuotient}
+use Rattle.family.specs.declared.RowForm.the-variants.{ChebyshevRow, OrthogonalRow, InitialFirstRow, PlainRow}
 use Rattle.family.specs.declared.ErrorForm.the-variants.{FirstDerivative, BothDerivatives, LastDerivative}
-use Rattle.family.specs.declared.CandidateForm.the-variants.{LastStage, Combined}
+use Rattle.family.specs.declared.CandidateForm.the-variants.{LastStage, Combined, WithOlder}
 
 pub data Family : Type 0 where
-  RKC RKL1 RKL2 RKG1 RKG2 RKMC2 : Family
+  RKC RKL1 RKL2 RKG1 RKG2 RKMC2 TSRKC2 : Family
 
--- numbered 1 to 6 in that order
+-- numbered 1 to 7 in that order
 abbrev pub family-count : ℕ
-family-count = 6
+family-count = 7
 
 unfoldable pub known : ℕ → Bool
 known number = leb 1 number && leb number family-count
 
 unfoldable pub family-of : ℕ → Family
 family-of number =
-    cond (eqb number 1) RKC (cond (eqb number 2) RKL1 (cond (eqb number 3) RKL2 (cond (eqb number 4) RKG1 (cond (eqb number 6) RKMC2 RKG2))))
+    cond (eqb number 1) RKC
+    (cond (eqb number 2) RKL1
+    (cond (eqb number 3) RKL2
+    (cond (eqb number 4) RKG1
+    (cond (eqb number 6) RKMC2
+    (cond (eqb number 7) TSRKC2 RKG2)))))
 
--- what an attempt runs under: its family, given by number
-abbrev pub setting : ℕ → Setting
-setting number = record { family = number }
+-- What an attempt runs under: its family, given by number; whether there is a history, a step accepted before; and q, the last accepted step over the present
+-- one, 0 without a history (document 02, CR 6: TSRKC2 alone reads the two).
+abbrev pub setting : ℕ → Bool → Float → Setting
+setting number history q = record { family = number; history = history; quotient = q }
 
 abbrev pub kind : Setting → Family
 kind m = family-of (m .family)
@@ -49,10 +56,10 @@ made-of Legendre2 = RKL2
 made-of Gegenbauer1 = RKG1
 made-of Gegenbauer2 = RKG2
 
--- ---- each family's facts: its permitted counts (smallest, largest, only odd ones), its stage rule, whether its area keeps an older state, and the forms of
--- its rows, its error and its candidate
+-- ---- each family's facts: its permitted counts (smallest, largest, only odd ones), its stage rule, whether a need of more than the largest count is refused
+-- where others run the largest, whether its area keeps an older state, and the forms of its rows, its error and its candidate
 
--- the largest count of any family, RKMC2's
+-- the largest count of any family, RKMC2's and TSRKC2's
 abbrev pub most-stages : ℕ
 most-stages = 1000
 
@@ -63,6 +70,7 @@ orthogonal smallest largest odd rule = record {
   largest = largest;
   «odd_only» = odd;
   rule = rule;
+  «refuses_more» = false;
   «keeps_older» = false;
   row = OrthogonalRow;
   error = FirstDerivative;
@@ -75,6 +83,7 @@ facts-of RKC = record {
   largest = 200;
   «odd_only» = false;
   rule = RoundedDown (nearest 154 100);
+  «refuses_more» = false;
   «keeps_older» = false;
   row = ChebyshevRow;
   error = BothDerivatives;
@@ -90,10 +99,22 @@ facts-of RKMC2 = record {
   largest = most-stages;
   «odd_only» = false;
   rule = ByThreshold;
+  «refuses_more» = false;
   «keeps_older» = false;
   row = InitialFirstRow;
   error = LastDerivative ten;
   candidate = Combined;
+}
+facts-of TSRKC2 = record {
+  smallest = 2;
+  largest = most-stages;
+  «odd_only» = false;
+  rule = WithQuotient (nearest 759782816506459 1000000000000000) (nearest 598626091572911 1000000000000000);
+  «refuses_more» = true;
+  «keeps_older» = true;
+  row = PlainRow;
+  error = LastDerivative three;
+  candidate = WithOlder;
 }
 
 -- ---- permitted counts
@@ -110,22 +131,23 @@ odd-only f = facts-of f .«odd_only»
 unfoldable pub permitted : Family → ℕ → Bool
 permitted f s = leb (smallest-count f) s && leb s (largest-count f) && (not (odd-only f) || eqb (s % 2) 1)
 
--- ---- whether it keeps, beside the accepted state, the state accepted before it: `previous_accepted_state`, which none of these has
+-- ---- whether it keeps, beside the accepted state, the state accepted before it: `previous_accepted_state`
 
 unfoldable pub keeps-older : Family → Bool
 keeps-older f = facts-of f .«keeps_older»
 
 -- ---- the stage rule
 
--- the whole number before limits, of the scaled radius r; by thresholds the smallest count from 3 to 999 whose threshold is at least r, else 1000.
--- RKL and RKG multiply by 0.5 (CR 3) where document 01 divides by 2, which gives the same number: `Divided`
-unfoldable pub by-rule : StageRule → Float → ℕ
-by-rule (RoundedDown slope) r = toUnsigned 64 (floor (sqrt (slope ⊗ r ⊕ one))) + 1
-by-rule (RoundedUp offset slope shift) r = toUnsigned 64 (ceil ((sqrt (offset ⊕ slope ⊗ r) ⊖ shift) ⊗ half))
-by-rule ByThreshold r = smallest threshold r 997 3
+-- The whole number before limits, of q and the scaled radius r; by thresholds the smallest count from 3 to 999 whose threshold is at least r, else 1000.
+-- RKL and RKG multiply by 0.5 (CR 3) where document 01 divides by 2, which gives the same number: `Divided`.
+unfoldable pub by-rule : StageRule → Float → Float → ℕ
+by-rule (RoundedDown slope) q r = toUnsigned 64 (floor (sqrt (slope ⊗ r ⊕ one))) + 1
+by-rule (RoundedUp offset slope shift) q r = toUnsigned 64 (ceil ((sqrt (offset ⊕ slope ⊗ r) ⊖ shift) ⊗ half))
+by-rule ByThreshold q r = smallest threshold r 997 3
+by-rule (WithQuotient slope bend) q r = toUnsigned 64 (floor (sqrt (one ⊕ slope ⊗ r ⊗ (one ⊖ q ⊕ sqrt (one ⊕ q ⊗ (q ⊖ bend)))))) + 1
 
-unfoldable pub before-limits : Family → Float → ℕ
-before-limits f r = by-rule (facts-of f .rule) r
+unfoldable pub before-limits : Family → Float → Float → ℕ
+before-limits f q r = by-rule (facts-of f .rule) q r
 
 -- an even number goes up by one, where only odd ones are permitted
 unfoldable pub odd-step : Family → ℕ → ℕ
@@ -134,6 +156,19 @@ odd-step f m = cond (odd-only f && eqb (m % 2) 0) (m + 1) m
 unfoldable pub limited : Family → ℕ → ℕ
 limited f m = min (odd-step f (max m (smallest-count f))) (largest-count f)
 
--- a NaN and a negative r count as 0
-unfoldable pub stage-count : Family → Float → ℕ
-stage-count f r = limited f (before-limits f (Whole.max r nought))
+-- the r that a rule takes: a NaN and a negative r count as 0, but in TSRKC2, which takes r as it is
+unfoldable pub radius-for : StageRule → Float → Float
+radius-for (RoundedDown slope) r = Whole.max r nought
+radius-for (RoundedUp offset slope shift) r = Whole.max r nought
+radius-for ByThreshold r = Whole.max r nought
+radius-for (WithQuotient slope bend) r = r
+
+abbrev pub number-of-stages : Family → Float → Float → ℕ
+number-of-stages f q r = before-limits f q (radius-for (facts-of f .rule) r)
+
+unfoldable pub stage-count : Family → Float → Float → ℕ
+stage-count f q r = limited f (number-of-stages f q r)
+
+-- whether the number before limits is more than the largest count, in a family that refuses such a need: number 11 (document 02, CR 6)
+unfoldable pub exceeds : Family → Float → Float → Bool
+exceeds f q r = facts-of f .«refuses_more» && ltb (largest-count f) (number-of-stages f q r)

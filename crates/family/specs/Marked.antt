@@ -3,7 +3,7 @@ use mathlib.Core.List.{List, [], _∷_}
 use Prim.Native.Nat.{ℕ}
 use mathlib.Core.Bool.{Bool, true, _&&_}
 use lib.Dec.{eqb}
-use Rattle.ieee.specs.Double.{nearest}
+use Rattle.ieee.specs.Double.{nearest, nought}
 use Rattle.family.specs.Family.{Family, RKC, RKL1, RKL2, RKG1, RKG2, stage-count}
 
 pub record Case : Type 0 where
@@ -23,8 +23,9 @@ marked =
     ∷ case RKG1 5 1 2 ∷ case RKG1 7 1 3
     ∷ case RKG2 2 1 3 ∷ case RKG2 12 1 5 ∷ []
 
+-- without a history, which none of these families reads
 unfoldable pub right : Case → Bool
-right c = eqb (stage-count (c .family) (nearest (c .numerator) (c .denominator))) (c .count)
+right c = eqb (stage-count (c .family) nought (nearest (c .numerator) (c .denominator))) (c .count)
 
 unfoldable pub all-right : List Case → Bool
 all-right [] = true

@@ -1,19 +1,35 @@
-// family.rs: the families, their permitted stage counts and their stage rules. A family is its number, 1 to 6; any other
+// family.rs: the families, their permitted stage counts and their stage rules. A family is its number, 1 to 7; any other
 // number is taken as 5.
 ghost use mathlib.Core.Path.{_≡_};
+ghost use mathlib.Core.Bool.{false};
 ghost use Prim.Native.Nat.{_+_, _-_, _^_, min, max};
+ghost use Rattle.ieee.specs.Double.{nought};
 ghost use Rattle.table.specs.Smallest.{smallest};
 ghost use Rattle.rkmc2_threshold.specs.Table.{threshold};
 ghost use Rattle.family.specs.declared.StageRule.the-variants.{RoundedUp};
 ghost use Rattle.family.specs.Family as spec;
 ghost use Rattle.family.specs.Family.{family-of, keeps-older, before-limits, odd-step, stage-count};
 
-// The largest count of any family, RKMC2's.
+// The largest count of any family, RKMC2's and TSRKC2's.
 pub const MOST_STAGES: u64 = 1000;
 
-// What an attempt runs under.
+// What an attempt runs under: its family, whether there is a history, a step accepted before, and the quotient q of that step
+// and the present one, 0 without a history. TSRKC2 alone reads the last two.
 pub struct Setting {
     pub family: u64,
+    pub history: bool,
+    pub quotient: f64,
+}
+
+// An attempt of this family without a history.
+pub fn without_history(family: u64) -> Setting
+    ensures { λ r. ⌜ r ≡ spec.setting family false nought ⌝ }
+{
+    Setting {
+        family,
+        history: false,
+        quotient: 0.0,
+    }
 }
 
 // How the whole number before limits follows from the scaled radius r.
@@ -24,14 +40,18 @@ pub enum StageRule {
     RoundedUp { offset: f64, slope: f64, shift: f64 },
     // the smallest count from 3 to 999 whose threshold is at least r, else 1000
     ByThreshold,
+    // floor(sqrt(1 + slope * r * (1 - q + sqrt(1 + q * (q - bend))))) + 1
+    WithQuotient { slope: f64, bend: f64 },
 }
 
 // The order of a row's terms, and how it weighs the two derivatives: RKC's in one product, RKL's and RKG's in a product
-// each, both with the state's term third; RKMC2's in one product, with the state's term first.
+// each, both with the state's term third; RKMC2's in one product, with the state's term first; TSRKC2's has neither the
+// state nor the first derivative.
 pub enum RowForm {
     ChebyshevRow,
     OrthogonalRow,
     InitialFirstRow,
+    PlainRow,
 }
 
 // Which derivatives the error takes beside the state and the candidate: the first alone, and its norm is then divided by
@@ -42,19 +62,22 @@ pub enum ErrorForm {
     LastDerivative { over: f64 },
 }
 
-// What the candidate is made of: the last stage, or a combination of it with the state, the stage two before it and the
-// first derivative.
+// What the candidate is made of: the last stage; a combination of it with the state, the stage two before it and the
+// first derivative; or one with the older state.
 pub enum CandidateForm {
     LastStage,
     Combined,
+    WithOlder,
 }
 
-// A family's facts: the permitted counts, the stage rule, whether its area keeps an older state, and its forms.
+// A family's facts: the permitted counts, the stage rule, whether a need of more than the largest count is refused, whether
+// its area keeps an older state, and its forms.
 pub struct Facts {
     pub smallest: u64,
     pub largest: u64,
     pub odd_only: bool,
     pub rule: StageRule,
+    pub refuses_more: bool,
     pub keeps_older: bool,
     pub row: RowForm,
     pub error: ErrorForm,
@@ -69,6 +92,7 @@ fn rkc() -> Facts
         largest: 200,
         odd_only: false,
         rule: StageRule::RoundedDown { slope: 1.54 },
+        refuses_more: false,
         keeps_older: false,
         row: RowForm::ChebyshevRow,
         error: ErrorForm::BothDerivatives,
@@ -85,6 +109,7 @@ fn orthogonal(smallest: u64, largest: u64, odd_only: bool, rule: StageRule) -> F
         largest,
         odd_only,
         rule,
+        refuses_more: false,
         keeps_older: false,
         row: RowForm::OrthogonalRow,
         error: ErrorForm::FirstDerivative,
@@ -100,10 +125,30 @@ fn rkmc2() -> Facts
         largest: MOST_STAGES,
         odd_only: false,
         rule: StageRule::ByThreshold,
+        refuses_more: false,
         keeps_older: false,
         row: RowForm::InitialFirstRow,
         error: ErrorForm::LastDerivative { over: 10.0 },
         candidate: CandidateForm::Combined,
+    }
+}
+
+fn tsrkc2() -> Facts
+    ensures { λ r. ⌜ r ≡ spec.facts-of spec.TSRKC2 ⌝ }
+{
+    Facts {
+        smallest: 2,
+        largest: MOST_STAGES,
+        odd_only: false,
+        rule: StageRule::WithQuotient {
+            slope: 0.759782816506459,
+            bend: 0.598626091572911,
+        },
+        refuses_more: true,
+        keeps_older: true,
+        row: RowForm::PlainRow,
+        error: ErrorForm::LastDerivative { over: 3.0 },
+        candidate: CandidateForm::WithOlder,
     }
 }
 
@@ -127,6 +172,7 @@ pub fn facts_of(family: u64) -> Facts
         // RKG's slopes, here and in the last arm, are half of the Rust's.
         4 => orthogonal(2, 200, false, rounded_up(9.0, 8.0, 3.0)),
         6 => rkmc2(),
+        7 => tsrkc2(),
         _ => orthogonal(3, 200, false, rounded_up(25.0, 12.0, 3.0)),
     }
 }
@@ -138,7 +184,7 @@ pub fn known(family: u64) -> bool
     if family < 1 {
         return false;
     }
-    family <= 6
+    family <= 7
 }
 
 // Whether the family keeps the state accepted before the present one.
@@ -203,9 +249,9 @@ fn by_threshold(r: f64) -> u64
     low
 }
 
-// The whole number before limits, or the largest u64 where RKC's passes it.
-fn by_rule(rule: StageRule, r: f64) -> u64
-    ensures { λ m. ⌜ m ≡ min (spec.by-rule rule r) (2 ^ 64 - 1) ⌝ }
+// The whole number before limits, or the largest u64 where it passes that.
+fn by_rule(rule: StageRule, q: f64, r: f64) -> u64
+    ensures { λ m. ⌜ m ≡ min (spec.by-rule rule q r) (2 ^ 64 - 1) ⌝ }
 {
     match rule {
         StageRule::RoundedDown { slope } => {
@@ -220,15 +266,20 @@ fn by_rule(rule: StageRule, r: f64) -> u64
             ieee::saturating_u64(ieee::ceil((root - shift) * 0.5))
         }
         StageRule::ByThreshold => by_threshold(r),
+        StageRule::WithQuotient { slope, bend } => {
+            let inner = ieee::sqrt(1.0 + q * (q - bend));
+            let root = ieee::sqrt(1.0 + slope * r * (1.0 - q + inner));
+            one_more(ieee::saturating_u64(ieee::floor(root)))
+        }
     }
 }
 
-fn before_limits(family: u64, r: f64) -> u64
-    ensures { λ m. ⌜ m ≡ min (before-limits (family-of family) r) (2 ^ 64 - 1) ⌝ }
+fn before_limits(family: u64, q: f64, r: f64) -> u64
+    ensures { λ m. ⌜ m ≡ min (before-limits (family-of family) q r) (2 ^ 64 - 1) ⌝ }
 {
     let own = facts_of(family);
     let rule = own.rule;
-    by_rule(rule, r)
+    by_rule(rule, q, r)
 }
 
 // An even number goes up by one, where the family runs odd counts only.
@@ -252,9 +303,44 @@ fn limited(family: u64, stages: u64) -> u64
     smaller(odd_step(family, from_smallest), own.largest)
 }
 
-// How many stages the family runs for the scaled radius |step| * radius. A NaN and a negative one count as 0.
-pub fn stages(family: u64, scaled_radius: f64) -> u64
-    ensures { λ r. ⌜ r ≡ stage-count (family-of family) «scaled_radius» ⌝ }
+// The r that a rule takes: a NaN and a negative one count as 0, but in TSRKC2.
+fn radius_for(rule: StageRule, r: f64) -> f64
+    ensures { λ x. ⌜ x ≡ spec.radius-for rule r ⌝ }
 {
-    limited(family, before_limits(family, ieee::max(scaled_radius, 0.0)))
+    match rule {
+        StageRule::RoundedDown { slope: _ } => ieee::max(r, 0.0),
+        StageRule::RoundedUp {
+            offset: _,
+            slope: _,
+            shift: _,
+        } => ieee::max(r, 0.0),
+        StageRule::ByThreshold => ieee::max(r, 0.0),
+        StageRule::WithQuotient { slope: _, bend: _ } => r,
+    }
+}
+
+fn number_of_stages(family: u64, q: f64, r: f64) -> u64
+    ensures { λ m. ⌜ m ≡ min (spec.number-of-stages (family-of family) q r) (2 ^ 64 - 1) ⌝ }
+{
+    let own = facts_of(family);
+    let rule = own.rule;
+    before_limits(family, q, radius_for(rule, r))
+}
+
+// How many stages the family runs for the quotient q and the scaled radius |step| * radius.
+pub fn stages(family: u64, q: f64, scaled_radius: f64) -> u64
+    ensures { λ r. ⌜ r ≡ stage-count (family-of family) q «scaled_radius» ⌝ }
+{
+    limited(family, number_of_stages(family, q, scaled_radius))
+}
+
+// Whether they would be more than the largest count, in a family that refuses such a need.
+pub fn exceeds(family: u64, q: f64, scaled_radius: f64) -> bool
+    ensures { λ r. ⌜ r ≡ spec.exceeds (family-of family) q «scaled_radius» ⌝ }
+{
+    let own = facts_of(family);
+    if own.refuses_more {
+        return own.largest < number_of_stages(family, q, scaled_radius);
+    }
+    false
 }

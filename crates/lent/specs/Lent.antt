@@ -1,6 +1,6 @@
 -- The record as it is lent: its whole numbers w, in the order of the record's fields, and its doubles x. Of these a value and its predecessor (`b_previous` and
 -- `b_previous_two`, ..) do not stand side by side. The compiler would read such two at once, and that read waits until the reply before has stored them one by
--- one, which RKC's and RKMC2's next coefficients wait for.
+-- one, which the next coefficients of RKC, RKMC2 and TSRKC2 wait for.
 use Prim.Native.Nat.{ℕ}
 use mathlib.Core.List.{List}
 use lib.ListN.{getD}
@@ -13,13 +13,13 @@ use Rattle.driver.specs.declared.Staged.{Staged}
 use Rattle.driver.specs.declared.Record.{Record as Kept}
 use Rattle.driver.specs.Promises.{outcome-of, new-record, no-recurrence}
 use Rattle.lent.specs.declared.Answer.{Answer}
-use Rattle.lent.specs.Numbers.{Arguments, Record, Answered, phase-of, meaning, in-numbers, handed-back}
+use Rattle.lent.specs.Numbers.{Arguments, History, Record, Answered, phase-of, meaning, in-numbers, handed-back}
 
 abbrev pub wholes-long : ℕ
-wholes-long = 7
+wholes-long = 8
 
 abbrev pub doubles-long : ℕ
-doubles-long = 19
+doubles-long = 21
 
 abbrev pub arguments-in : List ℕ → List Float → Arguments
 arguments-in w x = record {
@@ -45,12 +45,16 @@ polynomials-in x = record {
   «first_previous_two» = getD x 10 nan;
   «second_previous» = getD x 6 nan;
   «second_previous_two» = getD x 12 nan;
+  gain = getD x 19 nan;
 }
 
 abbrev pub staging-in : List ℕ → List Float → Staging
 staging-in w x =
     let c : Recurrence = record { «theta_previous» = getD x 15 nan; «theta_previous_two» = getD x 17 nan; polynomials = polynomials-in x } in
     record { stages = getD w 5 0; stage = getD w 6 0; recurrence = c }
+
+abbrev pub history-in : List ℕ → List Float → History
+history-in w x = record { present = getD w 7 0; «previous_accepted_step» = getD x 20 nan }
 
 abbrev pub lent : List ℕ → List Float → Record
 lent w x = record {
@@ -60,6 +64,7 @@ lent w x = record {
   arguments = arguments-in w x;
   iteration = iteration-in w x;
   staging = staging-in w x;
+  history = history-in w x;
 }
 
 -- of the record that it means, what `stage-taken` asks for; all else is 0
@@ -73,6 +78,7 @@ place-of w =
       arguments = new-record .arguments;
       iteration = new-record .iteration;
       staging = g;
+      history = new-record .history;
     }
 
 -- what a call answers, and what it leaves of the record

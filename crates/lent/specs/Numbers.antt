@@ -10,6 +10,7 @@ use Rattle.driver.specs.declared.Phase.{Phase}
 use Rattle.driver.specs.declared.Phase.the-variants as P
 use Rattle.driver.specs.declared.Iteration.{Iteration}
 use Rattle.driver.specs.declared.Staging.{Staging}
+use Rattle.driver.specs.declared.History.{History as Remembered}
 use Rattle.driver.specs.declared.Record.{Record as Kept}
 use Rattle.driver.specs.declared.Figures.{Figures}
 use Rattle.driver.specs.declared.Answer.{Answer as Case}
@@ -41,6 +42,11 @@ pub record Arguments : Type 0 where
   pub «relative_tolerance» : Float
   pub adaptive : ℕ
 
+-- the history: none at 0, else there is one
+pub record History : Type 0 where
+  pub present : ℕ
+  pub «previous_accepted_step» : Float
+
 pub record Record : Type 0 where
   pub family : ℕ
   pub n : ℕ
@@ -48,6 +54,7 @@ pub record Record : Type 0 where
   pub arguments : Arguments
   pub iteration : Iteration
   pub staging : Staging
+  pub history : History
 
 unfoldable pub brought : Float → Float → Float → Float → ℕ → Brought
 brought t h absolute relative adaptive = record {
@@ -61,14 +68,27 @@ brought t h absolute relative adaptive = record {
 abbrev pub as-brought : Arguments → Brought
 as-brought a = brought (a .time) (a .step) (a .«absolute_tolerance») (a .«relative_tolerance») (a .adaptive)
 
-unfoldable pub meaning : Record → Kept
-meaning r =
-    let a = as-brought (r .arguments) in
-    record { family = r .family; n = r .n; phase = phase-of (r .phase); arguments = a; iteration = r .iteration; staging = r .staging }
+abbrev pub as-remembered : History → Remembered
+as-remembered x = record { present = not (eqb (x .present) 0); «previous_accepted_step» = x .«previous_accepted_step» }
 
--- with the number that was brought for `adaptive`
-unfoldable pub written : ℕ → Kept → Record
-written adaptive r =
+unfoldable pub meaning : Record → Kept
+meaning r = record {
+  family = r .family;
+  n = r .n;
+  phase = phase-of (r .phase);
+  arguments = as-brought (r .arguments);
+  iteration = r .iteration;
+  staging = r .staging;
+  history = as-remembered (r .history);
+}
+
+-- the number of a history, of which `found` was the number before: it stands where it means the same
+unfoldable pub history-number : ℕ → Bool → ℕ
+history-number found present = cond present (cond (eqb found 0) 1 found) 0
+
+-- with the number that was brought for `adaptive`, and the one that was found for the history
+unfoldable pub written : ℕ → ℕ → Kept → Record
+written adaptive found r =
     let b = r .arguments in
     let a : Arguments = record {
       time = b .time;
@@ -77,7 +97,19 @@ written adaptive r =
       «relative_tolerance» = b .«relative_tolerance»;
       adaptive = adaptive;
     } in
-    record { family = r .family; n = r .n; phase = phase-number (r .phase); arguments = a; iteration = r .iteration; staging = r .staging }
+    let x : History = record {
+      present = history-number found (r .history .present);
+      «previous_accepted_step» = r .history .«previous_accepted_step»;
+    } in
+    record {
+      family = r .family;
+      n = r .n;
+      phase = phase-number (r .phase);
+      arguments = a;
+      iteration = r .iteration;
+      staging = r .staging;
+      history = x;
+    }
 
 -- ---- answers
 
@@ -122,4 +154,4 @@ pub record Answered : Type 0 where
 
 -- what a call hands back, from the record before it, the number brought for `adaptive`, the answer and the record after it
 unfoldable pub handed-back : Record → ℕ → Answer → Kept → Answered
-handed-back before adaptive a after = record { answer = a; «record» = cond (stands a) before (written adaptive after) }
+handed-back before adaptive a after = record { answer = a; «record» = cond (stands a) before (written adaptive (before .history .present) after) }

@@ -4,10 +4,11 @@ ghost use lib.ListN.{length};
 ghost use Rattle.driver.specs.declared.Staged.the-variants.{On, OnByTheta, Ended, NotFinite};
 ghost use Rattle.driver.specs.Calls.{no-figures};
 ghost use Rattle.lent.specs.Numbers as numbers;
-ghost use Rattle.lent.specs.Lent.{wholes-long, doubles-long, arguments-in, iteration-in, polynomials-in, staging-in, lent, place-of, left-with};
+ghost use Rattle.lent.specs.Lent.{wholes-long, doubles-long, arguments-in, iteration-in, polynomials-in, staging-in, history-in, lent, place-of, left-with};
 ghost use Rattle.lent.specs.Lent.{staged-outcome};
 use coefficients::Polynomials;
 use coefficients::Recurrence;
+use driver::History;
 use driver::Iteration;
 use driver::Next;
 use driver::Phase;
@@ -17,9 +18,9 @@ use driver::Staging;
 use workspace::Arguments;
 
 // How many whole numbers and how many doubles the record is lent as.
-pub const WHOLES: usize = 7;
+pub const WHOLES: usize = 8;
 
-pub const DOUBLES: usize = 19;
+pub const DOUBLES: usize = 21;
 
 // Evaluate (code 1) vector `number` at `time`; finished (2) with `norm`, `stages`, `passes` and `scaled_radius`; ready (3);
 // refused (4) with `number`; empty (5). What an answer does not carry is 0.
@@ -151,6 +152,7 @@ fn read_polynomials(doubles: &[f64; DOUBLES]) -> Polynomials
         first_previous_two: doubles[10],
         second_previous: doubles[6],
         second_previous_two: doubles[12],
+        gain: doubles[19],
     }
 }
 
@@ -169,6 +171,16 @@ fn read_staging(wholes: &[u64; WHOLES], doubles: &[f64; DOUBLES]) -> Staging
     }
 }
 
+// A history is a no at 0, else a yes.
+fn read_history(wholes: &[u64; WHOLES], doubles: &[f64; DOUBLES]) -> History
+    ensures { λ r. ⌜ r ≡ numbers.as-remembered (history-in (now (wholes .entry)) (now (doubles .entry))) ⌝ }
+{
+    History {
+        present: wholes[7] != 0,
+        previous_accepted_step: doubles[20],
+    }
+}
+
 // The record that driver's calls are handed.
 pub fn read(wholes: &[u64; WHOLES], doubles: &[f64; DOUBLES]) -> Record
     ensures { λ r. ⌜ r ≡ numbers.meaning (lent (now (wholes .entry)) (now (doubles .entry))) ⌝ }
@@ -177,6 +189,7 @@ pub fn read(wholes: &[u64; WHOLES], doubles: &[f64; DOUBLES]) -> Record
     let arguments = read_arguments(wholes, doubles);
     let iteration = read_iteration(wholes, doubles);
     let staging = read_staging(wholes, doubles);
+    let history = read_history(wholes, doubles);
     Record {
         family: wholes[0],
         n: wholes[1] as usize,
@@ -184,6 +197,7 @@ pub fn read(wholes: &[u64; WHOLES], doubles: &[f64; DOUBLES]) -> Record
         arguments,
         iteration,
         staging,
+        history,
     }
 }
 
@@ -197,6 +211,7 @@ pub fn place(wholes: &[u64; WHOLES]) -> Record
     let arguments = none.arguments;
     let iteration = none.iteration;
     let recurrence = none.staging.recurrence;
+    let history = none.history;
     Record {
         family: wholes[0],
         n: wholes[1] as usize,
@@ -208,19 +223,35 @@ pub fn place(wholes: &[u64; WHOLES]) -> Record
             stage: wholes[6],
             recurrence,
         },
+        history,
     }
 }
 
 // ---- leaving
 
+// The number of a history, of which `found` was the number before: it stands where it means the same.
+fn history_number(found: u64, present: bool) -> u64
+    ensures { λ r. ⌜ r ≡ numbers.history-number found present ⌝ }
+{
+    if present {
+        if found == 0 {
+            return 1;
+        }
+        return found;
+    }
+    0
+}
+
 // Writes the whole record.
 fn write(wholes: &mut [u64; WHOLES], doubles: &mut [f64; DOUBLES], adaptive: u64, r: Record)
-    ensures { λ _. ⌜ lent (now (wholes .exit)) (now (doubles .exit)) ≡ numbers.written adaptive r ⌝ }
+    ensures { λ _. ⌜ lent (now (wholes .exit)) (now (doubles .exit))
+        ≡ numbers.written adaptive (lent (now (wholes .entry)) (now (doubles .entry)) .history .present) r ⌝ }
 {
     let kept = r.phase;
     let phase = driver::phase_number(kept);
     let c = r.staging.recurrence;
     let p = c.polynomials;
+    let history = history_number(wholes[7], r.history.present);
     *wholes = [
         r.family,
         r.n as u64,
@@ -229,6 +260,7 @@ fn write(wholes: &mut [u64; WHOLES], doubles: &mut [f64; DOUBLES], adaptive: u64
         r.iteration.pass,
         r.staging.stages,
         r.staging.stage,
+        history,
     ];
     *doubles = [
         r.arguments.time,
@@ -250,6 +282,8 @@ fn write(wholes: &mut [u64; WHOLES], doubles: &mut [f64; DOUBLES], adaptive: u64
         p.b_previous_two,
         c.theta_previous_two,
         p.omega_zero,
+        p.gain,
+        r.history.previous_accepted_step,
     ];
 }
 
@@ -307,6 +341,7 @@ fn ask_stage(wholes: &mut [u64], doubles: &mut [f64], time: f64, staging: Stagin
     doubles[16] = p.b_previous_two;
     doubles[17] = c.theta_previous_two;
     doubles[18] = p.omega_zero;
+    doubles[19] = p.gain;
     answer
 }
 

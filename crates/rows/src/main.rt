@@ -1,4 +1,4 @@
-// All coefficients of all families, held against the Rust's: a digest for each family and count, then every row of one count.
+// All coefficients of all families, TSRKC2's without a history, held against the Rust's: a digest for each family and count, then every row of one count.
 // The file stdout beside this was written by the Rust (bindings/oracle/src/bin/digests.rs).
 ghost use mathlib.Core.Path.{_≡_};
 ghost use Prim.Native.Nat.{_*_, _%_, _^_, _≤_, _<_};
@@ -45,14 +45,15 @@ fn row_in(h: u64, row: Coefficients) -> u64 {
 fn digest(family: u64, s: u64) -> u64
     requires { ⌜ (2 ≤ s) × (s < 2 ^ 16) ⌝ }
 {
-    let mut h = double_in(0xcbf2_9ce4_8422_2325, coefficients::omega_one(family, s));
-    h = double_in(h, coefficients::first_mu_tilde(family, s));
-    let mut c = coefficients::first_recurrence(Setting { family }, s);
+    let setting = family::without_history(family);
+    let mut h = double_in(0xcbf2_9ce4_8422_2325, coefficients::omega_one(setting, s));
+    h = double_in(h, coefficients::first_mu_tilde(setting, s));
+    let mut c = coefficients::first_recurrence(setting, s);
     let mut j: u64 = 2;
     while j <= s {
-        let row = coefficients::row_coefficients(Setting { family }, s, j, c);
+        let row = coefficients::row_coefficients(setting, s, j, c);
         h = row_in(h, row);
-        c = coefficients::next_recurrence(Setting { family }, c, row);
+        c = coefficients::next_recurrence(setting, c, row);
         j += 1;
     }
     h
@@ -96,13 +97,13 @@ fn print_coefficients(row: Coefficients) {
 }
 
 // family, s, j, mu, nu, mu_tilde, gamma_tilde, theta, omega_one, first_mu_tilde
-fn print_row(family: u64, s: u64, j: u64, row: Coefficients) {
-    print_count(family, s);
+fn print_row(setting: Setting, s: u64, j: u64, row: Coefficients) {
+    print_count(setting.family, s);
     io::write_all(STDOUT_FILENO, b" ");
     io::print_decimal(STDOUT_FILENO, j);
     print_coefficients(row);
-    print_double(coefficients::omega_one(family, s));
-    print_double(coefficients::first_mu_tilde(family, s));
+    print_double(coefficients::omega_one(setting, s));
+    print_double(coefficients::first_mu_tilde(setting, s));
     io::write_all(STDOUT_FILENO, b"\n");
 }
 
@@ -110,12 +111,13 @@ fn print_row(family: u64, s: u64, j: u64, row: Coefficients) {
 fn print_rows(family: u64, s: u64)
     requires { ⌜ (2 ≤ s) × (s < 2 ^ 16) ⌝ }
 {
-    let mut c = coefficients::first_recurrence(Setting { family }, s);
+    let setting = family::without_history(family);
+    let mut c = coefficients::first_recurrence(setting, s);
     let mut j: u64 = 2;
     while j <= s {
-        let row = coefficients::row_coefficients(Setting { family }, s, j, c);
-        print_row(family, s, j, row);
-        c = coefficients::next_recurrence(Setting { family }, c, row);
+        let row = coefficients::row_coefficients(setting, s, j, c);
+        print_row(setting, s, j, row);
+        c = coefficients::next_recurrence(setting, c, row);
         j += 1;
     }
 }
@@ -127,10 +129,12 @@ fn main() {
     print_digests(4);
     print_digests(5);
     print_digests(6);
+    print_digests(7);
     print_rows(1, 9);
     print_rows(2, 9);
     print_rows(3, 9);
     print_rows(4, 9);
     print_rows(5, 9);
     print_rows(6, 9);
+    print_rows(7, 9);
 }

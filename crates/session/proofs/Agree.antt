@@ -1,6 +1,6 @@
 -- Vectors that agree on some names: each step of the kernel keeps the names on which two sets of vectors agree, and adds those that it writes. With a history
 -- the older state is among them from the start on.
-use mathlib.Core.Path.{_≡_, refl, ap}
+use mathlib.Core.Path.{_≡_, refl, sym, ap, _∙_}
 use mathlib.Core.Bool.{Bool, true, false, cond, _&&_, _||_}
 use mathlib.Core.List.{List}
 use Prim.Native.Nat.{ℕ}
@@ -10,11 +10,11 @@ use lib.Ieee.{Float, le}
 use Rattle.ieee.specs.Double.{one, min-positive}
 use Rattle.family.specs.declared.Setting.{Setting}
 use Rattle.family.specs.declared.RowForm.{RowForm}
-use Rattle.family.specs.declared.RowForm.the-variants.{ChebyshevRow, OrthogonalRow, InitialFirstRow}
+use Rattle.family.specs.declared.RowForm.the-variants.{ChebyshevRow, OrthogonalRow, InitialFirstRow, PlainRow}
 use Rattle.family.specs.declared.ErrorForm.{ErrorForm}
 use Rattle.family.specs.declared.ErrorForm.the-variants.{FirstDerivative, BothDerivatives, LastDerivative}
 use Rattle.family.specs.declared.CandidateForm.{CandidateForm}
-use Rattle.family.specs.declared.CandidateForm.the-variants.{LastStage, Combined}
+use Rattle.family.specs.declared.CandidateForm.the-variants.{LastStage, Combined, WithOlder}
 use Rattle.family.specs.Family.{facts-of, kind}
 use Rattle.coefficients.specs.declared.Recurrence.{Recurrence}
 use Rattle.coefficients.specs.declared.Coefficients.{Coefficients}
@@ -23,10 +23,10 @@ use Rattle.workspace.specs.declared.Arguments.{Arguments}
 use Rattle.workspace.specs.Vectors.{Vector, Vectors, _with_≔_, number, each, vector-norm, first-derivative, last-derivative, derivative, previous-two}
 use Rattle.workspace.specs.Vectors.{previous-one, next-stage, eigenvector, perturbed-state, perturbed-derivative, state, candidate, older-state}
 use Rattle.workspace.specs.Kernel.{with-direction, perturbed-by, perturbed, turned, first-stage, orthogonal-entry, chebyshev-entry}
-use Rattle.workspace.specs.Kernel.{initial-first-entry, entry-in, with-row-in, exchanged, with-candidate, candidate-in, with-last, error, error-in}
+use Rattle.workspace.specs.Kernel.{initial-first-entry, plain-entry, older-of, entry-in, with-row-in, exchanged, with-candidate, candidate-in, with-last, error, error-in}
 use Rattle.workspace.specs.Kernel.{scaled-error, scaled-error-norm, error-norm}
-use Rattle.workspace.proofs.Candidate.{combined-same}
-use Rattle.session.specs.Attempt.{all-but-last}
+use Rattle.workspace.proofs.Candidate.{combined-same, mixed-same}
+use Rattle.session.specs.Attempt.{iteration-work, all-but-last}
 use Rattle.session.specs.Alike.{compared, Same-vectors}
 
 abbrev pub Agree : (Vector → Bool) → Vectors → Vectors → Type 0
@@ -100,9 +100,10 @@ module _ (history : Bool) where
 
     entry-same : (f : RowForm) (h : Float) (c : Coefficients) (d : List Float) (v w : Vectors) → Agree seven v w
         → each n (v with derivative ≔ d) (entry-in f h c) ≡ each n (w with derivative ≔ d) (entry-in f h c)
-    unfolding each entry-in orthogonal-entry chebyshev-entry initial-first-entry
+    unfolding each entry-in orthogonal-entry chebyshev-entry initial-first-entry plain-entry
     entry-same ChebyshevRow h c d v w p = rw (p state refl, p first-derivative refl, p previous-one refl, p previous-two refl)
     entry-same OrthogonalRow h c d v w p = rw (p state refl, p first-derivative refl, p previous-one refl, p previous-two refl)
+    entry-same PlainRow h c d v w p = rw (p previous-one refl, p previous-two refl)
     entry-same InitialFirstRow h c d v w p = rw (p state refl, p first-derivative refl, p previous-one refl, p previous-two refl)
 
     pub row-agrees : (f : RowForm) (h : Float) (c : Coefficients) (d : List Float) (v w : Vectors) → Agree seven v w
@@ -126,14 +127,24 @@ module _ (history : Bool) where
     exchanged-agrees v w p candidate e = p candidate e
     exchanged-agrees v w p older-state e = p older-state e
 
-    pub candidate-agrees : (m : Setting) (h : Float) (s : ℕ) (c : Recurrence) (row : Coefficients) (v w : Vectors) → Agree nine v w
+    pub candidate-agrees : (m : Setting) (h : Float) (s : ℕ) (c : Recurrence) (row : Coefficients) (v w : Vectors) → m .history ≡ history → Agree nine v w
         → Agree ten (with-candidate m n h s c row v) (with-candidate m n h s c row w)
     unfolding with-candidate candidate-in
-    candidate-agrees m h s c row v w p = agree-with nine candidate v w _ _ p (go (facts-of (kind m) .candidate))
+    candidate-agrees m h s c row v w own p = agree-with nine candidate v w _ _ p (go (facts-of (kind m) .candidate))
       where
+        -- what is read of the older state: without a history it is the state
+        older : (t : Bool) → m .history ≡ t → v (cond t older-state state) ≡ w (cond t older-state state)
+        older true e = p older-state (sym own ∙ e)
+        older false e = p state refl
+
         go : (form : CandidateForm) → candidate-in form m n h s c row v ≡ candidate-in form m n h s c row w
         go LastStage = p next-stage refl
         go Combined = combined-same n h (candidate-weights s c) v w (p state refl) (p next-stage refl) (p previous-two refl) (p first-derivative refl)
+        go WithOlder = mixed-same n (older-of m) (c .polynomials .gain) v w (older (m .history) refl) (p next-stage refl)
+
+    -- what the iteration reads and writes
+    pub five-same : (v w : Vectors) → Agree five v w → iteration-work v ≡ iteration-work w
+    five-same v w p = rw (p first-derivative refl, p eigenvector refl, p perturbed-state refl, p perturbed-derivative refl, p state refl) refl
 
     -- all but the last derivative
     pub ten-same : (v w : Vectors) → Agree ten v w → all-but-last v ≡ all-but-last w

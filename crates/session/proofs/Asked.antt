@@ -120,7 +120,7 @@ module _ (h : Held) where
 module _ (h : Held) (a : Arguments) where
   -- the record within the attempt
   abbrev pub at : Phase → Iteration → Staging → Record
-  at φ i g = record { family = h .kept .family; n = h .kept .n; phase = φ; arguments = a; iteration = i; staging = g }
+  at φ i g = record { family = h .kept .family; n = h .kept .n; phase = φ; arguments = a; iteration = i; staging = g; history = h .kept .history }
 
   module _ (hk : known (h .kept .family) ≡ true) (hs : sized (h .kept .n) ≡ true) (φ : Phase) (i : Iteration) (g : Staging) where
     abbrev pub pending-at : Vectors → Counters → Held

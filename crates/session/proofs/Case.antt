@@ -13,8 +13,8 @@ use Rattle.ieee.specs.Double.{double, nearest, square, min-positive, root-epsil
 use Rattle.ieee.specs.Sqrt.{root-below, root, halves, root-units, sqrt}
 use Rattle.ieee.specs.Whole.{abs, max, floor, ceil}
 use Rattle.family.specs.Family.{known, family-of, keeps-older, smallest-count, largest-count, odd-only, permitted, before-limits, odd-step, limited}
-use Rattle.family.specs.Family.{stage-count, by-rule, facts-of}
-use Rattle.coefficients.specs.Rows.{omega-zero, omega-one-of, b-first, first-mu-tilde, first-polynomials, first-polynomials-in, recurrence-of, with-theta}
+use Rattle.family.specs.Family.{stage-count, exceeds, by-rule, radius-for, facts-of}
+use Rattle.coefficients.specs.Rows.{omega-zero, orthogonal-omega, omega-one-of, b-first, first-mu-tilde, first-polynomials, first-polynomials-in, recurrence-of, with-theta}
 use Rattle.coefficients.specs.Rows.{legendre-one, coefficients-of, next-polynomials, next-of}
 use Rattle.workspace.specs.declared.Arguments.{Arguments}
 use Rattle.norm.specs.Norm.{overflows, lowered, raised, root-over}
@@ -23,13 +23,13 @@ use Rattle.workspace.specs.Kernel.{with-direction, perturbation-of, perturbed-b
 use Rattle.workspace.specs.Kernel.{entry-in, with-row-in, exchanged, with-candidate, candidate-in, error-in, with-last, divisor-in, scaled-error}
 use Rattle.workspace.specs.Kernel.{scaled-error-norm, error-norm}
 use Rattle.driver.specs.declared.Counters.{Counters}
-use Rattle.driver.specs.Calls.{Held, stage-need, Call, Start, Attempt, Reply, Accept, Abandon, sized, as-long, good-times, good-tolerance, good-tolerances}
+use Rattle.driver.specs.Calls.{with-older, Held, stage-need, Call, Start, Attempt, Reply, Accept, Abandon, sized, as-long, good-times, good-tolerance, good-tolerances}
 use Rattle.driver.specs.Calls.{room}
 use Rattle.session.specs.Attempt.{closes, _>>=_, evaluate, stages-for, iterate, spectral-radius, stage-row, stage-loop, run-recurrence, finished-attempt}
 use Rattle.session.specs.Attempt.{close, attempt-step}
 use Rattle.session.specs.Session.{Shown, evaluates, finished-with, ready-at, stops, nothing, Seen, seen-of, vectors-of, initialize, tries, accept-step}
 use Rattle.session.specs.Session.{at-rest, after-attempt, waiting, finished-by, counts-on, doing-now, replied-with, session-after, doing-shown}
-use Rattle.session.specs.Session.{session-seen, rests, has-tried, waits, waits-with-room, takes, session, fresh}
+use Rattle.session.specs.Session.{previous-of, is-some, quotient, session-seen, rests, has-tried, waits, waits-with-room, takes, session, fresh}
 use Rattle.session.proofs.Sequences.{every-sequence}
 
 -- opens, where it is named on an `unfolding` line, what a double's operation, an attempt (its rows, of RKL1) and a session are made of
@@ -43,13 +43,14 @@ unfolding smallest-count largest-count odd-only before-limits odd-step limited s
     first-polynomials-in recurrence-of with-theta legendre-one coefficients-of next-polynomials next-of each sum-of-squares overflows lowered raised root-over
     root-of-squares vector-norm all-finite with-direction perturbation-of perturbed-by perturbed turned radius-of ended scaled first-stage orthogonal-entry
     entry-in with-row-in exchanged with-candidate candidate-in error-in with-last divisor-in scaled-error scaled-error-norm error-norm stage-need _>>=_
-    evaluate stages-for iterate spectral-radius stage-row stage-loop run-recurrence finished-attempt close attempt-step closes by-rule facts-of
+    evaluate stages-for iterate spectral-radius stage-row stage-loop run-recurrence finished-attempt close attempt-step closes by-rule radius-for exceeds
+    orthogonal-omega facts-of
 attempts = tt
 
 unfoldable pub sessions : Unit {0}
 unfolding known family-of permitted keeps-older vector-count sized as-long good-times good-tolerance good-tolerances room vectors-of initialize tries
     accept-step at-rest after-attempt waiting finished-by counts-on doing-now replied-with session-after doing-shown session-seen rests has-tried waits
-    waits-with-room takes session fresh facts-of
+    waits-with-room takes session fresh facts-of previous-of is-some quotient with-older
 sessions = tt
 
 unfoldable pub arguments : Arguments

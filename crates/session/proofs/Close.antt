@@ -18,7 +18,7 @@ use Rattle.workspace.specs.declared.Arguments.{Arguments}
 use Rattle.driver.specs.declared.Phase.{Phase}
 use Rattle.driver.specs.declared.Phase.the-variants as P
 use Rattle.driver.specs.declared.Record.{Record}
-use Rattle.driver.specs.Calls.{Held, Called, pending, good-stage, in-range, awaiting, setting-of}
+use Rattle.driver.specs.Calls.{Held, Called, pending, good-stage, in-range, awaiting, setting-of, setting-for}
 use Rattle.session.specs.Attempt.{Finished-attempt}
 use Rattle.session.specs.Claim.{Finishes}
 use Rattle.ieee.proofs.Logic.{yes, and-left, and-right}
@@ -49,9 +49,10 @@ module _ (h : Held) (a : Arguments) (o : Finished-attempt) (replies : ℕ) (x : 
   may-run = subst (λ (f : Family). T (permitted f (o .stages))) is (yes (f .stages-permitted))
 
   -- what `by-need` hands to `first-stage`
-  pub first-close : Close 48 (recurrence (setting-of (h .kept)) (o .stages) .«theta_previous») (Paper.first-mu-tilde g (o .stages))
-  first-close = subst (λ (f : Family). Close 48 (recurrence-of f (o .stages) .«theta_previous») (Paper.first-mu-tilde g (o .stages))) (sym is)
-      (close-first g (o .stages) may-run)
+  pub first-close : Close 48 (recurrence (setting-for (h .kept) a) (o .stages) .«theta_previous») (Paper.first-mu-tilde g (o .stages))
+  first-close = let q = setting-for (h .kept) a .quotient in
+      subst (λ (f : Family). Close 48 (recurrence-of f q (o .stages) .«theta_previous») (Paper.first-mu-tilde g (o .stages))) (sym is)
+      (close-first g q (o .stages) may-run)
 
   pub rows-close : (j : ℕ) → 2 ≤ j → j ≤ o .stages → (c : Recurrence) → Close-row g (o .stages) j (coefficients-of (made-of g) (o .stages) j c)
   rows-close j from to c = close-row g (o .stages) j may-run from to c

@@ -12,7 +12,7 @@ use lib.ListN.{length}
 use lib.Ieee.{Float, le, lt}
 use Rattle.ieee.specs.Double.{nought, one}
 use Rattle.ieee.specs.Close.{Close}
-use Rattle.family.specs.Family.{Family, RKC, RKMC2, Orthogonal, made-of, family-of, permitted, stage-count}
+use Rattle.family.specs.Family.{Family, RKC, RKMC2, TSRKC2, Orthogonal, made-of, family-of, permitted, stage-count}
 use Rattle.family.specs.Reach.{Serves}
 use Rattle.family.proofs.Range.{rkc-between, rkmc2-between}
 use Rattle.family.proofs.Counts.{stage-count-permitted, serves}
@@ -22,7 +22,7 @@ use Rattle.coefficients.specs.declared.Polynomials.{Polynomials}
 use Rattle.coefficients.specs.Rows.{recurrence, carried, carried-of, recurrence-of}
 use Rattle.coefficients.specs.Chebyshev as Chebyshev
 use Rattle.coefficients.proofs.CloseTable.{zero-taken, entry-taken, close-taken}
-use Rattle.coefficients.proofs.Carried.{rkmc2-zero-taken, rkmc2-one-taken, zero-from-one, one-above-zero}
+use Rattle.coefficients.proofs.Carried.{rkmc2-zero-taken, rkmc2-one-taken, zero-from-one, one-above-zero, tsrkc2-zero-taken, tsrkc2-one-taken, gain-taken}
 use Rattle.coefficients.proofs.CloseRows.{close-row, close-first}
 use Rattle.coefficients.proofs.Stable.{stable}
 use Rattle.workspace.specs.Vectors.{unpack}
@@ -31,7 +31,7 @@ use Rattle.driver.specs.declared.Phase.the-variants as P
 use Rattle.driver.specs.declared.Figures.{Figures}
 use Rattle.driver.specs.declared.Answer.the-variants.{Finished}
 use Rattle.driver.specs.Answers.{case-number}
-use Rattle.driver.specs.Calls.{Held, Called, first-at, figures-after, figures-in, start, Call, Start, made, taken}
+use Rattle.driver.specs.Calls.{Held, Called, setting-of, first-at, figures-after, figures-in, start, Call, Start, made, taken}
 use Rattle.session.specs.Session.{held-after}
 use Rattle.session.specs.Concluded.{found, stages-of, scaled-radius-of, Demand-three, Concluded, Under-way, Carries}
 use Rattle.session.proofs.Truth.{differ}
@@ -71,12 +71,12 @@ module _ (h : Held) (f n : ℕ) (y : List Float) (t : Float) where
 
 -- ---- an answer "finished"
 
-demanded : (g : Orthogonal) (r : Float) (s : ℕ) → lt r nought ≡ false → s ≡ stage-count (made-of g) r → Demand-three g r s
+demanded : (g : Orthogonal) (q r : Float) (s : ℕ) → lt r nought ≡ false → s ≡ stage-count (made-of g) q r → Demand-three g r s
 unfolding recurrence-of
-demanded g r s positive e =
-    let permits : T (permitted (made-of g) s) = subst (λ (i : ℕ). T (permitted (made-of g) i)) (sym e) (stage-count-permitted (made-of g) r) in record {
-      serves = λ fin. subst (Serves g r) (sym e) (serves g r fin positive);
-      first-close = close-first g s permits;
+demanded g q r s positive e =
+    let permits : T (permitted (made-of g) s) = subst (λ (i : ℕ). T (permitted (made-of g) i)) (sym e) (stage-count-permitted (made-of g) q r) in record {
+      serves = λ fin. subst (Serves g r) (sym e) (serves g q r fin positive);
+      first-close = λ q. close-first g q s permits;
       rows-close = λ j from to c. close-row g s j permits from to c;
       stable = stable g s permits;
     }
@@ -94,7 +94,8 @@ concludes h calls x s t z =
     let f = family-of (s .latest .family) in
     let r = scaled-radius-of (x .held) in
     let p : In-stages g m 0 1 (x .held) = subst (Position g m (x .held)) (z .phase-is) (t .underway .position) in
-    let stages : stages-of (x .held) ≡ stage-count f r = p .suits .stages-are ∙ ap (λ (i : ℕ). stage-count (family-of i) r) (s .family-is) in record {
+    let q = setting-of (x .held .kept) .quotient in
+    let stages : stages-of (x .held) ≡ stage-count f q r = p .suits .stages-are ∙ ap (λ (i : ℕ). stage-count (family-of i) q r) (s .family-is) in record {
       start = s .latest;
       family-is = s .family-is;
       n-is = s .n-is;
@@ -106,18 +107,13 @@ concludes h calls x s t z =
       only-replies = t .only-replies;
       replies-are = (let e = p .replies-are in omega arith);
       answers-are = t .answers-are ∙ ap (λ (φ : Phase). cases-at φ m) (z .phase-is);
-      norm-is = rw (s .family-is, s .n-is, t .underway .arguments-are) refl;
+      norm-is = rw (s .n-is, t .underway .arguments-are) refl;
       radius-is = p .radius-is ∙ rw (s .n-is, t .underway .arguments-are) refl;
-      suits = record {
-        one-pass = p .suits .one-pass;
-        twelve-passes = p .suits .twelve-passes;
-        not-negative = p .suits .not-negative;
-        stages-are = stages;
-      };
+      suits = p .suits;
       evaluations-are = (let e = t .underway .evaluations-are in let e′ = p .replies-are in omega arith);
       attempts-are = p .attempts-are;
-      largest-at-infinity = λ e. stages ∙ ap (stage-count f) e ∙ infinite-count f;
-      demand-three = λ g is. demanded g r (stages-of (x .held)) (p .suits .not-negative) (stages ∙ ap (λ (f : Family). stage-count f r) is);
+      largest-at-infinity = λ cut e. stages ∙ ap (stage-count f q) e ∙ infinite-count f q cut;
+      demand-three = λ g is. demanded g q r (stages-of (x .held)) (p .suits .not-negative) (stages ∙ ap (λ (f : Family). stage-count f q r) is);
       record-holds = record { stages-held = refl; passes-held = refl; radius-held = refl };
     }
 
@@ -168,13 +164,14 @@ carries h f n y t cs q e =
     let trail = holds h f n y t cs q .trail (ap active e) in
     let p = subst (Position (found (trail .attempt)) (length (trail .replies)) x) e (trail .underway .position) in
     let F = family-of (x .kept .family) in
+    let q₀ = setting-of (x .kept) .quotient in
     let permits : T (permitted F s) =
-    subst (λ (k : ℕ). T (permitted F k)) (sym (p .suits .stages-are)) (stage-count-permitted F (scaled-radius-of x)) in
-    let own : (f : Family) → F ≡ f → x .kept .staging .recurrence .polynomials ≡ carried-of f s i .polynomials = λ f is.
-    ap (λ (c : Recurrence). c .polynomials) (p .recurrence-is) ∙ ap (λ (f : Family). carried-of f s i .polynomials) is in
-    let zero-of : (f : Family) → F ≡ f → x .kept .staging .recurrence .polynomials .«omega_zero» ≡ carried-of f s i .polynomials .«omega_zero» = λ f is.
+    subst (λ (k : ℕ). T (permitted F k)) (sym (p .suits .stages-are)) (stage-count-permitted F q₀ (scaled-radius-of x)) in
+    let own : (f : Family) → F ≡ f → x .kept .staging .recurrence .polynomials ≡ carried-of f q₀ s i .polynomials = λ f is.
+    ap (λ (c : Recurrence). c .polynomials) (p .recurrence-is) ∙ ap (λ (f : Family). carried-of f q₀ s i .polynomials) is in
+    let zero-of : (f : Family) → F ≡ f → x .kept .staging .recurrence .polynomials .«omega_zero» ≡ carried-of f q₀ s i .polynomials .«omega_zero» = λ f is.
     ap (λ (p : Polynomials). p .«omega_zero») (own f is) in
-    let one-of : (f : Family) → F ≡ f → x .kept .staging .recurrence .polynomials .«omega_one» ≡ carried-of f s i .polynomials .«omega_one» = λ f is.
+    let one-of : (f : Family) → F ≡ f → x .kept .staging .recurrence .polynomials .«omega_one» ≡ carried-of f q₀ s i .polynomials .«omega_one» = λ f is.
     ap (λ (p : Polynomials). p .«omega_one») (own f is) in
     let chebyshev : F ≡ RKC → (2 ≤ s) × (s ≤ 200) = λ is. rkc-between s (subst (λ (f : Family). T (permitted f s)) is permits) in
     let combined : F ≡ RKMC2 → (3 ≤ s) × (s ≤ 1000) = λ is. rkmc2-between s (subst (λ (f : Family). T (permitted f s)) is permits) in record {
@@ -182,12 +179,15 @@ carries h f n y t cs q e =
       from-two = p .from-two;
       to-last = p .to-last;
       recurrence-is = p .recurrence-is;
-      zero-kept = λ is. zero-of RKC is ∙ zero-taken s i;
-      entry-read = λ is. one-of RKC is ∙ entry-taken s i;
+      zero-kept = λ is. zero-of RKC is ∙ zero-taken q₀ s i;
+      entry-read = λ is. one-of RKC is ∙ entry-taken q₀ s i;
       entry-close = λ is. let r = chebyshev is in
-          subst (λ (w : Float). Close 36 w (Chebyshev.omega-one s)) (sym (one-of RKC is)) (close-taken s i (r .0) (r .1));
-      rkmc2-zero-read = λ is. zero-of RKMC2 is ∙ rkmc2-zero-taken s i;
-      rkmc2-one-read = λ is. one-of RKMC2 is ∙ rkmc2-one-taken s i;
-      rkmc2-zero-from-one = λ is. let r = combined is in subst (λ (w : Float). T (le one w)) (sym (zero-of RKMC2 is)) (zero-from-one s i (r .0) (r .1));
-      rkmc2-one-above-zero = λ is. let r = combined is in subst (λ (w : Float). T (lt nought w)) (sym (one-of RKMC2 is)) (one-above-zero s i (r .0) (r .1));
+          subst (λ (w : Float). Close 36 w (Chebyshev.omega-one s)) (sym (one-of RKC is)) (close-taken q₀ s i (r .0) (r .1));
+      rkmc2-zero-read = λ is. zero-of RKMC2 is ∙ rkmc2-zero-taken q₀ s i;
+      rkmc2-one-read = λ is. one-of RKMC2 is ∙ rkmc2-one-taken q₀ s i;
+      rkmc2-zero-from-one = λ is. let r = combined is in subst (λ (w : Float). T (le one w)) (sym (zero-of RKMC2 is)) (zero-from-one q₀ s i (r .0) (r .1));
+      rkmc2-one-above-zero = λ is. let r = combined is in subst (λ (w : Float). T (lt nought w)) (sym (one-of RKMC2 is)) (one-above-zero q₀ s i (r .0) (r .1));
+      tsrkc2-zero-read = λ is. zero-of TSRKC2 is ∙ tsrkc2-zero-taken q₀ s i;
+      tsrkc2-one-read = λ is. one-of TSRKC2 is ∙ tsrkc2-one-taken q₀ s i;
+      gain-read = λ is. ap (λ (p : Polynomials). p .gain) (own TSRKC2 is) ∙ gain-taken q₀ s i;
     }

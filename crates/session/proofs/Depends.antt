@@ -3,10 +3,10 @@
 -- ⊕ ⊗ are operations on doubles: they round.
 use mathlib.Core.Path.{_≡_, refl, sym, ap, subst}
 use mathlib.Core.Bool.{Bool, true, false, cond}
-use mathlib.Core.List.{List}
+use mathlib.Core.List.{List, []}
 use Prim.Native.Nat.{ℕ, zero, suc, _+_, _-_, _≤_}
 use native.Mathlib.Omega.{arith}
-use lib.Dec.{ltb}
+use lib.Dec.{ltb, eqb}
 use borrow.Author.Tests.{ne-eqb}
 use lib.Ieee.{Float}
 use Rattle.ieee.specs.Double.{_⊕_, _⊗_, nought}
@@ -30,7 +30,7 @@ use Rattle.session.proofs.Numbers.{not-ten}
 use Rattle.session.proofs.Needs.{Needed, need-holds}
 use Rattle.session.proofs.Alikes.{bind-alike, evaluate-alike, same-evaluated, same-ending}
 use Rattle.session.proofs.Agree.{Agree, _or_, three, five, seven, nine, ten, direction-agrees, perturbed-agrees, turned-agrees, first-agrees}
-use Rattle.session.proofs.Agree.{row-agrees, exchanged-agrees, candidate-agrees, ten-same, last-same, norm-same, five-three, nine-seven}
+use Rattle.session.proofs.Agree.{row-agrees, exchanged-agrees, candidate-agrees, ten-same, five-same, last-same, norm-same, five-three, nine-seven}
 
 start-agrees : (history : Bool) (v w : Vectors) → Same-start history v w → Agree (three history) v w
 start-agrees history v w p state e = p .state-same
@@ -46,7 +46,7 @@ start-agrees history v w p perturbed-derivative e = absurd (differ e)
 start-agrees history v w p candidate e = absurd (differ e)
 start-agrees history v w p older-state e = p .older-same e
 
-module _ (history : Bool) (under : Setting) (n : ℕ) (a : Arguments) where
+module _ (history : Bool) (under : Setting) (own : under .history ≡ history) (n : ℕ) (a : Arguments) where
   abbrev Radii : Radius → Radius → Type 0
   Radii x y = (x .radius ≡ y .radius) × (x .passes ≡ y .passes) × Agree (five history) (x .vectors) (y .vectors)
 
@@ -103,7 +103,7 @@ module _ (history : Bool) (under : Setting) (n : ℕ) (a : Arguments) where
   unfolding stage-loop
   rows-alike s zero j c v w p =
       bind-alike (Agree (nine history)) (Agree (ten history)) _ _ (stage-row under n a s j c v) (stage-row under n a s j c w) (row-alike s j c v w p)
-      (λ v w q. candidate-agrees history n under (a .step) s c (coefficients under s j c) v w q)
+      (λ v w q. candidate-agrees history n under (a .step) s c (coefficients under s j c) v w own q)
   rows-alike s (suc k) j c v w p =
       bind-alike (Agree (nine history)) (Agree (ten history)) _ _ (stage-row under n a s j c v) (stage-row under n a s j c w) (row-alike s j c v w p)
       (λ v w q. rows-alike s k (j + 1) (next under c (coefficients under s j c)) (exchanged v) (exchanged w)
@@ -150,7 +150,7 @@ module _ (history : Bool) (under : Setting) (n : ℕ) (a : Arguments) where
   unfolding from-need stages-for _>>=_ fixed-at
   need-alike (Met s) k r v w ok p = bind-alike (Agree (ten history)) (Same-attempt history) (close under n a s k r) (close under n a s k r)
       (run-recurrence under n a s v) (run-recurrence under n a s w) (recurrence-alike s v w p) (λ v w. close-alike s k r v w)
-  need-alike (Unmet i) k r v w ok p = record { number-same = refl; vectors-same = rw (ne-eqb i 10 (not-ten ok)) refl }
+  need-alike (Unmet i) k r v w ok p = record { number-same = refl; vectors-same = rw (ne-eqb i 10 (not-ten ok)) (ap (λ (l : List (List Float)). cond (eqb i 11) l []) (five-same history n v w p)) }
 
   from-radius : Radius → Asking Finished-attempt
   from-radius x = let r = scaled (a .step) (x .radius) in from-need (stage-need under r) (x .passes) r (x .vectors)
@@ -169,7 +169,10 @@ module _ (history : Bool) (under : Setting) (n : ℕ) (a : Arguments) where
   attempt-alike v w p = bind-alike Radii (Same-attempt history) from-radius from-radius (spectral-radius under n a v) (spectral-radius under n a w)
       (radius-alike v w (start-agrees history v w p)) from-alike
 
-  pub depends : (v w : Vectors) → Same-start history v w → (d : ℕ → List Float)
-      → (evaluated (attempt-step under n a v) d 0 ≡ evaluated (attempt-step under n a w) d 0)
-      × Same-end (Same-attempt history) (end (attempt-step under n a v) d 0) (end (attempt-step under n a w) d 0)
-  depends v w p d = (same-evaluated (Same-attempt history) _ _ d 0 (attempt-alike v w p), same-ending (Same-attempt history) _ _ d 0 (attempt-alike v w p))
+-- with a history, the older state is among what it depends on
+pub depends : (under : Setting) (n : ℕ) (a : Arguments) (v w : Vectors) → Same-start (under .history) v w → (d : ℕ → List Float)
+    → (evaluated (attempt-step under n a v) d 0 ≡ evaluated (attempt-step under n a w) d 0)
+    × Same-end (Same-attempt (under .history)) (end (attempt-step under n a v) d 0) (end (attempt-step under n a w) d 0)
+depends under n a v w p d =
+    let alike = attempt-alike (under .history) under refl n a v w p in
+    (same-evaluated (Same-attempt (under .history)) _ _ d 0 alike, same-ending (Same-attempt (under .history)) _ _ d 0 alike)

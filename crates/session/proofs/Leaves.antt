@@ -13,7 +13,8 @@ use Rattle.ieee.specs.Double.{_⊕_}
 use Rattle.family.specs.Family.{family-of}
 use Rattle.coefficients.specs.Rows.{coefficients, next}
 use Rattle.workspace.specs.declared.Arguments.{Arguments}
-use Rattle.workspace.specs.Vectors.{Vectors, number, unpack, all-finite, last-derivative, candidate, older-state}
+use Rattle.workspace.specs.Vectors.{Vector, Vectors, number, unpack, all-finite, first-derivative, last-derivative, derivative, previous-two, previous-one}
+use Rattle.workspace.specs.Vectors.{next-stage, eigenvector, perturbed-state, perturbed-derivative, state, candidate, older-state}
 use Rattle.workspace.specs.Kernel.{turned, radius-of, ended, scaled, with-row, with-row-in, exchanged, with-candidate}
 use Rattle.workspace.proofs.Areas.{unpack-pack}
 use Rattle.driver.specs.declared.Phase.{Phase}
@@ -25,7 +26,7 @@ use Rattle.driver.specs.declared.Need.the-variants.{Met, Unmet}
 use Rattle.driver.specs.declared.Answer.{Answer}
 use Rattle.driver.specs.declared.Answer.the-variants.{Evaluate, Refused}
 use Rattle.driver.specs.Answers.{Same-answer}
-use Rattle.driver.specs.Numbers.{standing-numbers, after-nine, ending-numbers}
+use Rattle.driver.specs.Numbers.{standing-numbers, need-numbers, after-nine, ending-numbers}
 use Rattle.driver.proofs.Ladder.{is-refused, each-passes, by-tests}
 use Rattle.driver.specs.Calls.{Held, Called, Step, step-to, in-phase, whole-area, as-long, Test, admitted, first-failing, guarded, counted, setting-of}
 use Rattle.driver.specs.Calls.{start-tests, attempt-tests, reply-tests, accept-tests, callback-tests, abandon-tests}
@@ -33,9 +34,10 @@ use Rattle.driver.specs.Calls.{at-pass, at-stage, take-first, take-callback, as
 use Rattle.driver.specs.Calls.{take-stage, take-candidate, replied, going-on, spoiled, settled, attempted, accepted, called-back}
 use Rattle.driver.specs.Calls.{start, attempt, reply, accept, accept-with-callback, abandon, made}
 use Rattle.driver.specs.Calls.{Call, Start, Attempt, Reply, Accept, Accept-with-callback, Abandon}
-use Rattle.session.specs.Refusals.{verdict-of, _∈_, here, later, Left}
+use Rattle.session.specs.Refusals.{verdict-of, _∈_, here, later, written-by-pass, Left}
 use Rattle.ieee.proofs.Logic.{and-left, and-right}
-use Rattle.session.proofs.Numbers.{is-in, not-both, not-nine}
+use Rattle.session.proofs.Numbers.{is-in, not-both, not-nine, not-ten}
+use Rattle.session.proofs.Truth.{differ}
 use Rattle.session.proofs.Needs.{Needed, need-holds}
 use Rattle.session.proofs.Lengths.{its-family, long-area, replied-long}
 use Rattle.session.proofs.Guards.{low, low-fails}
@@ -51,11 +53,32 @@ unrefused y i g e = subst is-refused (ap verdict-of (sym e) ∙ g) tt
 abbrev pub Stand : Vectors → Vectors → Type 0
 Stand v w = (w last-derivative ≡ v last-derivative) × (w older-state ≡ v older-state)
 
--- refused, its derivative is finite and so the number is not 9, and of the record only the phase is changed
+-- all but the two that a pass writes
+abbrev pub Others : Vectors → Vectors → Type 0
+Others v w = (b : Vector) → written-by-pass b ≡ false → w b ≡ v b
+
+turned-others : (n : ℕ) (v : Vectors) (d : List Float) → Others v (turned n v d)
+unfolding turned
+turned-others n v d first-derivative e = refl
+turned-others n v d last-derivative e = refl
+turned-others n v d derivative e = refl
+turned-others n v d previous-two e = refl
+turned-others n v d previous-one e = refl
+turned-others n v d next-stage e = refl
+turned-others n v d eigenvector e = absurd (differ (sym e))
+turned-others n v d perturbed-state e = refl
+turned-others n v d perturbed-derivative e = absurd (differ (sym e))
+turned-others n v d state e = refl
+turned-others n v d candidate e = refl
+turned-others n v d older-state e = refl
+
+-- refused, its derivative is finite and so the number is not 9, and of the record only the phase is changed; and of the vectors, where the need is refused,
+-- only those that a pass writes
 pub record High (r : Record) (v : Vectors) (i : ℕ) (x : Step) : Type 0 where
   pub beyond : i ∈ after-nine
   pub record-is : x .kept ≡ in-phase P.Empty r
   pub stand : Stand v (x .vectors)
+  pub others : i ∈ need-numbers → Others v (x .vectors)
 
 abbrev pub Refuses-high : Record → Vectors → Step → Type 0
 Refuses-high r v x = (i : ℕ) → x .answer ≡ Refused i → High r v i x
@@ -70,18 +93,29 @@ candidate-high r v w same = go (all-finite (w candidate))
     go : (t : Bool) → Refuses-high r v (cond t (step-to (Evaluate (r .arguments .time ⊕ r .arguments .step) (number candidate)) (in-phase P.Candidate r) w)
         (step-to (Refused 10) (in-phase P.Empty r) w))
     go true = on r v _ refl
-    go false = λ i e. record { beyond = subst (λ (i : ℕ). i ∈ after-nine) (same-number 10 i e) here; record-is = refl; stand = same }
+    go false = λ i e. record {
+      beyond = subst (λ (i : ℕ). i ∈ after-nine) (same-number 10 i e) here;
+      record-is = refl;
+      stand = same;
+      others = λ l. absurd (not-ten l (sym (same-number 10 i e)));
+    }
 
-need-high : (need : Need) (r : Record) (v w : Vectors) (radius : Float) → Stand v w → Needed (setting-of r) need → Refuses-high r v (by-need need r w radius)
+need-high : (need : Need) (r : Record) (v w : Vectors) (radius : Float) → Stand v w → Others v w → Needed (setting-of r) need
+    → Refuses-high r v (by-need need r w radius)
 unfolding by-need ask-stage
-need-high (Met s) r v w radius same ok = on r v _ refl
-need-high (Unmet j) r v w radius same ok = λ i e.
-    record { beyond = subst (λ (i : ℕ). i ∈ after-nine) (same-number j i e) (later ok); record-is = refl; stand = same }
+need-high (Met s) r v w radius same others ok = on r v _ refl
+need-high (Unmet j) r v w radius same others ok = λ i e. record {
+  beyond = subst (λ (i : ℕ). i ∈ after-nine) (same-number j i e) (later ok);
+  record-is = refl;
+  stand = same;
+  others = λ l. others;
+}
 
-pass-high : (t : Bool) (r r′ : Record) (v w : Vectors) (radius : Float) → Stand v w → Refuses-high r v (cond t (begin-stages r w radius) (ask-pass r′ w))
+pass-high : (t : Bool) (r r′ : Record) (v w : Vectors) (radius : Float) → Stand v w → Others v w
+    → Refuses-high r v (cond t (begin-stages r w radius) (ask-pass r′ w))
 unfolding begin-stages ask-pass
-pass-high true r r′ v w radius same = need-high (stage-need (setting-of r) radius) r v w radius same (need-holds (setting-of r) radius)
-pass-high false r r′ v w radius same = on r v _ refl
+pass-high true r r′ v w radius same others = need-high (stage-need (setting-of r) radius) r v w radius same others (need-holds (setting-of r) radius)
+pass-high false r r′ v w radius same others = on r v _ refl
 
 stage-high : (t : Bool) (r r′ : Record) (v u w : Vectors) → Stand v w → Refuses-high r v (cond t (ask-stage r′ u) (ask-candidate r w))
 unfolding ask-stage
@@ -95,7 +129,7 @@ replied-high P.First r v d = on r v _ refl
 replied-high P.Ready r v d = on r v _ refl
 replied-high P.Pass r v d = let w = turned (r .n) v d in let i = r .iteration in let radius = radius-of (i .perturbation) w in
     pass-high (ended (i .pass) (i .«previous_radius») radius || eqb (i .pass) 12) r (at-pass (r .arguments) (i .pass + 1) (i .perturbation) radius r) v w
-    (scaled (r .arguments .step) radius) (refl, refl)
+    (scaled (r .arguments .step) radius) (refl, refl) (turned-others (r .n) v d)
 replied-high P.Stage r v d =
     let m = setting-of r in
     let s = r .staging .stages in
@@ -123,6 +157,7 @@ same h i low = record {
   last-stands = λ l. refl;
   older-stands = λ l. refl;
   area-stands = λ e. refl;
+  others-stand = λ l b w. refl;
 }
 
 -- behind a list of tests on whose numbers everything stands
@@ -172,6 +207,7 @@ reply-leaves h d = let ts = reply-tests (h .kept) (h .counters) (h .area) d in g
           last-stands = λ l. ap (λ (w : Vectors). w last-derivative) back ∙ high .stand .0;
           older-stands = λ l. ap (λ (w : Vectors). w older-state) back ∙ high .stand .1;
           area-stands = λ q. absurd (not-nine (high .beyond) q);
+          others-stand = λ l b w. ap (λ (u : Vectors). u b) back ∙ high .others l b w;
         }
     go lengths false i e = let nine = subst (λ (i : ℕ). i ∈ ending-numbers) (same-number 9 i e) here in record {
       kind = inr nine;
@@ -182,6 +218,7 @@ reply-leaves h d = let ts = reply-tests (h .kept) (h .counters) (h .area) d in g
       last-stands = λ l. refl;
       older-stands = λ l. refl;
       area-stands = λ q. refl;
+      others-stand = λ l b w. refl;
     }
 
 accept-leaves : (h : Held) → Leaves h (accept h)

@@ -4,7 +4,7 @@ use mathlib.Core.Bool.{Bool, true, false, _&&_}
 use lib.ListN.{length}
 use Rattle.driver.specs.declared.Phase.the-variants as P
 use Rattle.driver.specs.declared.Answer.the-variants.{Empty}
-use Rattle.driver.specs.Calls.{Held, Called, in-phase, pending, awaiting, abandon, Abandon, taken, abandon-tests}
+use Rattle.driver.specs.Calls.{without-history, Held, Called, in-phase, pending, awaiting, abandon, Abandon, taken, abandon-tests}
 use Rattle.driver.proofs.Ladder.{each-passes, goes-ahead}
 use Rattle.session.specs.Attempt.{done, stopped, ask}
 use Rattle.session.specs.Session.{ready-with, tried, answer-shown, Doing, none, within, Session, waiting, doing-now, session-after, doing-shown, waits}
@@ -32,7 +32,7 @@ abandoned : (h : Held) → taken (abandon h .answer) ≡ true
     → (awaiting (h .kept) ≡ true) × (abandon h ≡ record {
       answer = Empty;
       held = record {
-        kept = in-phase P.Empty (h .kept);
+        kept = without-history (in-phase P.Empty (h .kept));
         counters = h .counters;
         area = h .area;
       };
@@ -50,10 +50,10 @@ abandon-good h σ cs does q = subst (λ (x : Called). Good (session-after σ Aba
 
     go : (δ : Doing) → Does (σ .family) (σ .n) δ h
         → Good (session-after (doing-now σ δ) Abandon)
-        (record { answer = Empty; held = record { kept = in-phase P.Empty (h .kept); counters = h .counters; area = h .area } })
+        (record { answer = Empty; held = record { kept = without-history (in-phase P.Empty (h .kept)); counters = h .counters; area = h .area } })
     go none e = absurd (differ (sym (idle (h .kept) P.Empty e refl) ∙ awaits))
-    go (within (done (ready-with v))) e = absurd (differ (sym (idle (h .kept) P.Ready (e .0 .phase-is) refl) ∙ awaits))
-    go (within (done (tried o))) e = absurd (differ (sym (idle (h .kept) P.Finished (e .0 .phase-is) refl) ∙ awaits))
+    go (within (done (ready-with x v))) e = absurd (differ (sym (idle (h .kept) P.Ready (e .0 .phase-is) refl) ∙ awaits))
+    go (within (done (tried x step o))) e = absurd (differ (sym (idle (h .kept) P.Finished (e .0 .phase-is) refl) ∙ awaits))
     go (within (stopped i v)) e = absurd (differ (sym (idle (h .kept) P.Empty e refl) ∙ awaits))
     go (within (ask why t p k)) e = record { shown-is = refl; counts-are = cs; does = refl }
 

@@ -5,25 +5,26 @@ use Prim.Native.Nat.{ℕ}
 use lib.ListN.{length}
 use Rattle.family.specs.Family.{family-of}
 use Rattle.workspace.specs.declared.Arguments.{Arguments}
-use Rattle.workspace.specs.Vectors.{unpack, first-derivative, eigenvector, state, older-state}
+use Rattle.workspace.specs.Vectors.{Vectors, unpack, first-derivative, eigenvector, state, older-state}
 use Rattle.workspace.specs.Kernel.{with-direction, perturbation-of}
 use Rattle.workspace.proofs.Areas.{long-direction, long-perturbed}
 use Rattle.driver.specs.declared.Phase.{Phase}
 use Rattle.driver.specs.declared.Phase.the-variants as P
 use Rattle.driver.specs.Calls.{Held, Called, at-pass, ask-pass, may-attempt, good-times, good-tolerances, attempted, going-on, attempt-tests, attempt}
-use Rattle.driver.specs.Calls.{setting-of}
+use Rattle.driver.specs.Calls.{setting-for}
 use Rattle.driver.specs.Calls.{Attempt, taken}
 use Rattle.driver.proofs.Ladder.{each-passes}
-use Rattle.session.specs.Attempt.{done, stopped, ask, Finished-attempt, attempt-step}
+use Rattle.family.specs.declared.Setting.{Setting}
+use Rattle.session.specs.Attempt.{done, stopped, ask, _>>=_, attempt-step}
 use Rattle.session.specs.Claim.{Allowed, in-one-piece}
 use Rattle.session.specs.Alike.{Same-start}
-use Rattle.session.specs.Session.{Resting, ready-with, tried, vectors-of, has-history, tries, Doing, none, within, Session, at-rest, doing-now}
+use Rattle.session.specs.Session.{ready-with, tried, vectors-of, Previous-step, is-some, previous-of, tries, Doing, none, within, Session, at-rest, doing-now}
 use Rattle.session.specs.Session.{session-after, rests}
 use Rattle.session.proofs.Truth.{differ}
 use Rattle.session.proofs.Lengths.{its-family, long-area, pack-length}
 use Rattle.session.proofs.Passes.{attempt-is, attempt-follows}
 use Rattle.session.proofs.Depends.{attempt-alike}
-use Rattle.session.proofs.Shows.{At, Shows, Does, Good, goes}
+use Rattle.session.proofs.Shows.{At, Remembers, same-setting, Shows, Does, Good, goes}
 use Rattle.session.proofs.Guards.{taken-exactly, taken-passes}
 use Rattle.session.proofs.Standing.{all-pass, none-pass, waits-alone, K, N, W, standing, Place, inside, outside, place}
 
@@ -57,39 +58,43 @@ allowed h a q = let p = each-passes (attempt-tests (h .kept) (h .area) a) (taken
       tolerances-good = p .1 .1 .1 .1 .1 .0;
     }
 
--- an attempt leaves the history that it began from
-kept-history : (ρ : Resting) (o : Finished-attempt) → has-history (tried o) ≡ has-history ρ
-unfolding has-history
-kept-history (ready-with v) o = refl
-kept-history (tried p) o = refl
-
 module _ (h : Held) (σ : Session) (cs : h .counters ≡ σ .counts) (a : Arguments) where
   -- at rest
-  tries-good : (ρ : Resting) (φ : Phase) → Allowed h a → At (σ .family) (σ .n) φ h
-      → Same-start (has-history ρ) (unpack (h .kept .n) (h .area)) (vectors-of ρ)
-      → Good (doing-now σ (within (tries (σ .family) (σ .n) a (vectors-of ρ)))) (attempt h a)
+  tries-good : (x : Previous-step) (v : Vectors) (φ : Phase) → Allowed h a → At (σ .family) (σ .n) φ h → Remembers (h .kept .history) x
+      → Same-start (is-some x) (unpack (h .kept .n) (h .area)) v
+      → Good (doing-now σ (within (tries (σ .family) (σ .n) a x v))) (attempt h a)
   unfolding doing-now Does tries going-on
-  tries-good ρ φ p at same =
-      let v = vectors-of ρ in
-      let F = setting-of (h .kept) in
-      let alike = attempt-alike (has-history ρ) F (h .kept .n) a (unpack (h .kept .n) (h .area)) v same in
+  tries-good x v φ p at remembered same =
+      let F = setting-for (h .kept) a in
+      let own = ap (λ (m : Setting). m .history) (same-setting (h .kept .family) (h .kept .history) x (a .step) remembered) in
+      let alike = attempt-alike (is-some x) F own (h .kept .n) a (unpack (h .kept .n) (h .area)) v same in
       let follows = attempt-follows h a p in
-      let g = goes h a p (has-history ρ) (kept-history ρ) (in-one-piece h a) (attempt-step F (h .kept .n) a v) 0 h (attempt h a) follows alike in
-      subst (λ (f : ℕ). Good (record { family = f; n = σ .n; doing = within (tries f (σ .n) a v); counts = σ .counts }) (attempt h a)) (at .family-is)
-      (subst (λ (n : ℕ). Good (record { family = h .kept .family; n = n; doing = within (tries (h .kept .family) n a v); counts = σ .counts })
-      (attempt h a)) (at .n-is)
-      (record { shown-is = g .shown-is; counts-are = ap (λ (x : Called). x .held .counters) (attempt-is h a p) ∙ cs; does = g .shows }))
+      let g = goes h a p x remembered (in-one-piece h a) (attempt-step F (h .kept .n) a v) 0 h (attempt h a) follows alike in
+      let good : Good (doing-as F) (attempt h a) =
+      record { shown-is = g .shown-is; counts-are = ap (λ (x : Called). x .held .counters) (attempt-is h a p) ∙ cs; does = g .shows } in
+      let ours = subst (λ (m : Setting). Good (doing-as m) (attempt h a)) (same-setting (h .kept .family) (h .kept .history) x (a .step) remembered) good in
+      subst (λ (f : ℕ). Good (record { family = f; n = σ .n; doing = within (tries f (σ .n) a x v); counts = σ .counts }) (attempt h a)) (at .family-is)
+      (subst (λ (n : ℕ). Good (record { family = h .kept .family; n = n; doing = within (tries (h .kept .family) n a x v); counts = σ .counts })
+      (attempt h a)) (at .n-is) ours)
+    where
+      doing-as : Setting → Session
+      doing-as m = record {
+        family = h .kept .family;
+        n = h .kept .n;
+        doing = within (attempt-step m (h .kept .n) a v >>= λ o. done (tried x (a .step) o));
+        counts = σ .counts;
+      }
 
   pub attempt-good : Does (σ .family) (σ .n) (σ .doing) h → taken (attempt h a .answer) ≡ true → Good (session-after σ (Attempt a)) (attempt h a)
-  unfolding session-after doing-now Does Shows at-rest vectors-of may-attempt
+  unfolding session-after doing-now Does Shows at-rest vectors-of previous-of may-attempt
   attempt-good does q = go (allowed h a q) (σ .doing) does
     where
       go : Allowed h a → (δ : Doing) → Does (σ .family) (σ .n) δ h → Good (session-after (doing-now σ δ) (Attempt a)) (attempt h a)
       go p none e = absurd (differ (sym (ap may-attempt e) ∙ p .phase-allows))
-      go p (within (done (ready-with v))) e = tries-good (ready-with v) P.Ready p (e .0) (e .1)
-      go p (within (done (tried o))) e =
-          let same = e .1 in
-          tries-good (tried o) P.Finished p (e .0)
+      go p (within (done (ready-with x v))) e = tries-good x v P.Ready p (e .0) (e .1) (e .2)
+      go p (within (done (tried x step o))) e =
+          let same = e .3 in
+          tries-good x (o .vectors) P.Finished p (e .0) (e .1)
           (record {
             state-same = same state refl;
             first-same = same first-derivative refl;

@@ -96,8 +96,8 @@ module _ (h : Held) (d : List Float) (q : taken (reply h d .answer) ≡ true) wh
     where
       go : (δ : Doing) → Does (σ .family) (σ .n) δ h → Good (session-after (doing-now σ δ) (Reply d)) (reply h d)
       go none e = absurd (differ (sym (idle (h .kept) P.Empty e refl) ∙ passed .awaits))
-      go (within (done (ready-with v))) e = absurd (differ (sym (idle (h .kept) P.Ready (e .0 .phase-is) refl) ∙ passed .awaits))
-      go (within (done (tried o))) e = absurd (differ (sym (idle (h .kept) P.Finished (e .0 .phase-is) refl) ∙ passed .awaits))
+      go (within (done (ready-with x v))) e = absurd (differ (sym (idle (h .kept) P.Ready (e .0 .phase-is) refl) ∙ passed .awaits))
+      go (within (done (tried x step o))) e = absurd (differ (sym (idle (h .kept) P.Finished (e .0 .phase-is) refl) ∙ passed .awaits))
       go (within (stopped i v)) e = absurd (differ (sym (idle (h .kept) P.Empty e refl) ∙ passed .awaits))
       go (within (ask why t p k)) e = let g = e .3 d (long ∙ e .0 .n-is) (passed .room-good) in
           record { shown-is = g .0; counts-are = g .1 ∙ ap (counts-on (within (k d))) cs; does = g .2 }

@@ -16,7 +16,7 @@ use Rattle.driver.specs.Calls.{Held, in-phase, at-time, first-at, take-first, r
 use Rattle.driver.specs.Calls.{start, Start, taken, first-failing, decide, guarded, start-tests}
 use Rattle.driver.proofs.Ladder.{each-passes}
 use Rattle.session.specs.Attempt.{_>>=_, evaluate}
-use Rattle.session.specs.Session.{evaluates, answer-shown, has-history, initialize, Session, session-after, doing-shown}
+use Rattle.session.specs.Session.{evaluates, answer-shown, initialize, Session, session-after, doing-shown}
 use Rattle.ieee.proofs.Logic.{and-left, and-right}
 use Rattle.session.proofs.Truth.{differ}
 use Rattle.session.proofs.Lengths.{long-area, pack-length}
@@ -56,7 +56,7 @@ module _ (h : Held) (f n : ℕ) (y : List Float) (t : Float) (q : taken (start h
       (long-with (family-of f) n (unpack n (h .area)) state y (long-area f n (h .area) whole) long) (length-replicate n nought)
 
   pub start-good : (σ : Session) → h .counters ≡ σ .counts → Good (session-after σ (Start f n y t)) (start h f n y t)
-  unfolding start start-tests guarded decide first-failing session-after initialize has-history Does first-at at-time pending in-range awaiting finishes
+  unfolding start start-tests guarded decide first-failing session-after initialize Does first-at at-time pending in-range awaiting finishes
       answer-shown doing-shown evaluate _>>=_ replied take-first in-phase v
   start-good σ cs = rw (passed .family-known, passed .n-sized, passed .lengths-good, passed .state-finite, passed .time-finite) (record {
     shown-is = ap (λ (w : Vectors). evaluates t (w state)) (unpack-pack (family-of f) n v long-v);
@@ -65,7 +65,7 @@ module _ (h : Held) (f n : ℕ) (y : List Float) (t : Float) (q : taken (start h
         ((λ b. replicate n nought) with state ≔ y) t y (λ d. (λ b. replicate n nought) with state ≔ y with first-derivative ≔ d)
         (λ d. v with first-derivative ≔ d)
         refl refl (λ d hd. long-with (family-of f) n v first-derivative d long-v hd) (λ d. refl)
-        (λ d. record { state-same = refl; first-same = refl; eigenvector-same = refl; older-same = λ e. absurd (differ e) });
+        refl (λ d. record { state-same = refl; first-same = refl; eigenvector-same = refl; older-same = λ e. absurd (differ e) });
   })
 
   pub start-area : length (start h f n y t .held .area) ≡ length (h .area)

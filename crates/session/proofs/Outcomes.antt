@@ -11,7 +11,7 @@ use lib.ListN.{length, replicate}
 use lib.Ieee.{Float, le}
 use Rattle.family.specs.declared.Setting.{Setting}
 use Rattle.ieee.specs.Double.{_⊕_, min-positive, nought, one}
-use Rattle.family.specs.Family.{family-of, facts-of, kind, stage-count, setting}
+use Rattle.family.specs.Family.{family-of, facts-of, kind, stage-count, exceeds}
 use Rattle.coefficients.specs.declared.Coefficients.{Coefficients}
 use Rattle.coefficients.specs.declared.Recurrence.{Recurrence}
 use Rattle.coefficients.specs.Rows.{recurrence, coefficients, next}
@@ -27,8 +27,9 @@ use Rattle.driver.specs.declared.Record.{Record}
 use Rattle.driver.specs.declared.Counters.{Counters}
 use Rattle.driver.specs.declared.Answer.{Answer}
 use Rattle.driver.specs.declared.Answer.the-variants.{Evaluate, Finished, Ready, Refused, Empty}
-use Rattle.driver.specs.Calls.{Held, Called, step-to, in-phase, first-at, at-pass, with-radius, at-stage, taken, setting-of, permits, figures-after}
-use Rattle.driver.specs.Calls.{take-first, take-callback, ask-pass, ask-stage, by-need, begin-stages, take-pass, ask-candidate, take-stage, take-candidate}
+use Rattle.driver.specs.declared.Need.the-variants.{Met, Unmet}
+use Rattle.driver.specs.Calls.{Held, Called, step-to, in-phase, first-at, at-pass, with-radius, at-stage, taken, setting-of, permits, figures-after, with-history, without-history, history-after}
+use Rattle.driver.specs.Calls.{take-first, take-callback, ask-pass, ask-stage, stage-need, by-need, begin-stages, take-pass, ask-candidate, take-stage, take-candidate}
 use Rattle.driver.specs.Calls.{replied, whole-area, as-long, pending, in-range, awaiting, good-stage, good-end, one-more, counted, spoiled, settled, going-on}
 use Rattle.driver.specs.Calls.{start, attempted, attempt, reply, accepted, accept, called-back, accept-with-callback, abandon, made}
 use Rattle.driver.specs.Calls.{Test, guarded, start-tests, attempt-tests, reply-tests, accept-tests, callback-tests, abandon-tests}
@@ -36,7 +37,6 @@ use Rattle.driver.specs.Calls.{Call, Start, Attempt, Reply, Accept, Accept-with
 use Rattle.driver.proofs.Ladder.{Passing, each-passes, by-tests}
 use Rattle.ieee.proofs.Logic.{and-left, and-right}
 use Rattle.session.proofs.Truth.{differ}
-use Rattle.session.proofs.Needs.{need-is}
 use Rattle.session.proofs.Lengths.{its-family, Long-in, long-area}
 use Rattle.session.proofs.Guards.{low, low-fails, not-taken}
 
@@ -48,14 +48,18 @@ abbrev pub radius-after : Record → Vectors → Float
 radius-after r w = scaled (r .arguments .step) (radius-of (r .iteration .perturbation) w)
 
 abbrev pub count-after : Record → Vectors → ℕ
-count-after r w = stage-count (family-of (r .family)) (radius-after r w)
+count-after r w = stage-count (family-of (r .family)) (setting-of r .quotient) (radius-after r w)
 
 -- what is carried into stage 2, and on from stage j
 abbrev pub first-after : Record → Vectors → Recurrence
 first-after r w = recurrence (setting-of r) (count-after r w)
 
-abbrev pub carried-on : ℕ → ℕ → ℕ → Recurrence → Recurrence
-carried-on f s j c = next (setting f) c (coefficients (setting f) s j c)
+abbrev pub carried-on : Setting → ℕ → ℕ → Recurrence → Recurrence
+carried-on m s j c = next m c (coefficients m s j c)
+
+-- more stages than the largest count would be needed
+abbrev pub exceeds-after : Record → Vectors → Bool
+exceeds-after r w = exceeds (family-of (r .family)) (setting-of r .quotient) (radius-after r w)
 
 -- state and eigenvector are as they were
 pub record Both-stay (v w : Vectors) : Type 0 where
@@ -107,19 +111,19 @@ module _ (h : Held) where
     iterates : {d : List Float} (t radius : Float) (b : ℕ) (area : List Float) → r .phase ≡ P.Pass → r .iteration .pass < 12
         → unpack (r .n) area state ≡ now state
         → Outcome (Reply d) (leaving (Evaluate t b) (at-pass (r .arguments) (r .iteration .pass + 1) (r .iteration .perturbation) radius r) (one-more c) area)
-    begins : {d : List Float} (w : Vectors) (t : Float) (b : ℕ) (area : List Float) → r .phase ≡ P.Pass → r .iteration .pass ≤ 12
+    begins : {d : List Float} (w : Vectors) (t : Float) (b : ℕ) (area : List Float) → r .phase ≡ P.Pass → r .iteration .pass ≤ 12 → exceeds-after r w ≡ false
         → unpack (r .n) area state ≡ now state → unpack (r .n) area eigenvector ≡ w eigenvector
         → Outcome (Reply d) (leaving (Evaluate t b) (at-stage (count-after r w) 2 (first-after r w) (with-radius (radius-after r w) r)) (one-more c) area)
     goes-on : {d : List Float} (t : Float) (b : ℕ) (area : List Float) → r .phase ≡ P.Stage → j < s → Both-stay now (unpack (r .n) area)
-        → Outcome (Reply d) (leaving (Evaluate t b) (at-stage s (j + 1) (carried-on (r .family) s j (r .staging .recurrence)) r) (one-more c) area)
+        → Outcome (Reply d) (leaving (Evaluate t b) (at-stage s (j + 1) (carried-on (setting-of r) s j (r .staging .recurrence)) r) (one-more c) area)
     asks-candidate : {d : List Float} (t : Float) (b : ℕ) (area : List Float) → r .phase ≡ P.Stage → j ≡ s → Both-stay now (unpack (r .n) area)
         → Outcome (Reply d) (leaving (Evaluate t b) (in-phase P.Candidate r) (one-more c) area)
     finishes : {d : List Float} (w : Vectors) → r .phase ≡ P.Candidate → good-end (setting-of r) (r .iteration .pass) s ≡ true → Long-in r w → Both-stay now w
         → Outcome (Reply d) (leaving (Finished (figures-after r w)) (in-phase P.Finished r) (one-more-each c) (pack w))
-    accepts : (area : List Float) → Outcome Accept (leaving Ready (in-phase P.Ready r) c area)
+    accepts : (area : List Float) → Outcome Accept (leaving Ready (with-history (history-after r) (in-phase P.Ready r)) c area)
     calls-back : {y : List Float} {t : Float} (area : List Float)
         → Outcome (Accept-with-callback y t) (leaving (Evaluate t (number state)) (first-at P.Callback (r .family) (r .n) t r) c area)
-    abandons : Outcome Abandon (leaving Empty (in-phase P.Empty r) c (h .area))
+    abandons : Outcome Abandon (leaving Empty (without-history (in-phase P.Empty r)) c (h .area))
 
   -- past its tests, or away with a number on which everything stands
   tested : {q : Call} (ts : List Test) (go : Called) → low ts ≡ true → (Passing ts → Outcome q go) → Outcome q (guarded h ts go)
@@ -138,13 +142,17 @@ module _ (h : Held) where
     on-pass : (t : Bool) (w : Vectors) (radius : Float) → r .phase ≡ P.Pass → r .iteration .pass ≤ 12 → (t ≡ false → r .iteration .pass < 12)
         → Long-in r w → w state ≡ now state
         → Comes (settled c (cond t (begin-stages r w (radius-after r w)) (ask-pass (again radius) w)))
-    unfolding settled going-on counted begin-stages by-need ask-stage ask-pass at-pass first-stage perturbed perturbed-by
-    on-pass true w radius p twelve below long same =
-        let mu = first-after r w .«theta_previous» in
-        let back = unpack-pack (its-family r) (r .n) (first-stage (r .n) (r .arguments .step) mu w)
-        (long-first (its-family r) (r .n) (r .arguments .step) mu w long) in
-        rw (need-is (setting-of r) (radius-after r w))
-        (begins w _ _ _ p twelve (ap (λ (v : Vectors). v state) back ∙ same) (ap (λ (v : Vectors). v eigenvector) back))
+    unfolding settled going-on counted begin-stages stage-need by-need ask-stage ask-pass at-pass first-stage perturbed perturbed-by
+    on-pass true w radius p twelve below long same = go (exceeds-after r w) refl
+      where
+        go : (t : Bool) → exceeds-after r w ≡ t
+            → Comes (settled c (by-need (cond t (Unmet 11) (Met (count-after r w))) r w (radius-after r w)))
+        go true e = spoils 11 _
+        go false e =
+            let mu = first-after r w .«theta_previous» in
+            let back = unpack-pack (its-family r) (r .n) (first-stage (r .n) (r .arguments .step) mu w)
+            (long-first (its-family r) (r .n) (r .arguments .step) mu w long) in
+            begins w _ _ _ p twelve e (ap (λ (v : Vectors). v state) back ∙ same) (ap (λ (v : Vectors). v eigenvector) back)
     on-pass false w radius p twelve below long same =
         let back = unpack-pack (its-family r) (r .n) (perturbed (r .n) (r .iteration .perturbation) w)
         (long-perturbed (its-family r) (r .n) (r .iteration .perturbation) w long) in

@@ -22,7 +22,7 @@ use Rattle.driver.specs.declared.Need.{Need}
 use Rattle.driver.specs.declared.Need.the-variants.{Met, Unmet}
 use Rattle.driver.specs.declared.Counters.{Counters}
 use Rattle.driver.specs.Calls.{Held, Called, in-phase, at-pass, with-radius, at-stage, ask-pass, ask-stage, stage-need, by-need, begin-stages, take-pass}
-use Rattle.driver.specs.Calls.{setting-of}
+use Rattle.driver.specs.Calls.{setting-for}
 use Rattle.driver.specs.Calls.{replied, sized, pending, in-range, awaiting, finishes, attempted, going-on, attempt, counted, settled, first-failing}
 use Rattle.driver.specs.Calls.{decide, guarded, attempt-tests}
 use Rattle.session.specs.Attempt.{closes, Asking, done, _>>=_, evaluate, stages-for, Radius, Finished-attempt, iterate, spectral-radius, stage-loop}
@@ -41,7 +41,7 @@ use Rattle.session.proofs.Stages.{iteration-at, stages-follow}
 
 module _ (h : Held) (a : Arguments) (hk : known (h .kept .family) ≡ true) (hs : sized (h .kept .n) ≡ true) where
   abbrev F : Setting
-  F = setting-of (h .kept)
+  F = setting-for (h .kept) a
 
   -- ---- from the last pass into the stages
 

@@ -1,38 +1,33 @@
 -- The s of a finished attempt of families 2 to 5 has the properties of the stage counts for its own r, wherever that is finite; an infinite r gives the largest
--- count. And r is never below 0.
+-- count, but in TSRKC2. And r is never below 0.
 use mathlib.Core.Path.{_≡_, sym, ap, _∙_, subst}
 use Prim.Native.Nat.{ℕ}
 use lib.Dec.{T}
-use lib.Ieee.{inf}
+use lib.Ieee.{Float, inf}
 use lib.Ieee.Scale.{finite}
 use mathlib.Core.Bool.{false}
-use Rattle.family.specs.Family.{Family, Orthogonal, made-of, family-of, largest-count, stage-count}
+use Rattle.family.specs.Family.{Family, Orthogonal, made-of, family-of, largest-count, stage-count, facts-of}
 use Rattle.family.specs.Reach.{Serves}
 use Rattle.family.proofs.Counts.{serves}
 use Rattle.family.proofs.Special.{infinite-count}
 use Rattle.workspace.specs.declared.Arguments.{Arguments}
-use Rattle.driver.specs.declared.Need.{Need}
-use Rattle.driver.specs.declared.Need.the-variants.{Met, Unmet}
-use Rattle.driver.specs.Calls.{Held, Called, setting-of}
+use Rattle.driver.specs.Calls.{Held, Called, setting-for}
 use Rattle.session.specs.Attempt.{Finished-attempt}
 use Rattle.session.specs.Claim.{Finishes}
 use Rattle.session.proofs.Needs.{need-is}
 
-met-same : (s t : ℕ) → Met s ≡ Met t → s ≡ t
-met-same s t e = ap count e
-  where
-    count : Need → ℕ
-    count (Met s) = s
-    count (Unmet i) = i
-
 module _ (h : Held) (a : Arguments) (o : Finished-attempt) (replies : ℕ) (x : Called) (f : Finishes h a o replies x) where
-  pub stages-from : o .stages ≡ stage-count (family-of (h .kept .family)) (o .scaled-radius)
-  stages-from = met-same (o .stages) _ (sym (f .need-met) ∙ need-is (setting-of (h .kept)) (o .scaled-radius))
+  abbrev q : Float
+  q = setting-for (h .kept) a .quotient
+
+  pub stages-from : o .stages ≡ stage-count (family-of (h .kept .family)) q (o .scaled-radius)
+  stages-from = need-is (setting-for (h .kept) a) (o .scaled-radius) (o .stages) (f .need-met) .0
 
   -- of the r and s that its answer tells
   pub served : (g : Orthogonal) → family-of (h .kept .family) ≡ made-of g → T (finite (o .scaled-radius)) → Serves g (o .scaled-radius) (o .stages)
   served g e fin = let r = o .scaled-radius in
-      subst (λ (s : ℕ). Serves g r s) (sym (stages-from ∙ ap (λ (f : Family). stage-count f r) e)) (serves g r fin (f .not-negative))
+      subst (λ (s : ℕ). Serves g r s) (sym (stages-from ∙ ap (λ (f : Family). stage-count f q r) e)) (serves g q r fin (f .not-negative))
 
-  pub served-infinite : o .scaled-radius ≡ inf false → o .stages ≡ largest-count (family-of (h .kept .family))
-  served-infinite e = stages-from ∙ ap (stage-count (family-of (h .kept .family))) e ∙ infinite-count (family-of (h .kept .family))
+  pub served-infinite : facts-of (family-of (h .kept .family)) .«refuses_more» ≡ false → o .scaled-radius ≡ inf false
+      → o .stages ≡ largest-count (family-of (h .kept .family))
+  served-infinite cut e = stages-from ∙ ap (stage-count (family-of (h .kept .family)) q) e ∙ infinite-count (family-of (h .kept .family)) q cut

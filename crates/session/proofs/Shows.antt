@@ -17,12 +17,14 @@ use Rattle.driver.specs.declared.Record.{Record}
 use Rattle.driver.specs.declared.Counters.{Counters}
 use Rattle.driver.specs.declared.Answer.{Answer}
 use Rattle.driver.specs.declared.Answer.the-variants.{Evaluate, Finished, Ready, Refused, Empty}
+use Rattle.driver.specs.declared.History.{History}
+use Rattle.driver.specs.Calls.{quotient-of, setting-under}
 use Rattle.driver.specs.Calls.{Held, Called, step-to, in-phase, replied, sized, whole-area, awaiting, finishes, going-on, counted, spoiled, settled, reply}
 use Rattle.session.specs.Attempt.{for-another, closes, Asking, done, stopped, ask, _>>=_, evaluate, Finished-attempt, Evaluated, fixed-at}
 use Rattle.session.specs.Claim.{called-for, Allowed, room-in}
 use Rattle.session.specs.Alike.{Alike, Same-vectors, Same-start, Same-attempt}
 use Rattle.session.specs.Session.{Shown, evaluates, finished-with, ready-at, stops, nothing, Seen, answer-shown, call-seen, Resting, ready-with}
-use Rattle.session.specs.Session.{tried, has-history, Doing, none, within, Session, finished-by, counts-on, doing-shown, session-seen}
+use Rattle.session.specs.Session.{Previous-step, no-step, some-step, is-some, quotient, kernel-setting, tried, Doing, none, within, Session, finished-by, counts-on, doing-shown, session-seen}
 use Rattle.session.proofs.Lengths.{its-family, Long-in, whole-pack}
 use Rattle.session.proofs.Follows.{some-empty, Follows}
 use Rattle.session.proofs.Asked.{reply-is}
@@ -36,10 +38,23 @@ pub record At (f n : ℕ) (φ : Phase) (h : Held) : Type 0 where
   pub n-sized : sized (h .kept .n) ≡ true
   pub area-whole : whole-area (h .kept .family) (h .kept .n) (h .area) ≡ true
 
+-- the record remembers this step, or that there is none
+unfoldable pub Remembers : History → Previous-step → Type 0
+Remembers x no-step = x .present ≡ false
+Remembers x (some-step previous) = (x .present ≡ true) × (x .«previous_accepted_step» ≡ previous)
+
+-- and so runs its attempts under what the kernel does
+pub same-setting : (f : ℕ) (x : History) (p : Previous-step) (step : Float) → Remembers x p → setting-under f x step ≡ kernel-setting f p step
+unfolding Remembers quotient-of quotient is-some
+same-setting f x no-step step e = rw e
+same-setting f x (some-step previous) step e = rw (e .0, e .1)
+
 -- what is held stands where the computation stands, and goes on as it does on every reply of n doubles that finds room
 unfoldable pub Shows : ℕ → ℕ → Asking Resting → Held → Type 0
-Shows f n (done (ready-with v)) h = At f n P.Ready h × Same-start (has-history (ready-with v)) (unpack (h .kept .n) (h .area)) v
-Shows f n (done (tried o)) h = At f n P.Finished h × Same-vectors (has-history (tried o)) (unpack (h .kept .n) (h .area)) (o .vectors)
+Shows f n (done (ready-with x v)) h = At f n P.Ready h × Remembers (h .kept .history) x × Same-start (is-some x) (unpack (h .kept .n) (h .area)) v
+Shows f n (done (tried x step o)) h =
+    At f n P.Finished h × Remembers (h .kept .history) x × (h .kept .arguments .step ≡ step)
+    × Same-vectors (is-some x) (unpack (h .kept .n) (h .area)) (o .vectors)
 Shows f n (stopped i v) h = h .kept .phase ≡ P.Empty
 Shows f n (ask why t p k) h =
     At f n (h .kept .phase) h × (awaiting (h .kept) ≡ true) × (finishes (h .kept .phase) ≡ closes why)
@@ -71,10 +86,11 @@ module _ (r : Record) (c : Counters) (v : Vectors) (hk : known (r .family) ≡ t
       → awaiting r ≡ true → finishes (r .phase) ≡ false
       → ((d : List Float) → length d ≡ r .n → Long-in r (to d))
       → ((d : List Float) → replied (r .phase) r v d ≡ step-to Ready (in-phase P.Ready r) (to d))
-      → ((d : List Float) → Same-start (has-history (ready-with (from d))) (to d) (from d))
-      → Shows (r .family) (r .n) (evaluate for-another u t y >>= λ d. done (ready-with (from d))) (record { kept = r; counters = c; area = pack v })
-  unfolding Shows evaluate _>>=_ answer-shown doing-shown finished-by counts-on settled going-on counted spoiled in-phase closes fixed-at
-  once u t y from to ha hc long will same = (
+      → r .history .present ≡ false
+      → ((d : List Float) → Same-start false (to d) (from d))
+      → Shows (r .family) (r .n) (evaluate for-another u t y >>= λ d. done (ready-with no-step (from d))) (record { kept = r; counters = c; area = pack v })
+  unfolding Shows Remembers is-some evaluate _>>=_ answer-shown doing-shown finished-by counts-on settled going-on counted spoiled in-phase closes fixed-at
+  once u t y from to ha hc long will absent same = (
     record { family-is = refl; n-is = refl; phase-is = refl; family-known = hk; n-sized = hs; area-whole = whole-pack (r .family) (r .n) v hv },
     ha,
     hc,
@@ -85,7 +101,7 @@ module _ (r : Record) (c : Counters) (v : Vectors) (hk : known (r .family) ≡ t
   )
     where
       m : List Float → Bool → Asking Resting
-      m d b = cond b (done d) (stopped 9 u) >>= λ d. done (ready-with (from d))
+      m d b = cond b (done d) (stopped 9 u) >>= λ d. done (ready-with no-step (from d))
 
       was : Held
       was = record { kept = r; counters = c; area = pack v }
@@ -106,7 +122,8 @@ module _ (r : Record) (c : Counters) (v : Vectors) (hk : known (r .family) ≡ t
             n-sized = hs;
             area-whole = whole-pack (r .family) (r .n) (to d) (long d hd);
           },
-          subst (λ (w : Vectors). Same-start (has-history (ready-with (from d))) w (from d)) (sym back) (same d),
+          absent,
+          subst (λ (w : Vectors). Same-start false w (from d)) (sym back) (same d),
         ),
       )
       go d hd false = (refl, same-counters _ _ refl (omega arith), refl)
@@ -125,8 +142,8 @@ tell t p Ready h e = absurd (subst some-empty e tt)
 tell t p (Refused i) h e = absurd (subst some-empty e tt)
 tell t p Empty h e = absurd (subst some-empty e tt)
 
-abbrev on : Asking Finished-attempt → Asking Resting
-on m = m >>= λ o. done (tried o)
+abbrev on : Previous-step → Float → Asking Finished-attempt → Asking Resting
+on x step m = m >>= λ o. done (tried x step o)
 
 module _ (h : Held) (a : Arguments) (ok : Allowed h a) where
   -- the counters c stood one reply before
@@ -139,9 +156,9 @@ module _ (h : Held) (a : Arguments) (ok : Allowed h a) where
     counts-are : (c : Counters) → Before e c → x .held .counters ≡ counts-on (within m) c
     pub shows : Shows (h .kept .family) (h .kept .n) m (x .held)
 
-  -- calls that follow one attempt show a session's that is alike, with the history that it leaves
-  pub goes : (history : Bool) → ((o : Finished-attempt) → has-history (tried o) ≡ history) → (m m′ : Asking Finished-attempt) (e : ℕ) (b : Held) (x : Called)
-      → Follows h a e b m x → Alike (Same-attempt history) m m′ → Goes e (on m′) x
+  -- calls that follow one attempt show a session's that is alike, with the history that it began from
+  pub goes : (p : Previous-step) → Remembers (h .kept .history) p → (m m′ : Asking Finished-attempt) (e : ℕ) (b : Held) (x : Called)
+      → Follows h a e b m x → Alike (Same-attempt (is-some p)) m m′ → Goes e (on p (a .step) m′) x
   unfolding Follows Shows _>>=_ answer-shown doing-shown finished-by counts-on in-phase
   goes η left (done o) (done o′) e b x f s = record {
     shown-is = rw (f .answer-is, f .n-is, f .area-is)
@@ -158,7 +175,9 @@ module _ (h : Held) (a : Arguments) (ok : Allowed h a) where
         n-sized = rw (f .n-is) (ok .n-sized);
         area-whole = rw (f .family-is, f .n-is, f .area-is) (whole-pack (h .kept .family) (h .kept .n) (o .vectors) (f .vectors-long));
       },
-      rw (f .n-is, f .area-is, back, left o′) (s .vectors-same),
+      subst (λ (y : History). Remembers y η) (sym (f .history-is)) left,
+      ap (λ (y : Arguments). y .step) (f .arguments-are),
+      rw (f .n-is, f .area-is, back) (s .vectors-same),
     );
   }
     where

@@ -11,23 +11,23 @@ use lib.ListN.{length}
 use lib.Ieee.{Float, lt}
 use Rattle.ieee.specs.Double.{_⊕_, _⊗_, nought}
 use Rattle.family.specs.declared.Setting.{Setting}
-use Rattle.family.specs.Family.{RKMC2, known, facts-of, kind}
+use Rattle.family.specs.Family.{RKMC2, TSRKC2, known, facts-of, kind}
 use Rattle.coefficients.specs.declared.Recurrence.{Recurrence}
 use Rattle.coefficients.specs.Rows.{coefficients, next, carried, candidate-weights}
 use Rattle.coefficients.proofs.Carried.{carried-next}
 use Rattle.workspace.specs.declared.Arguments.{Arguments}
 use Rattle.workspace.specs.Vectors.{Vector, Vectors, _with_≔_, number, each, all-finite, first-derivative, last-derivative}
 use Rattle.workspace.specs.Vectors.{derivative, previous-two, previous-one, next-stage, state, candidate, older-state}
-use Rattle.workspace.specs.Kernel.{with-row, exchanged, combined-entry, with-candidate, with-last, error}
+use Rattle.workspace.specs.Kernel.{with-row, exchanged, combined-entry, mixed-entry, older-of, with-candidate, with-last, error}
 use Rattle.workspace.proofs.Areas.{long-last}
-use Rattle.workspace.proofs.Candidate.{candidate-last, candidate-combined, combined-same}
+use Rattle.workspace.proofs.Candidate.{candidate-last, candidate-combined, candidate-mixed, combined-same, mixed-same}
 use Rattle.driver.specs.declared.Phase.the-variants as P
 use Rattle.driver.specs.declared.Iteration.{Iteration}
 use Rattle.driver.specs.declared.Staging.{Staging}
 use Rattle.driver.specs.declared.Need.the-variants.{Met}
 use Rattle.driver.specs.declared.Counters.{Counters}
 use Rattle.driver.specs.declared.Answer.the-variants.{Evaluate, Refused}
-use Rattle.driver.specs.Calls.{Held, step-to, in-phase, setting-of, permits, at-stage, ask-stage, stage-need, ask-candidate, take-stage, take-candidate}
+use Rattle.driver.specs.Calls.{Held, step-to, in-phase, setting-for, permits, at-stage, ask-stage, stage-need, ask-candidate, take-stage, take-candidate}
 use Rattle.driver.specs.Calls.{replied, good-end, sized, pending, in-range, awaiting, finishes, going-on, counted, settled}
 use Rattle.session.specs.Attempt.{for-candidate, closes, Asking, done, stopped, _>>=_, evaluate, Finished-attempt, stage-row, stage-loop}
 use Rattle.session.specs.Attempt.{finished-attempt, close, evaluated}
@@ -44,7 +44,7 @@ iteration-at k π ρ r = record { pass = k; perturbation = π; «previous_radius
 
 module _ (h : Held) (a : Arguments) (hk : known (h .kept .family) ≡ true) (hs : sized (h .kept .n) ≡ true) where
   abbrev F : Setting
-  F = setting-of (h .kept)
+  F = setting-for (h .kept) a
 
   -- s stages after k passes, at the scaled radius r
   module _ (s k : ℕ) (r π ρ : Float) (hs′ : permits F s ≡ true) (hr : stage-need F r ≡ Met s) (hn : lt r nought ≡ false) (1≤k : 1 ≤ k) (k≤ : k ≤ 12) where
@@ -56,13 +56,17 @@ module _ (h : Held) (a : Arguments) (hk : known (h .kept .family) ≡ true) (hs 
     ended-well : good-end F k s ≡ true
     ended-well = rw (le-leb 1 k 1≤k, le-leb k 12 k≤) hs′
 
-    -- how RKMC2's candidate is made of the vectors
+    -- how RKMC2's candidate is made of the vectors, and TSRKC2's
     abbrev combination : Recurrence → Vectors → List Float
     combination rc w = each (h .kept .n) w (combined-entry (a .step) (candidate-weights s rc))
 
+    abbrev mixture : Recurrence → Vectors → List Float
+    mixture rc w = each (h .kept .n) w (mixed-entry (older-of F) (rc .polynomials .gain))
+
     record Made (w : Vectors) : Type 0 where
-      last : (kind F ≡ RKMC2 → ⊥) → w candidate ≡ w next-stage
+      last : (kind F ≡ RKMC2 → ⊥) → (kind F ≡ TSRKC2 → ⊥) → w candidate ≡ w next-stage
       combined : kind F ≡ RKMC2 → w candidate ≡ combination (carried F s (s - 2)) w
+      mixed : kind F ≡ TSRKC2 → w candidate ≡ mixture (carried F s (s - 2)) w
 
     candidate-follows : (j : ℕ) (rc : Recurrence) (v w : Vectors) (c : Counters) (e : ℕ) → Made w → Intact h w → Counted h e c
         → e + 2 ≡ k + s
@@ -79,6 +83,11 @@ module _ (h : Held) (a : Arguments) (hk : known (h .kept .family) ≡ true) (hs 
                 (w with last-derivative ≔ d) b ≡ w b
             pick true = rw (p, q)
             pick false = rw p
+
+        older-stays : (d : List Float) (t : Bool)
+            → w (cond t older-state state) ≡ with-last F (h .kept .n) a w d (cond t older-state state)
+        older-stays d true = sym (last-stands d older-state refl refl)
+        older-stays d false = sym (last-stands d state refl refl)
 
         last-taken : (d : List Float) → with-last F (h .kept .n) a w d last-derivative ≡ d
         last-taken d = pick (a .adaptive)
@@ -109,15 +118,19 @@ module _ (h : Held) (a : Arguments) (hk : known (h .kept .family) ≡ true) (hs 
               first-stands = last-stands d first-derivative refl refl ∙ hw .first-is;
               older-stands = last-stands d older-state refl refl ∙ hw .older-is;
               candidate-finite = ap all-finite (last-stands d candidate refl refl) ∙ finite;
-              candidate-last = λ other. last-stands d candidate refl refl ∙ made .last other ∙ sym (last-stands d next-stage refl refl);
+              candidate-last = λ other another. last-stands d candidate refl refl ∙ made .last other another ∙ sym (last-stands d next-stage refl refl);
               candidate-combined = λ own. last-stands d candidate refl refl ∙ made .combined own ∙ combined-same (h .kept .n) (a .step)
                   (candidate-weights s (carried F s (s - 2))) w (with-last F (h .kept .n) a w d) (sym (last-stands d state refl refl))
                   (sym (last-stands d next-stage refl refl)) (sym (last-stands d previous-two refl refl)) (sym (last-stands d first-derivative refl refl));
+              candidate-mixed = λ own. last-stands d candidate refl refl ∙ made .mixed own
+                  ∙ mixed-same (h .kept .n) (older-of F) (carried F s (s - 2) .polynomials .gain) w (with-last F (h .kept .n) a w d)
+                  (older-stays d (F .history)) (sym (last-stands d next-stage refl refl));
               last-finite = ap all-finite (last-taken d) ∙ fin;
               phase-is = refl;
               family-is = refl;
               n-is = refl;
               arguments-are = refl;
+              history-is = refl;
               stages-are = refl;
               passes-are = refl;
               radius-is = refl;
@@ -164,6 +177,8 @@ module _ (h : Held) (a : Arguments) (hk : known (h .kept .family) ≡ true) (hs 
           last = candidate-last F (h .kept .n) (a .step) s rc row (taken j rc v d);
           combined = λ own. candidate-combined F (h .kept .n) (a .step) s rc row (taken j rc v d) own
               ∙ ap (λ (y : Recurrence). combination y (last j rc v d)) (rc≡ ∙ ap (λ (i : ℕ). carried F s (i - 2)) j≡);
+          mixed = λ own. candidate-mixed F (h .kept .n) (a .step) s rc row (taken j rc v d) own
+              ∙ ap (λ (y : Recurrence). mixture y (last j rc v d)) (rc≡ ∙ ap (λ (i : ℕ). carried F s (i - 2)) j≡);
         }
 
     -- what a stage's derivative is taken to, in the attempt in one piece: before stage s, and at it

@@ -13,10 +13,10 @@ use Rattle.driver.specs.declared.Counters.{Counters}
 use Rattle.driver.specs.Calls.{Held, sized, whole-area, as-long, pending, in-range, awaiting, may-attempt, may-accept, room, has-room}
 use Rattle.session.specs.Attempt.{done, stopped, ask, Finished-attempt}
 use Rattle.session.specs.Alike.{Same-vectors}
-use Rattle.session.specs.Session.{ready-with, tried, has-history, Doing, none, within, Session, rests, has-tried, waits, waits-with-room}
+use Rattle.session.specs.Session.{Previous-step, is-some, ready-with, tried, Doing, none, within, Session, rests, has-tried, waits, waits-with-room}
 use Rattle.ieee.proofs.Logic.{and-left}
 use Rattle.session.proofs.Truth.{differ}
-use Rattle.session.proofs.Shows.{At, Shows, Does}
+use Rattle.session.proofs.Shows.{At, Remembers, Shows, Does}
 
 -- ---- the first three tests
 
@@ -76,8 +76,8 @@ module _ (h : Held) where
   pub standing : (f n : ℕ) (δ : Doing) → Does f n δ h → Standing δ
   unfolding Does Shows may-attempt may-accept pending rests has-tried waits
   standing f n none e = by-phase P.Empty none e refl refl refl refl
-  standing f n (within (done (ready-with v))) e = by-phase P.Ready (within (done (ready-with v))) (e .0 .phase-is) refl refl refl refl
-  standing f n (within (done (tried o))) e = by-phase P.Finished (within (done (tried o))) (e .0 .phase-is) refl refl refl refl
+  standing f n (within (done (ready-with x v))) e = by-phase P.Ready (within (done (ready-with x v))) (e .0 .phase-is) refl refl refl refl
+  standing f n (within (done (tried x step o))) e = by-phase P.Finished (within (done (tried x step o))) (e .0 .phase-is) refl refl refl refl
   standing f n (within (stopped i v)) e = by-phase P.Empty (within (stopped i v)) e refl refl refl refl
   standing f n (within (ask why t p k)) e = let no = waits-alone (h .kept) (e .1) in
       record { attempt-is·rests = no .0; accept-is·tried = no .1; awaiting-is·waits = e .1 }
@@ -93,8 +93,8 @@ module _ (h : Held) where
   pub place : (f n : ℕ) (δ : Doing) → Does f n δ h → Place n δ
   unfolding Does Shows rests has-tried waits
   place f n none e = outside refl refl refl
-  place f n (within (done (ready-with v))) e = from-at f n P.Ready (within (done (ready-with v))) (e .0)
-  place f n (within (done (tried o))) e = from-at f n P.Finished (within (done (tried o))) (e .0)
+  place f n (within (done (ready-with x v))) e = from-at f n P.Ready (within (done (ready-with x v))) (e .0)
+  place f n (within (done (tried x step o))) e = from-at f n P.Finished (within (done (tried x step o))) (e .0)
   place f n (within (stopped i v)) e = outside refl refl refl
   place f n (within (ask why t p k)) e = from-at f n (h .kept .phase) (within (ask why t p k)) (e .0)
 
@@ -112,13 +112,14 @@ room-alike h σ cs (within (ask why t p k)) e =
 
 -- an attempt is finished
 pub data Finished-at (h : Held) (f n : ℕ) : Doing → Type 0 where
-  finished-at : (o : Finished-attempt) → At f n P.Finished h → Same-vectors (has-history (tried o)) (unpack (h .kept .n) (h .area)) (o .vectors)
-      → Finished-at h f n (within (done (tried o)))
+  finished-at : (x : Previous-step) (step : Float) (o : Finished-attempt) → At f n P.Finished h → Remembers (h .kept .history) x
+      → h .kept .arguments .step ≡ step → Same-vectors (is-some x) (unpack (h .kept .n) (h .area)) (o .vectors)
+      → Finished-at h f n (within (done (tried x step o)))
 
 pub rested : (h : Held) (f n : ℕ) (δ : Doing) → Does f n δ h → may-accept (h .kept .phase) ≡ true → Finished-at h f n δ
 unfolding Does Shows may-accept
 rested h f n none e a = absurd (differ (sym (ap may-accept e) ∙ a))
-rested h f n (within (done (ready-with v))) e a = absurd (differ (sym (ap may-accept (e .0 .phase-is)) ∙ a))
-rested h f n (within (done (tried o))) e a = finished-at o (e .0) (e .1)
+rested h f n (within (done (ready-with x v))) e a = absurd (differ (sym (ap may-accept (e .0 .phase-is)) ∙ a))
+rested h f n (within (done (tried x step o))) e a = finished-at x step o (e .0) (e .1) (e .2) (e .3)
 rested h f n (within (stopped i v)) e a = absurd (differ (sym (ap may-accept e) ∙ a))
 rested h f n (within (ask why t p k)) e a = absurd (differ (sym (waits-alone (h .kept) (e .1) .1) ∙ a))

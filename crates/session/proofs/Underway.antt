@@ -69,7 +69,7 @@ pub record In-passes (g : Held) (m : ℕ) (x : Held) : Type 0 where
 -- and then: so many replies to come, so many finished attempts more
 pub record In-stages (g : Held) (m to-come finished : ℕ) (x : Held) : Type 0 where
   pub radius-is : scaled-radius-of x ≡ radius-left (x .kept .arguments) (unpack (x .kept .n) (x .area))
-  pub suits : Suits (x .kept .family) (passes-of x) (stages-of x) (scaled-radius-of x)
+  pub suits : Suits (setting-of (x .kept)) (passes-of x) (stages-of x) (scaled-radius-of x)
   pub replies-are : m + to-come ≡ stages-of x + passes-of x
   pub from-two : 2 ≤ x .kept .staging .stage
   pub to-last : x .kept .staging .stage ≤ stages-of x
@@ -110,8 +110,8 @@ found-same r w v e f =
     ∙ ap (λ (y : List Float). scaled (r .arguments .step) (vector-norm y ⊘ perturbation-of v)) (sym f)
 
 -- every count is at least 2
-least-count : (f : ℕ) (r : Float) → 2 ≤ stage-count (family-of f) r
-least-count f r = permitted-range (family-of f) (stage-count (family-of f) r) (stage-count-permitted (family-of f) r) .0
+least-count : (f : ℕ) (q r : Float) → 2 ≤ stage-count (family-of f) q r
+least-count f q r = permitted-range (family-of f) (stage-count (family-of f) q r) (stage-count-permitted (family-of f) q r) .0
 
 -- a call leaves it so, and answers so
 pub record Goes (g : Held) (a : Arguments) (m : ℕ) (x : Called) : Type 0 where
@@ -167,7 +167,7 @@ module _ (g : Held) (a : Arguments) (m : ℕ) (x : Held) (u : Underway g a m x) 
     };
     answered = refl;
   }
-  reply-goes d y (begins w t b area p twelve same turned) q on = let i = at-phase P.Pass p in
+  reply-goes d y (begins w t b area p twelve met same turned) q on = let i = at-phase P.Pass p in
       let r = x .kept in
       let plus = radius-plus (r .iteration .perturbation) w (i .unsigned) in record {
         underway = record {
@@ -180,10 +180,11 @@ module _ (g : Held) (a : Arguments) (m : ℕ) (x : Held) (u : Underway g a m x) 
               twelve-passes = twelve;
               not-negative = not-below (radius-after r w) (scaled-plus (r .arguments .step) (radius-of (r .iteration .perturbation) w) plus);
               stages-are = refl;
+              need-met = met;
             };
             replies-are = omega arith;
             from-two = omega arith;
-            to-last = least-count (r .family) (radius-after r w);
+            to-last = least-count (r .family) (setting-of r .quotient) (radius-after r w);
             recurrence-is = refl;
             attempts-are = omega arith;
           };
@@ -253,7 +254,7 @@ stays x c y (attempts v t b area same) other = (refl, refl)
 stays x c y (spoils i area) other = (refl, refl)
 stays x c y (readies area) other = (refl, refl)
 stays x c y (iterates t radius b area p below same) other = (refl, refl)
-stays x c y (begins w t b area p twelve same turned) other = (refl, refl)
+stays x c y (begins w t b area p twelve met same turned) other = (refl, refl)
 stays x c y (goes-on t b area p below both) other = (refl, refl)
 stays x c y (asks-candidate t b area p at both) other = (refl, refl)
 stays x c y (finishes w p good long both) other = (refl, refl)
@@ -275,7 +276,7 @@ leaves-finished x c y (attempts v t b area same) two = absurd (omega arith)
 leaves-finished x c y (spoils i area) two = absurd (omega arith)
 leaves-finished x c y (readies area) two = absurd (omega arith)
 leaves-finished x c y (iterates t radius b area p below same) two = absurd (omega arith)
-leaves-finished x c y (begins w t b area p twelve same turned) two = absurd (omega arith)
+leaves-finished x c y (begins w t b area p twelve met same turned) two = absurd (omega arith)
 leaves-finished x c y (goes-on t b area p below both) two = absurd (omega arith)
 leaves-finished x c y (asks-candidate t b area p at both) two = absurd (omega arith)
 leaves-finished x c y (finishes w p good long both) two = record {

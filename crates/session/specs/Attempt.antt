@@ -1,7 +1,7 @@
--- An attempt in one piece, as the Rust has it: `attempt_step`, `spectral_radius`, `run_orthogonal_polynomial`, `run_rkc` and `run_rkmc2`, with `?` where the
--- Rust has `?`. Document 01, "driver.rs: the calls", and document 02, CR 1. Where the port differs, as docs/DIFFERENCES.md lists, so does this: `evaluate`,
--- `close`, every norm (document 02, CR 4), and what `stage-need` (RKC's 200 where the Rust's count overflows, RKG's counts by document 02, CR 5, RKMC2's
--- thresholds) and `recurrence` (the tables of RKC and RKMC2) take from the layers below.
+-- An attempt in one piece, as the Rust has it: `attempt_step`, `spectral_radius`, `run_orthogonal_polynomial`, `run_rkc`, `run_rkmc2` and `run_tsrkc2`, with
+-- `?` where the Rust has `?`. Document 01, "driver.rs: the calls", and document 02, CR 1 and CR 6. Where the port differs, as docs/DIFFERENCES.md lists, so does
+-- this: `evaluate`, `close`, every norm (document 02, CR 4), and what `stage-need` (RKC's 200 where the Rust's count overflows, RKG's counts by document 02,
+-- CR 5, RKMC2's thresholds, 11 where TSRKC2 would need more than 1000 stages) and `recurrence` (the tables of RKC, RKMC2 and TSRKC2) take from the layers below.
 -- The right-hand side is whoever answers `ask`. The vectors, which the Rust changes in place, go from line to line. ⊕ ⊗ are operations on doubles: they round.
 use Prim.Native.Nat.{ℕ, zero, suc, _+_, _-_}
 use mathlib.Core.Bool.{Bool, true, false, cond, _||_}
@@ -50,7 +50,7 @@ ask why t p k >>= f = ask why t p (λ d. k d >>= f)
 unfoldable pub evaluate : Purpose → Vectors → Float → List Float → Asking (List Float)
 evaluate why v t p = ask why t p (λ d. cond (all-finite d) (done d) (stopped 9 v))
 
--- a need that is refused stops it too (an empty branch today: no family's need is refused yet)
+-- a need that is refused stops it too (document 02, CR 6)
 unfoldable pub stages-for : Need → Vectors → Asking ℕ
 stages-for (Met s) v = done s
 stages-for (Unmet i) v = stopped i v
@@ -161,7 +161,12 @@ all-but-last v =
     v first-derivative ∷ v derivative ∷ v previous-two ∷ v previous-one ∷ v next-stage
     ∷ v eigenvector ∷ v perturbed-state ∷ v perturbed-derivative ∷ v state ∷ v candidate ∷ []
 
+-- what the power iteration reads and writes
+abbrev pub iteration-work : Vectors → List (List Float)
+iteration-work v = v first-derivative ∷ v eigenvector ∷ v perturbed-state ∷ v perturbed-derivative ∷ v state ∷ []
+
 -- With 10 "area as the Rust's vectors are when its test of the candidate fails, but the last derivative stands" (document 01's table): these ten; that the
--- last derivative stands, and the older state, is `leaves` (proofs/Leaves.antt). With 9 nothing: the area stands, whatever it held.
+-- last derivative stands, and the older state, is `leaves` (proofs/Leaves.antt). With 11 "the iteration's work kept" (document 02, CR 6): these five; the
+-- others stand, by `leaves` too. With 9 nothing: the area stands, whatever it held.
 unfoldable pub fixed-at : ℕ → Vectors → List (List Float)
-fixed-at i v = cond (eqb i 10) (all-but-last v) []
+fixed-at i v = cond (eqb i 10) (all-but-last v) (cond (eqb i 11) (iteration-work v) [])

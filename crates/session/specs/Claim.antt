@@ -7,12 +7,12 @@ use Prim.Native.Nat.{ℕ, zero, suc, _+_, _-_, _≤_, _<_, _^_}
 use lib.ListN.{length, take}
 use lib.Ieee.{Float, lt}
 use Rattle.ieee.specs.Double.{nought}
-use Rattle.family.specs.Family.{RKMC2, known, family-of, stage-count}
+use Rattle.family.specs.Family.{RKMC2, TSRKC2, known, family-of, kind, stage-count}
 use Rattle.coefficients.specs.Rows.{candidate-weights, carried}
 use Rattle.workspace.specs.declared.Arguments.{Arguments}
 use Rattle.workspace.specs.Vectors.{Vector, Vectors, width, named, unpack, pack, each, all-finite, next-stage, state, candidate, older-state, first-derivative}
 use Rattle.workspace.specs.Vectors.{last-derivative}
-use Rattle.workspace.specs.Kernel.{combined-entry}
+use Rattle.workspace.specs.Kernel.{combined-entry, mixed-entry, older-of}
 use Rattle.driver.specs.declared.Phase.the-variants as P
 use Rattle.driver.specs.declared.Need.the-variants.{Met}
 use Rattle.driver.specs.declared.Figures.{Figures}
@@ -20,7 +20,7 @@ use Rattle.driver.specs.declared.Answer.{Answer}
 use Rattle.driver.specs.declared.Answer.the-variants.{Evaluate, Finished, Ready, Refused, Empty}
 use Rattle.driver.specs.Answers.{case-number, Same-answer}
 use Rattle.driver.specs.Numbers.{ending-numbers}
-use Rattle.driver.specs.Calls.{Held, Called, in-phase, setting-of, permits, stage-need, sized, whole-area, awaiting, has-room, may-attempt, good-times}
+use Rattle.driver.specs.Calls.{Held, Called, in-phase, setting-for, permits, stage-need, sized, whole-area, awaiting, has-room, may-attempt, good-times}
 use Rattle.driver.specs.Calls.{good-tolerances}
 use Rattle.driver.specs.Calls.{figures-of, attempt, reply, Call, Reply}
 use Rattle.session.specs.Attempt.{Asking, Finished-attempt, Evaluated, evaluated, reaches-candidate, End, reached, refused, end, attempt-step}
@@ -87,7 +87,8 @@ pub record Waits (h : Held) (replies : ℕ) (x : Called) : Type 0 where
   pub evaluations-are : x .held .counters .evaluations ≡ h .counters .evaluations + replies
   pub attempts-are : x .held .counters .«finished_attempts» ≡ h .counters .«finished_attempts»
 
--- finished after this many replies, from h with the arguments a; the candidate is the last stage, and RKMC2's the combination of the vectors that are left
+-- finished after this many replies, from h with the arguments a; the candidate is the last stage, and RKMC2's and TSRKC2's a combination of the vectors that
+-- are left
 pub record Finishes (h : Held) (a : Arguments) (o : Finished-attempt) (replies : ℕ) (x : Called) : Type 0 where
   pub answer-is : x .answer ≡ Finished (figures-told o)
   pub area-is : x .held .area ≡ pack (o .vectors)
@@ -96,14 +97,17 @@ pub record Finishes (h : Held) (a : Arguments) (o : Finished-attempt) (replies :
   pub first-stands : o .vectors first-derivative ≡ unpack (h .kept .n) (h .area) first-derivative
   pub older-stands : o .vectors older-state ≡ unpack (h .kept .n) (h .area) older-state
   pub candidate-finite : all-finite (o .vectors candidate) ≡ true
-  pub candidate-last : (family-of (h .kept .family) ≡ RKMC2 → ⊥) → o .vectors candidate ≡ o .vectors next-stage
+  pub candidate-last : (family-of (h .kept .family) ≡ RKMC2 → ⊥) → (family-of (h .kept .family) ≡ TSRKC2 → ⊥) → o .vectors candidate ≡ o .vectors next-stage
   pub candidate-combined : family-of (h .kept .family) ≡ RKMC2 → o .vectors candidate ≡ each (h .kept .n) (o .vectors)
-      (combined-entry (a .step) (candidate-weights (o .stages) (carried (setting-of (h .kept)) (o .stages) (o .stages - 2))))
+      (combined-entry (a .step) (candidate-weights (o .stages) (carried (setting-for (h .kept) a) (o .stages) (o .stages - 2))))
+  pub candidate-mixed : family-of (h .kept .family) ≡ TSRKC2 → o .vectors candidate ≡ each (h .kept .n) (o .vectors)
+      (mixed-entry (older-of (setting-for (h .kept) a)) (carried (setting-for (h .kept) a) (o .stages) (o .stages - 2) .polynomials .gain))
   pub last-finite : all-finite (o .vectors last-derivative) ≡ true
   pub phase-is : x .held .kept .phase ≡ P.Finished
   pub family-is : x .held .kept .family ≡ h .kept .family
   pub n-is : x .held .kept .n ≡ h .kept .n
   pub arguments-are : x .held .kept .arguments ≡ a
+  pub history-is : x .held .kept .history ≡ h .kept .history
   pub stages-are : x .held .kept .staging .stages ≡ o .stages
   pub passes-are : x .held .kept .iteration .pass ≡ o .passes
   pub radius-is : x .held .kept .iteration .«scaled_radius» ≡ o .scaled-radius
@@ -112,9 +116,9 @@ pub record Finishes (h : Held) (a : Arguments) (o : Finished-attempt) (replies :
   pub replies-are : replies ≡ o .stages + o .passes
   pub one-pass : 1 ≤ o .passes
   pub twelve-passes : o .passes ≤ 12
-  pub need-met : stage-need (setting-of (h .kept)) (o .scaled-radius) ≡ Met (o .stages)
+  pub need-met : stage-need (setting-for (h .kept) a) (o .scaled-radius) ≡ Met (o .stages)
   pub not-negative : lt (o .scaled-radius) nought ≡ false
-  pub stages-permitted : permits (setting-of (h .kept)) (o .stages) ≡ true
+  pub stages-permitted : permits (setting-for (h .kept) a) (o .stages) ≡ true
 
 -- stopped by number i with the vectors v, by a reply that found b: of the record only the phase is changed, and on 9 nothing of the area
 pub record Stops (h : Held) (b : Held) (i : ℕ) (v : Vectors) (replies : ℕ) (x : Called) : Type 0 where
@@ -135,7 +139,7 @@ Ends h a (refused i v) replies b x = Stops h b i v replies x
 
 -- the attempt in one piece from the vectors of the area
 abbrev pub in-one-piece : Held → Arguments → Asking Finished-attempt
-in-one-piece h a = attempt-step (setting-of (h .kept)) (h .kept .n) a (unpack (h .kept .n) (h .area))
+in-one-piece h a = attempt-step (setting-for (h .kept) a) (h .kept .n) a (unpack (h .kept .n) (h .area))
 
 -- room for the next reply
 abbrev pub room-in : Held → Bool
@@ -161,7 +165,7 @@ pub record Took (h : Held) (a : Arguments) (d : ℕ → List Float) (o : Finishe
   pub replies-are : replies-to h a d ≡ o .stages + o .passes
   pub one-pass : 1 ≤ o .passes
   pub twelve-passes : o .passes ≤ 12
-  pub stages-are : o .stages ≡ stage-count (family-of (h .kept .family)) (o .scaled-radius)
+  pub stages-are : o .stages ≡ stage-count (family-of (h .kept .family)) (setting-for (h .kept) a .quotient) (o .scaled-radius)
   pub each-evaluates : (j : ℕ) → j < o .stages + o .passes → case-number (after j d 0 (attempt h a) .answer) ≡ 1
   pub answer-is : Same-answer (x .answer) (Finished (figures-told o))
   pub evaluations-are : x .held .counters .evaluations ≡ h .counters .evaluations + (o .stages + o .passes)

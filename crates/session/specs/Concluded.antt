@@ -14,11 +14,12 @@ use lib.Ieee.{Float, inf, le, lt}
 use lib.Ieee.Scale.{finite}
 use Rattle.ieee.specs.Double.{nought, one}
 use Rattle.ieee.specs.Close.{Close}
-use Rattle.family.specs.Family.{RKC, RKMC2, Orthogonal, made-of, family-of, setting, permitted, largest-count, stage-count}
+use Rattle.family.specs.Family.{RKC, RKMC2, TSRKC2, Orthogonal, made-of, family-of, kind, permitted, largest-count, stage-count, exceeds, facts-of}
+use Rattle.family.specs.declared.Setting.{Setting}
 use Rattle.family.specs.Reach.{Serves}
 use Rattle.coefficients.specs.declared.Recurrence.{Recurrence}
 use Rattle.coefficients.specs.Paper as Paper
-use Rattle.coefficients.specs.Rows.{omega-zero, recurrence-of, coefficients-of, carried}
+use Rattle.coefficients.specs.Rows.{omega-zero, recurrence-of, coefficients-of, carried, tsrkc2-omega-zero, tsrkc2-omega-one, tsrkc2-gain}
 use Rattle.coefficients.specs.Table as Table
 use Rattle.coefficients.specs.Chebyshev as Chebyshev
 use Rattle.rkmc2_omega_zero.specs.Table as rkmc2-zero
@@ -91,17 +92,18 @@ scaled-radius-of x = x .kept .iteration .«scaled_radius»
 unfoldable pub radius-left : Arguments → Vectors → Float
 radius-left a v = scaled (a .step) (radius-of (perturbation-of v) v)
 
--- what holds of k, s and r once an attempt has them
-pub record Suits (family k s : ℕ) (r : Float) : Type 0 where
+-- what holds of k, s and r once an attempt under this setting has them
+pub record Suits (m : Setting) (k s : ℕ) (r : Float) : Type 0 where
   pub one-pass : 1 ≤ k
   pub twelve-passes : k ≤ 12
   pub not-negative : lt r nought ≡ false
-  pub stages-are : s ≡ stage-count (family-of family) r
+  pub stages-are : s ≡ stage-count (kind m) (m .quotient) r
+  pub need-met : exceeds (kind m) (m .quotient) r ≡ false
 
 -- demand 3 of an attempt of s stages for the scaled radius r: RKL1, RKL2, RKG1, RKG2
 pub record Demand-three (g : Orthogonal) (r : Float) (s : ℕ) : Type 0 where
   pub serves : T (finite r) → Serves g r s
-  pub first-close : Close 48 (recurrence-of (made-of g) s .«theta_previous») (Paper.first-mu-tilde g s)
+  pub first-close : (q : Float) → Close 48 (recurrence-of (made-of g) q s .«theta_previous») (Paper.first-mu-tilde g s)
   pub rows-close : (j : ℕ) → 2 ≤ j → j ≤ s → (c : Recurrence) → Close-row g s j (coefficients-of (made-of g) s j c)
   pub stable : Stable g s
 
@@ -119,12 +121,13 @@ pub record Concluded (h : Held) (calls : List Call) (told : Figures) (x : Held) 
   pub only-replies : taken-since attempt ≡ map Reply replies
   pub replies-are : length replies ≡ told .stages + told .passes
   pub answers-are : cases-since attempt ≡ replicate (length replies - 1) 1 ++ 2 ∷ []
-  pub norm-is : told .norm ≡ error-norm (setting (start .family)) (start .n) (told .stages) arguments (unpack (start .n) (x .area))
+  pub norm-is : told .norm ≡ error-norm (setting-of (x .kept)) (start .n) (told .stages) arguments (unpack (start .n) (x .area))
   pub radius-is : told .«scaled_radius» ≡ radius-left arguments (unpack (start .n) (x .area))
-  pub suits : Suits (start .family) (told .passes) (told .stages) (told .«scaled_radius»)
+  pub suits : Suits (setting-of (x .kept)) (told .passes) (told .stages) (told .«scaled_radius»)
   pub evaluations-are : x .counters .evaluations ≡ found attempt .counters .evaluations + (told .stages + told .passes)
   pub attempts-are : x .counters .«finished_attempts» ≡ found attempt .counters .«finished_attempts» + 1
-  pub largest-at-infinity : told .«scaled_radius» ≡ inf false → told .stages ≡ largest-count (family-of (start .family))
+  pub largest-at-infinity : facts-of (family-of (start .family)) .«refuses_more» ≡ false → told .«scaled_radius» ≡ inf false
+      → told .stages ≡ largest-count (family-of (start .family))
   pub demand-three : (g : Orthogonal) → family-of (start .family) ≡ made-of g → Demand-three g (told .«scaled_radius») (told .stages)
   pub record-holds : Holds-figures told (x .kept)
 
@@ -149,7 +152,7 @@ pub record Three-stand (h x : Held) : Type 0 where
 -- k, s and r as this attempt has found them: r by the state and the eigenvector, which its passes left
 pub record Own-figures (x : Held) : Type 0 where
   pub radius-is : scaled-radius-of x ≡ radius-left (x .kept .arguments) (unpack (x .kept .n) (x .area))
-  pub suits : Suits (x .kept .family) (passes-of x) (stages-of x) (scaled-radius-of x)
+  pub suits : Suits (setting-of (x .kept)) (passes-of x) (stages-of x) (scaled-radius-of x)
 
 -- s, k and r of the record while an attempt is under way, in a sequence. Among the passes k is from 1 to 12 and r is 0; of s nothing is said. From the first
 -- stage on they are the attempt's own.
@@ -162,8 +165,9 @@ pub record Under-way (x : Held) : Type 0 where
 
 -- ---- a stage that awaits its derivative, in a sequence
 
--- What the record carries into the stage is what the recurrence comes to there, from family and s alone; in RKC `omega_zero` is that of s, and `omega_one` the
--- table's entry for s, within 2 ^ -36 of the paper's fraction; in RKMC2 both are the tables' entries for s, at least 1 and above 0.
+-- What the record carries into the stage is what the recurrence comes to there, from family, q and s alone; in RKC `omega_zero` is that of s, and `omega_one`
+-- the table's entry for s, within 2 ^ -36 of the paper's fraction; in RKMC2 both are the tables' entries for s, at least 1 and above 0; in TSRKC2 they and the
+-- gain are those of q and s.
 pub record Carries (x : Held) : Type 0 where
   pub stages-permitted : T (permitted (family-of (x .kept .family)) (stages-of x))
   pub from-two : 2 ≤ x .kept .staging .stage
@@ -176,3 +180,9 @@ pub record Carries (x : Held) : Type 0 where
   pub rkmc2-one-read : family-of (x .kept .family) ≡ RKMC2 → x .kept .staging .recurrence .polynomials .«omega_one» ≡ rkmc2-one.omega-one (stages-of x)
   pub rkmc2-zero-from-one : family-of (x .kept .family) ≡ RKMC2 → T (le one (x .kept .staging .recurrence .polynomials .«omega_zero»))
   pub rkmc2-one-above-zero : family-of (x .kept .family) ≡ RKMC2 → T (lt nought (x .kept .staging .recurrence .polynomials .«omega_one»))
+  pub tsrkc2-zero-read : family-of (x .kept .family) ≡ TSRKC2 → x .kept .staging .recurrence .polynomials .«omega_zero» ≡ tsrkc2-omega-zero (stages-of x)
+  pub tsrkc2-one-read : family-of (x .kept .family) ≡ TSRKC2
+      → x .kept .staging .recurrence .polynomials .«omega_one» ≡ tsrkc2-omega-one (setting-of (x .kept) .quotient) (stages-of x)
+  pub gain-read : family-of (x .kept .family) ≡ TSRKC2
+      → x .kept .staging .recurrence .polynomials .gain
+      ≡ tsrkc2-gain (setting-of (x .kept) .quotient) (tsrkc2-omega-one (setting-of (x .kept) .quotient) (stages-of x)) (stages-of x)

@@ -1,4 +1,5 @@
--- Which number a call is turned away with: that of the first of its tests that fails. Document 01, "When a call is turned away".
+-- Which number a call is turned away with: that of the first of its tests that fails. Document 01, "When a call is turned away", and document 02,
+-- CR 6.
 use Prim.Native.Nat.{ℕ, _+_}
 use mathlib.Core.Path.{_≡_}
 use mathlib.Core.Logic.{_⊎_}
@@ -9,7 +10,7 @@ use lib.Ieee.{Float}
 use lib.Ieee.Scale.{finite}
 use Rattle.family.specs.Family.{known}
 use Rattle.coefficients.specs.Rows.{coefficients}
-use Rattle.workspace.specs.Vectors.{Vectors, unpack, all-finite, last-derivative, candidate, older-state}
+use Rattle.workspace.specs.Vectors.{Vector, Vectors, number, unpack, all-finite, last-derivative, eigenvector, perturbed-derivative, candidate, older-state}
 use Rattle.workspace.specs.Kernel.{turned, radius-of, ended, scaled, with-row, with-candidate}
 use Rattle.driver.specs.declared.Phase.{Phase}
 use Rattle.driver.specs.declared.Phase.the-variants as P
@@ -18,7 +19,7 @@ use Rattle.driver.specs.declared.Need.{Need}
 use Rattle.driver.specs.declared.Need.the-variants.{Met, Unmet}
 use Rattle.driver.specs.declared.Answer.{Answer}
 use Rattle.driver.specs.declared.Answer.the-variants.{Evaluate, Finished, Ready, Refused, Empty}
-use Rattle.driver.specs.Numbers.{standing-numbers, ending-numbers}
+use Rattle.driver.specs.Numbers.{standing-numbers, need-numbers, ending-numbers}
 use Rattle.driver.specs.Calls.{Held, in-phase, setting-of, stage-need, Test, _∶_, Verdict, admitted, refused-with}
 use Rattle.driver.specs.Calls.{sized, whole-area, as-long, awaiting, may-attempt, may-accept, good-times, good-tolerances, has-room}
 use Rattle.driver.specs.Calls.{Call, Start, Attempt, Reply, Accept, Accept-with-callback, Abandon}
@@ -30,7 +31,7 @@ verdict-of Ready = admitted
 verdict-of (Refused i) = refused-with i
 verdict-of Empty = admitted
 
--- a reply that ends the power iteration has the need of stages tested (no family's need is refused yet: `Unmet` is empty today)
+-- a reply that ends the power iteration has the need of stages tested: 11, after tests 1 to 9 (document 02, CR 6)
 unfoldable pub need-tests : Need → List Test
 need-tests (Met s) = []
 need-tests (Unmet i) = i ∶ false ∷ []
@@ -72,7 +73,7 @@ one-to-three f n lengths more = 1 ∶ known f ∷ 2 ∶ sized n ∷ 3 ∶ length
 abbrev pub one-to-four : Record → Bool → Bool → List Test → List Test
 one-to-four r lengths phase-allows more = one-to-three (r .family) (r .n) lengths (4 ∶ phase-allows ∷ more)
 
--- "area not 11 × n"; "or vector not n long"
+-- "area not 11 × n", of family 7 12 × n (document 02, CR 6); "or vector not n long"
 abbrev pub area-good : Held → Bool
 area-good h = whole-area (h .kept .family) (h .kept .n) (h .area)
 
@@ -96,7 +97,7 @@ tests-of h Abandon = one-to-four (h .kept) (area-good h) (awaiting (h .kept)) []
 unfoldable pub numbers-of : Call → List ℕ
 numbers-of (Start f n y t) = 1 ∷ 2 ∷ 3 ∷ 5 ∷ 6 ∷ []
 numbers-of (Attempt a) = 1 ∷ 2 ∷ 3 ∷ 4 ∷ 6 ∷ 7 ∷ []
-numbers-of (Reply d) = 1 ∷ 2 ∷ 3 ∷ 4 ∷ 8 ∷ 9 ∷ 10 ∷ []
+numbers-of (Reply d) = 1 ∷ 2 ∷ 3 ∷ 4 ∷ 8 ∷ 9 ∷ 10 ∷ 11 ∷ []
 numbers-of Accept = 1 ∷ 2 ∷ 3 ∷ 4 ∷ []
 numbers-of (Accept-with-callback y t) = 1 ∷ 2 ∷ 3 ∷ 4 ∷ 5 ∷ 6 ∷ []
 numbers-of Abandon = 1 ∷ 2 ∷ 3 ∷ 4 ∷ []
@@ -107,7 +108,11 @@ pub data _∈_ (k : ℕ) : List ℕ → Type 0 where
   later : {i : ℕ} {ks : List ℕ} → k ∈ ks → k ∈ (i ∷ ks)
 
 -- ---- what a call that is turned away with i leaves, by the kind of i: everything; or the reply is counted, the phase is empty, the rest of the record, the
--- last derivative and the older state stand, and on 9 the whole area
+-- last derivative and the older state stand, on 9 the whole area, and on 11 all of it but for what a pass writes
+
+-- the two vectors that the reply of a pass writes: the iteration's work
+abbrev pub written-by-pass : Vector → Bool
+written-by-pass b = eqb (number b) (number eigenvector) || eqb (number b) (number perturbed-derivative)
 
 pub record Left (h : Held) (i : ℕ) (x : Held) : Type 0 where
   pub kind : (i ∈ standing-numbers) ⊎ (i ∈ ending-numbers)
@@ -118,3 +123,4 @@ pub record Left (h : Held) (i : ℕ) (x : Held) : Type 0 where
   pub last-stands : i ∈ ending-numbers → unpack (h .kept .n) (x .area) last-derivative ≡ unpack (h .kept .n) (h .area) last-derivative
   pub older-stands : i ∈ ending-numbers → unpack (h .kept .n) (x .area) older-state ≡ unpack (h .kept .n) (h .area) older-state
   pub area-stands : i ≡ 9 → x .area ≡ h .area
+  pub others-stand : i ∈ need-numbers → (b : Vector) → written-by-pass b ≡ false → unpack (h .kept .n) (x .area) b ≡ unpack (h .kept .n) (h .area) b

@@ -1,5 +1,6 @@
 -- The Rust's kernel from its `initialize` on, in direct style: `attempt_step` and `accept_step` one after the other, as the calls begin, feed and drop them.
--- What it shows is what the calls show. Document 01, "Demand 2's domain".
+-- What it shows is what the calls show. Document 01, "Demand 2's domain", and document 02, CR 6: `previous_accepted_step` and `previous_accepted_state`.
+-- ⊘ is an operation on doubles: it rounds.
 use Prim.Native.Nat.{ℕ, zero, suc, _+_, _*_}
 use mathlib.Core.Bool.{Bool, true, false, cond, not, _&&_, _||_}
 use mathlib.Core.List.{List, [], _∷_}
@@ -7,8 +8,9 @@ use lib.Dec.{eqb}
 use lib.ListN.{replicate}
 use lib.Ieee.{Float}
 use lib.Ieee.Scale.{finite}
-use Rattle.ieee.specs.Double.{nought}
-use Rattle.family.specs.Family.{known, family-of, setting}
+use Rattle.ieee.specs.Double.{_⊘_, nought}
+use Rattle.family.specs.declared.Setting.{Setting}
+use Rattle.family.specs.Family.{known, family-of, setting, keeps-older}
 use Rattle.workspace.specs.declared.Arguments.{Arguments}
 use Rattle.workspace.specs.Vectors.{Vectors, _with_≔_, named, vector-count, unpack, all-finite, first-derivative, last-derivative, eigenvector, state}
 use Rattle.workspace.specs.Vectors.{candidate}
@@ -16,7 +18,7 @@ use Rattle.driver.specs.declared.Counters.{Counters}
 use Rattle.driver.specs.declared.Answer.{Answer}
 use Rattle.driver.specs.declared.Answer.the-variants.{Evaluate, Finished, Ready, Refused, Empty}
 use Rattle.driver.specs.Calls.{Held, Called, reply, Call, Start, Attempt, Reply, Accept, Accept-with-callback, Abandon, made, taken, sized, as-long, good-times}
-use Rattle.driver.specs.Calls.{good-tolerances, room}
+use Rattle.driver.specs.Calls.{good-tolerances, room, with-older}
 use Rattle.session.specs.Attempt.{for-another, closes, Asking, done, stopped, ask, _>>=_, evaluate, Finished-attempt, Evaluated, fixed-at, attempt-step}
 
 -- ---- the calls over a list of them
@@ -73,41 +75,63 @@ seen-along (suc m) d i x = call-seen x ∷ seen-along m d (suc i) (reply (x .hel
 
 -- ---- the Rust's functions
 
--- between two of them: ready, or an attempt is finished
+-- `previous_accepted_step`: none, or a step; where there is one, `previous_accepted_state` is the last of the vectors
+pub data Previous-step : Type 0 where
+  no-step : Previous-step
+  some-step : Float → Previous-step
+
+unfoldable pub is-some : Previous-step → Bool
+is-some no-step = false
+is-some (some-step previous) = true
+
+-- `map_or(0.0, |previous| previous / step)`
+unfoldable pub quotient : Previous-step → Float → Float
+quotient no-step step = nought
+quotient (some-step previous) step = previous ⊘ step
+
+abbrev pub kernel-setting : ℕ → Previous-step → Float → Setting
+kernel-setting f x step = setting f (is-some x) (quotient x step)
+
+-- between two of them: ready, or an attempt of this step is finished
 pub data Resting : Type 0 where
-  ready-with : Vectors → Resting
-  tried : Finished-attempt → Resting
+  ready-with : Previous-step → Vectors → Resting
+  tried : Previous-step → Float → Finished-attempt → Resting
 
 unfoldable pub vectors-of : Resting → Vectors
-vectors-of (ready-with v) = v
-vectors-of (tried o) = o .vectors
+vectors-of (ready-with x v) = v
+vectors-of (tried x step o) = o .vectors
 
--- whether their older state is a history that an attempt may read (no family reads one yet)
-unfoldable pub has-history : Resting → Bool
-has-history (ready-with v) = false
-has-history (tried o) = false
+unfoldable pub previous-of : Resting → Previous-step
+previous-of (ready-with x v) = x
+previous-of (tried x step o) = x
+
+-- whether their older state is a history that an attempt may read
+abbrev pub has-history : Resting → Bool
+has-history ρ = is-some (previous-of ρ)
 
 -- `initialize` of a new kernel, whose vectors are zeros
 unfoldable pub initialize : ℕ → List Float → Float → Asking Resting
 initialize n y t = do
   let v = (λ b. replicate n nought) with state ≔ y
   d ← evaluate for-another v t y
-  done (ready-with (v with first-derivative ≔ d))
+  done (ready-with no-step (v with first-derivative ≔ d))
 
-unfoldable pub tries : ℕ → ℕ → Arguments → Vectors → Asking Resting
-tries f n a v = do
-  o ← attempt-step (setting f) n a v
-  done (tried o)
+unfoldable pub tries : ℕ → ℕ → Arguments → Previous-step → Vectors → Asking Resting
+tries f n a x v = do
+  o ← attempt-step (kernel-setting f x (a .step)) n a v
+  done (tried x (a .step) o)
 
 -- `accept_step`, without a callback and with one
-unfoldable pub accept-step : Vectors → Asking Resting
-accept-step v = done (ready-with (v with first-derivative ≔ v last-derivative with state ≔ v candidate))
+unfoldable pub accept-step : ℕ → Previous-step → Float → Vectors → Asking Resting
+accept-step f x step v = do
+  let w = with-older (family-of f) v
+  done (ready-with (cond (keeps-older (family-of f)) (some-step step) x) (w with first-derivative ≔ w last-derivative with state ≔ w candidate))
 
 unfoldable pub callback-step : ℕ → List Float → Float → Vectors → Asking Resting
 callback-step n y t v = do
   let v = v with state ≔ y
   d ← evaluate for-another v t y
-  done (ready-with (v with first-derivative ≔ d with eigenvector ≔ replicate n nought))
+  done (ready-with no-step (v with first-derivative ≔ d with eigenvector ≔ replicate n nought))
 
 -- ---- a session
 
@@ -129,9 +153,9 @@ at-rest go (within (done r)) = go r
 at-rest go (within (stopped i v)) = within (stopped i v)
 at-rest go (within (ask why t p k)) = within (ask why t p k)
 
-unfoldable pub after-attempt : (Vectors → Doing) → Resting → Doing
-after-attempt go (ready-with v) = within (done (ready-with v))
-after-attempt go (tried o) = go (o .vectors)
+unfoldable pub after-attempt : (Previous-step → Float → Vectors → Doing) → Resting → Doing
+after-attempt go (ready-with x v) = within (done (ready-with x v))
+after-attempt go (tried x step o) = go x step (o .vectors)
 
 unfoldable pub waiting : ((List Float → Asking Resting) → Doing) → Doing → Doing
 waiting go none = none
@@ -142,8 +166,8 @@ waiting go (within (ask why t p k)) = go k
 -- a reply is an evaluation; it finishes an attempt where the function is then done with one
 unfoldable pub finished-by : Doing → ℕ
 finished-by none = 0
-finished-by (within (done (ready-with v))) = 0
-finished-by (within (done (tried o))) = 1
+finished-by (within (done (ready-with x v))) = 0
+finished-by (within (done (tried x step o))) = 1
 finished-by (within (stopped i v)) = 0
 finished-by (within (ask why t p k)) = 0
 
@@ -158,17 +182,17 @@ replied-with d δ = waiting (λ k. within (k d)) δ
 
 unfoldable pub session-after : Session → Call → Session
 session-after σ (Start f n y t) = record { family = f; n = n; doing = within (initialize n y t); counts = σ .counts }
-session-after σ (Attempt a) = doing-now σ (at-rest (λ r. within (tries (σ .family) (σ .n) a (vectors-of r))) (σ .doing))
+session-after σ (Attempt a) = doing-now σ (at-rest (λ r. within (tries (σ .family) (σ .n) a (previous-of r) (vectors-of r))) (σ .doing))
 session-after σ (Reply d) = let δ = replied-with d (σ .doing) in
     record { family = σ .family; n = σ .n; doing = δ; counts = counts-on δ (σ .counts) }
-session-after σ Accept = doing-now σ (at-rest (after-attempt (λ v. within (accept-step v))) (σ .doing))
-session-after σ (Accept-with-callback y t) = doing-now σ (at-rest (after-attempt (λ v. within (callback-step (σ .n) y t v))) (σ .doing))
+session-after σ Accept = doing-now σ (at-rest (after-attempt (λ x step v. within (accept-step (σ .family) x step v))) (σ .doing))
+session-after σ (Accept-with-callback y t) = doing-now σ (at-rest (after-attempt (λ x step v. within (callback-step (σ .n) y t v))) (σ .doing))
 session-after σ Abandon = doing-now σ (waiting (λ k. none) (σ .doing))
 
 unfoldable pub doing-shown : Doing → Shown
 doing-shown none = nothing
-doing-shown (within (done (ready-with v))) = ready-at (v state) (v first-derivative)
-doing-shown (within (done (tried o))) = finished-shown o
+doing-shown (within (done (ready-with x v))) = ready-at (v state) (v first-derivative)
+doing-shown (within (done (tried x step o))) = finished-shown o
 doing-shown (within (stopped i v)) = stops i (fixed-at i v)
 doing-shown (within (ask why t p k)) = evaluates t p
 
@@ -185,8 +209,8 @@ rests (within (ask why t p k)) = false
 
 unfoldable pub has-tried : Doing → Bool
 has-tried none = false
-has-tried (within (done (ready-with v))) = false
-has-tried (within (done (tried o))) = true
+has-tried (within (done (ready-with x v))) = false
+has-tried (within (done (tried x step o))) = true
 has-tried (within (stopped i v)) = false
 has-tried (within (ask why t p k)) = false
 

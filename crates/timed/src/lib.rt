@@ -66,10 +66,10 @@ pub extern "C" fn timed_root_chain_by_digits(x: &[f64]) -> f64
     a
 }
 
-// The stage rules of all families.
+// The stage rules of all families, with the quotient q of the steps.
 #[no_mangle]
-pub extern "C" fn timed_stages(family: u64, scaled_radius: f64) -> u64
-    ensures { λ r. ⌜ r ≡ stage-count (family-of family) «scaled_radius» ⌝ }
+pub extern "C" fn timed_stages(family: u64, q: f64, scaled_radius: f64) -> u64
+    ensures { λ r. ⌜ r ≡ stage-count (family-of family) q «scaled_radius» ⌝ }
 {
-    family::stages(family, scaled_radius)
+    family::stages(family, q, scaled_radius)
 }

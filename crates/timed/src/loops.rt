@@ -1,12 +1,13 @@
 // The loops of `workspace` and `norm`, each behind the tests that its lengths want.
 ghost use mathlib.Core.Path.{_≡_};
+ghost use mathlib.Core.Bool.{false};
+ghost use Rattle.ieee.specs.Double.{nought};
 ghost use Rattle.ieee.specs.Sqrt.{sqrt};
 ghost use Rattle.family.specs.Family.{setting};
 ghost use Rattle.workspace.specs.Vectors.{vector-norm, all-finite};
 ghost use Rattle.workspace.specs.Kernel.{perturbed, perturbed-by, turned, with-row, exchanged};
 ghost use Rattle.timed.specs.Left.{weights, Holds, Takes, Steps};
 use coefficients::Coefficients;
-use family::Setting;
 
 // The row with the exchange after it.
 #[no_mangle]
@@ -22,7 +23,7 @@ pub extern "C" fn timed_row(
     derivative: &[f64],
 )
     ensures { λ _. ⌜ Steps (Takes n (now (area .entry)) (now (derivative .entry))) n (now (area .entry)) (now (area .exit))
-        (λ v. exchanged (with-row (setting family) n step (weights mu nu «mu_tilde» «gamma_tilde») v (now (derivative .entry)))) ⌝ }
+        (λ v. exchanged (with-row (setting family false nought) n step (weights mu nu «mu_tilde» «gamma_tilde») v (now (derivative .entry)))) ⌝ }
 {
     let c = Coefficients {
         mu: mu,
@@ -34,7 +35,14 @@ pub extern "C" fn timed_row(
     if n <= 512 {
         if 11 * n <= area.len() {
             if derivative.len() == n {
-                workspace::row_and_exchange(area, n, Setting { family }, c, step, derivative);
+                workspace::row_and_exchange(
+                    area,
+                    n,
+                    family::without_history(family),
+                    c,
+                    step,
+                    derivative,
+                );
             }
         }
     }

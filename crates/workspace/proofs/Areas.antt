@@ -14,8 +14,8 @@ use Rattle.ieee.specs.Double.{one, min-positive}
 use Rattle.family.specs.declared.Setting.{Setting}
 use Rattle.family.specs.declared.RowForm.{RowForm}
 use Rattle.family.specs.declared.CandidateForm.{CandidateForm}
-use Rattle.family.specs.declared.CandidateForm.the-variants.{LastStage, Combined}
-use Rattle.family.specs.Family.{Family, keeps-older, facts-of, kind}
+use Rattle.family.specs.declared.CandidateForm.the-variants.{LastStage, Combined, WithOlder}
+use Rattle.family.specs.Family.{Family, RKC, RKL1, RKL2, RKG1, RKG2, RKMC2, TSRKC2, keeps-older, facts-of, kind}
 use Rattle.coefficients.specs.declared.Recurrence.{Recurrence}
 use Rattle.coefficients.specs.declared.Coefficients.{Coefficients}
 use Rattle.coefficients.specs.Rows.{candidate-weights}
@@ -24,7 +24,7 @@ use Rattle.workspace.specs.Vectors.{Vector, Vectors, _with_≔_, number,
 use Rattle.workspace.specs.Vectors.{vector-norm, first-derivative, last-derivative, derivative, previous-two, previous-one, next-stage, eigenvector}
 use Rattle.workspace.specs.Vectors.{perturbed-state, perturbed-derivative, state, candidate, older-state}
 use Rattle.workspace.specs.Kernel.{with-direction, perturbed-by, perturbed, turned, first-stage, with-row-in, entry-in, exchanged, candidate-in}
-use Rattle.workspace.specs.Kernel.{combined-entry, with-candidate, with-last, error}
+use Rattle.workspace.specs.Kernel.{combined-entry, older-of, mixed-entry, with-candidate, with-last, error}
 
 -- every vector is as long as it is in the family's area
 abbrev pub Long : Family → ℕ → Vectors → Type 0
@@ -86,13 +86,16 @@ unfolding unpack
 long-at n area b h = length-take-le n (drop (number b * n) area) (omega (arith, length-drop (number b * n) area))
 
 -- a family's area has the first eleven whole, and never more than twelve
-pub whole : (f : Family) (n : ℕ) (area : List Float) → length area ≡ vector-count f * n → 11 * n ≤ length area
+pub eleven : (f : Family) (n : ℕ) → 11 * n ≤ vector-count f * n
 unfolding vector-count
-whole f n area h = go (keeps-older f) h
+eleven f n = go (keeps-older f)
   where
-    go : (t : Bool) → length area ≡ cond t 12 11 * n → 11 * n ≤ length area
-    go true e = omega arith
-    go false e = omega arith
+    go : (t : Bool) → 11 * n ≤ cond t 12 11 * n
+    go true = omega arith
+    go false = omega arith
+
+pub whole : (f : Family) (n : ℕ) (area : List Float) → length area ≡ vector-count f * n → 11 * n ≤ length area
+whole f n area h = omega (arith, eleven f n)
 
 pub at-most-twelve : (f : Family) {k : ℕ} (n : ℕ) → k ≡ vector-count f → k * n ≤ 12 * n
 unfolding vector-count
@@ -101,6 +104,26 @@ at-most-twelve f {k} n e = go (keeps-older f) e
     go : (t : Bool) → k ≡ cond t 12 11 → k * n ≤ 12 * n
     go true e = rw e (omega arith)
     go false e = rw e (omega arith)
+
+-- twelve where the candidate takes the older state, and only there
+taken-by : CandidateForm → ℕ
+taken-by LastStage = 11
+taken-by Combined = 11
+taken-by WithOlder = 12
+
+counted : (f : Family) → vector-count f ≡ taken-by (facts-of f .candidate)
+unfolding vector-count keeps-older facts-of taken-by
+counted RKC = refl
+counted RKL1 = refl
+counted RKL2 = refl
+counted RKG1 = refl
+counted RKG2 = refl
+counted RKMC2 = refl
+counted TSRKC2 = refl
+
+pub twelve : (f : Family) → facts-of f .candidate ≡ WithOlder → vector-count f ≡ 12
+unfolding taken-by
+twelve f e = counted f ∙ ap taken-by e
 
 -- each vector as long as it is there
 pub long-unpack : (f : Family) (n : ℕ) (area : List Float) → length area ≡ vector-count f * n → Long f n (unpack n area)
@@ -300,6 +323,7 @@ module _ (f : Family) (n : ℕ) where
       go : (form : CandidateForm) → length (candidate-in form m n step s c row v) ≡ n
       go LastStage = h next-stage
       go Combined = length-each n v (combined-entry step (candidate-weights s c))
+      go WithOlder = length-each n v (mixed-entry (older-of m) (c .polynomials .gain))
 
   pub long-last : (m : Setting) (a : Arguments) (v : Vectors) (d : List Float) → Long f n v → length d ≡ n → Long f n (with-last m n a v d)
   unfolding with-last

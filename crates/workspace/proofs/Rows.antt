@@ -9,11 +9,11 @@ use lib.Dec.{eqb, ltb}
 use lib.ListN.{length}
 use lib.Ieee.{Float}
 use Rattle.family.specs.declared.RowForm.{RowForm}
-use Rattle.family.specs.declared.RowForm.the-variants.{ChebyshevRow, OrthogonalRow, InitialFirstRow}
+use Rattle.family.specs.declared.RowForm.the-variants.{ChebyshevRow, OrthogonalRow, InitialFirstRow, PlainRow}
 use Rattle.coefficients.specs.declared.Coefficients.{Coefficients}
 use Rattle.workspace.specs.Vectors.{Vector, Vectors, number, _with_≔_, each, first-derivative, last-derivative, derivative, previous-two, previous-one}
 use Rattle.workspace.specs.Vectors.{next-stage, eigenvector, perturbed-state, perturbed-derivative, state, candidate, older-state}
-use Rattle.workspace.specs.Kernel.{entry-in, chebyshev-entry, orthogonal-entry, initial-first-entry, with-row-in, exchanged}
+use Rattle.workspace.specs.Kernel.{entry-in, chebyshev-entry, orthogonal-entry, initial-first-entry, plain-entry, with-row-in, exchanged}
 use Rattle.workspace.proofs.Lists.{each-same}
 use Rattle.workspace.proofs.Parts.{_beside_}
 use Rattle.workspace.proofs.Columns.{Rules, written-by}
@@ -55,10 +55,11 @@ exchange-law n g v long-two long-one =
 -- ---- the candidate has no part in it
 
 each-beside : (f : RowForm) (n : ℕ) (h : Float) (c : Coefficients) (v w : Vectors) → each n (v beside w) (entry-in f h c) ≡ each n v (entry-in f h c)
-unfolding each entry-in chebyshev-entry orthogonal-entry initial-first-entry
+unfolding each entry-in chebyshev-entry orthogonal-entry initial-first-entry plain-entry
 each-beside ChebyshevRow n h c v w = refl
 each-beside OrthogonalRow n h c v w = refl
 each-beside InitialFirstRow n h c v w = refl
+each-beside PlainRow n h c v w = refl
 
 -- a vector of the first ten written
 with-beside : (k : Vector) → number k < 10 → (v w : Vectors) (x : List Float) → ((v beside w) with k ≔ x) ≡ ((v with k ≔ x) beside w)

@@ -1,5 +1,6 @@
 -- What the kernel does to its vectors between two evaluations: the loops over the entries in workspace.rs, orthogonal.rs, chebyshev.rs and driver.rs.
--- Document 01, "workspace.rs: norms and the power iteration" and "driver.rs: the calls", and document 02, CR 1; every norm is one of norm/specs/Norm (CR 4).
+-- Document 01, "workspace.rs: norms and the power iteration" and "driver.rs: the calls", and document 02, CR 1 and CR 6; every norm is one of norm/specs/Norm
+-- (CR 4).
 -- ⊕ ⊖ ⊗ ⊘ are operations on doubles: they round.
 use Prim.Native.Nat.{ℕ}
 use mathlib.Core.Bool.{Bool, cond, _&&_, _||_}
@@ -11,11 +12,11 @@ use Rattle.ieee.specs.Double.{_⊕_, _⊖_, _⊗_, _⊘_, double, nearest, min-
 use Rattle.ieee.specs.Whole.{abs, max}
 use Rattle.family.specs.declared.Setting.{Setting}
 use Rattle.family.specs.declared.RowForm.{RowForm}
-use Rattle.family.specs.declared.RowForm.the-variants.{ChebyshevRow, OrthogonalRow, InitialFirstRow}
+use Rattle.family.specs.declared.RowForm.the-variants.{ChebyshevRow, OrthogonalRow, InitialFirstRow, PlainRow}
 use Rattle.family.specs.declared.ErrorForm.{ErrorForm}
 use Rattle.family.specs.declared.ErrorForm.the-variants.{FirstDerivative, BothDerivatives, LastDerivative}
 use Rattle.family.specs.declared.CandidateForm.{CandidateForm}
-use Rattle.family.specs.declared.CandidateForm.the-variants.{LastStage, Combined}
+use Rattle.family.specs.declared.CandidateForm.the-variants.{LastStage, Combined, WithOlder}
 use Rattle.family.specs.Family.{facts-of, kind}
 use Rattle.coefficients.specs.declared.Coefficients.{Coefficients}
 use Rattle.coefficients.specs.declared.Recurrence.{Recurrence}
@@ -24,6 +25,7 @@ use Rattle.coefficients.specs.Rows.{candidate-weights}
 use Rattle.workspace.specs.declared.Arguments.{Arguments}
 use Rattle.workspace.specs.Vectors.{Vector, Vectors, _with_≔_, each, root-of-squares, vector-norm, first-derivative, last-derivative, derivative}
 use Rattle.workspace.specs.Vectors.{previous-two, previous-one, next-stage, eigenvector, perturbed-state, perturbed-derivative, state, candidate}
+use Rattle.workspace.specs.Vectors.{older-state}
 
 -- ---- the power iteration: `spectral_radius`
 
@@ -62,7 +64,7 @@ ended pass previous radius =
 unfoldable pub scaled : Float → Float → Float
 scaled step radius = abs step ⊗ (nearest 12 10 ⊗ radius)
 
--- ---- the stages: `run_orthogonal_polynomial`, `run_rkc` and `run_rkmc2`
+-- ---- the stages: `run_orthogonal_polynomial`, `run_rkc`, `run_rkmc2` and `run_tsrkc2`
 
 -- stages 0 and 1
 unfoldable pub first-stage : ℕ → Float → Float → Vectors → Vectors
@@ -86,10 +88,15 @@ initial-first-entry h c x =
     (one ⊖ c .mu ⊖ c .nu) ⊗ x state ⊕ c .mu ⊗ x previous-one ⊕ c .nu ⊗ x previous-two
     ⊕ h ⊗ c .«mu_tilde» ⊗ (x derivative ⊖ c .«gamma_tilde» ⊗ x first-derivative)
 
+-- neither the state nor the first derivative
+unfoldable pub plain-entry : Float → Coefficients → (Vector → Float) → Float
+plain-entry h c x = c .mu ⊗ x previous-one ⊕ c .nu ⊗ x previous-two ⊕ h ⊗ c .«mu_tilde» ⊗ x derivative
+
 unfoldable pub entry-in : RowForm → Float → Coefficients → (Vector → Float) → Float
 entry-in ChebyshevRow = chebyshev-entry
 entry-in OrthogonalRow = orthogonal-entry
 entry-in InitialFirstRow = initial-first-entry
+entry-in PlainRow = plain-entry
 
 -- a stage's derivative d taken: the row
 unfoldable pub with-row-in : RowForm → ℕ → Float → Coefficients → Vectors → List Float → Vectors
@@ -109,10 +116,18 @@ exchanged v = v
 unfoldable pub combined-entry : Float → Weights → (Vector → Float) → Float
 combined-entry h w x = w .initial ⊗ x state ⊕ w .last ⊗ x next-stage ⊕ w .older ⊗ x previous-two ⊕ h ⊗ w .slope ⊗ x first-derivative
 
--- the candidate after stage s, into which c was carried: the last stage itself, or RKMC2's combination (neither reads the row of stage s)
+-- TSRKC2's: the last stage and the older state, which without a history is the state itself
+abbrev pub older-of : Setting → Vector
+older-of m = cond (m .history) older-state state
+
+unfoldable pub mixed-entry : Vector → Float → (Vector → Float) → Float
+mixed-entry older gain x = (one ⊖ gain) ⊗ x older ⊕ gain ⊗ x next-stage
+
+-- the candidate after stage s, into which c was carried: the last stage itself, RKMC2's combination, or TSRKC2's (none reads the row of stage s)
 unfoldable pub candidate-in : CandidateForm → Setting → ℕ → Float → ℕ → Recurrence → Coefficients → Vectors → List Float
 candidate-in LastStage m n step s c row v = v next-stage
 candidate-in Combined m n step s c row v = each n v (combined-entry step (candidate-weights s c))
+candidate-in WithOlder m n step s c row v = each n v (mixed-entry (older-of m) (c .polynomials .gain))
 
 unfoldable pub with-candidate : Setting → ℕ → Float → ℕ → Recurrence → Coefficients → Vectors → Vectors
 with-candidate m n step s c row v = v with candidate ≔ candidate-in (facts-of (kind m) .candidate) m n step s c row v

@@ -10,7 +10,7 @@ use lib.ListN.{length, getD}
 use lib.Ieee.{Float, nan}
 use Rattle.ieee.specs.Double.{_⊕_, _⊖_, _⊗_, one}
 use Rattle.family.specs.declared.RowForm.{RowForm}
-use Rattle.family.specs.declared.RowForm.the-variants.{ChebyshevRow, OrthogonalRow, InitialFirstRow}
+use Rattle.family.specs.declared.RowForm.the-variants.{ChebyshevRow, OrthogonalRow, InitialFirstRow, PlainRow}
 use Rattle.coefficients.specs.declared.Coefficients.{Coefficients}
 use Rattle.workspace.specs.declared.stages.Entries.{Entries}
 use Rattle.workspace.specs.declared.stages.Four.{Four}
@@ -25,16 +25,24 @@ unfoldable pub Reads : Entries → (Vector → Float) → Type 0
 Reads r x =
     (r .one ≡ x previous-one) × (r .two ≡ x previous-two) × (r .initial ≡ x state) × (r .slope ≡ x derivative) × (r .first ≡ x first-derivative)
 
--- the two choices that a form of rows is: the place of the state's term, and how the derivatives are weighed
+-- the choices that a form of rows is: without the state and the first derivative, or else the place of the state's term, and how the derivatives are weighed
+unfoldable pub plain : RowForm → Bool
+plain ChebyshevRow = false
+plain OrthogonalRow = false
+plain InitialFirstRow = false
+plain PlainRow = true
+
 unfoldable pub state-first : RowForm → Bool
 state-first ChebyshevRow = false
 state-first OrthogonalRow = false
 state-first InitialFirstRow = true
+state-first PlainRow = false
 
 unfoldable pub two-products : RowForm → Bool
 two-products ChebyshevRow = false
 two-products OrthogonalRow = true
 two-products InitialFirstRow = false
+two-products PlainRow = false
 
 -- the terms of a row without the derivatives'
 unfoldable pub weighted-in : RowForm → Coefficients → (Vector → Float) → Float

@@ -59,7 +59,7 @@ pub const STATE: usize = 9;
 
 pub const CANDIDATE: usize = 10;
 
-// The state accepted before, last, where the family keeps it.
+// The state accepted before the present one, last, where the family keeps it.
 pub const OLDER_STATE: usize = 11;
 
 // How many vectors a family's area has.

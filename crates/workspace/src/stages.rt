@@ -1,17 +1,18 @@
-// The stages of `run_orthogonal_polynomial`, `run_rkc` and `run_rkmc2`: stages 0 and 1, the rows, the exchange after a row,
-// the candidate.
+// The stages of `run_orthogonal_polynomial`, `run_rkc`, `run_rkmc2` and `run_tsrkc2`: stages 0 and 1, the rows, the exchange
+// after a row, the candidate.
 ghost use mathlib.Core.Path.{_≡_};
 ghost use Prim.Native.Nat.{ℕ, _+_, _-_, _*_, _≤_, _<_};
 ghost use lib.ListN.{length};
 ghost use Rattle.family.specs.Family.{facts-of, kind};
 ghost use lib.Ieee.{Float};
-ghost use Rattle.workspace.specs.Vectors.{Vector, column, unpack, Becomes, _with_≔_, each, candidate};
-ghost use Rattle.workspace.specs.Kernel.{first-stage, entry-in, with-row-in, with-row, exchanged, combined-entry, with-candidate};
-ghost use Rattle.workspace.specs.Reads.{taking, Reads, state-first, two-products, weighted-in, Moved, element, Holds, Put, picked};
+ghost use Rattle.workspace.specs.Vectors.{Vector, column, number, vector-count, unpack, Becomes, _with_≔_, each, candidate};
+ghost use Rattle.workspace.specs.Kernel.{first-stage, entry-in, with-row-in, with-row, exchanged, combined-entry, mixed-entry, older-of, with-candidate};
+ghost use Rattle.workspace.specs.Reads.{taking, Reads, plain, state-first, two-products, weighted-in, Moved, element, Holds, Put, picked};
 use crate::CANDIDATE;
 use crate::DERIVATIVE;
 use crate::FIRST_DERIVATIVE;
 use crate::NEXT_STAGE;
+use crate::OLDER_STATE;
 use crate::PREVIOUS_ONE;
 use crate::PREVIOUS_TWO;
 use crate::STATE;
@@ -82,6 +83,7 @@ fn state_first(form: RowForm) -> bool
         RowForm::ChebyshevRow => false,
         RowForm::OrthogonalRow => false,
         RowForm::InitialFirstRow => true,
+        RowForm::PlainRow => false,
     }
 }
 
@@ -93,6 +95,19 @@ fn two_products(form: RowForm) -> bool
         RowForm::ChebyshevRow => false,
         RowForm::OrthogonalRow => true,
         RowForm::InitialFirstRow => false,
+        RowForm::PlainRow => false,
+    }
+}
+
+// Whether a row has neither the state nor the first derivative.
+fn plain(form: RowForm) -> bool
+    ensures { λ r. ⌜ r ≡ plain form ⌝ }
+{
+    match form {
+        RowForm::ChebyshevRow => false,
+        RowForm::OrthogonalRow => false,
+        RowForm::InitialFirstRow => false,
+        RowForm::PlainRow => true,
     }
 }
 
@@ -113,6 +128,9 @@ fn weighted(form: RowForm, c: Coefficients, x: Entries) -> f64
 fn entry_of(form: RowForm, c: Coefficients, step: f64, x: Entries) -> f64
     ensures { λ r. ⌜ ((v : Vector → Float) → Reads x v → r ≡ entry-in form step c v) ⌝ }
 {
+    if plain(form) {
+        return c.mu * x.one + c.nu * x.two + step * c.mu_tilde * x.slope;
+    }
     let sum = weighted(form, c, x);
     if two_products(form) {
         sum + step * c.mu_tilde * x.slope + step * c.gamma_tilde * x.first
@@ -317,8 +335,8 @@ fn move_singly(
     move_rest(ten, n, 0, form, c, step, derivative);
 }
 
-// Form by form, so that the loop is compiled for each by itself. RKMC2's goes one column at a time: a third loop by four would
-// keep the compiler from compiling any of them apart.
+// Form by form, so that the loop is compiled for each by itself. RKMC2's and TSRKC2's go one column at a time: a third loop by
+// four would keep the compiler from compiling any of them apart.
 fn row_and_exchange_in(
     ten: &mut [f64],
     n: usize,
@@ -337,6 +355,7 @@ fn row_and_exchange_in(
         RowForm::InitialFirstRow => {
             move_singly(ten, n, RowForm::InitialFirstRow, c, step, derivative)
         }
+        RowForm::PlainRow => move_singly(ten, n, RowForm::PlainRow, c, step, derivative),
     }
 }
 
@@ -404,6 +423,31 @@ fn combine(area: &mut [f64], n: usize, step: f64, w: Weights)
     }
 }
 
+// Where the older state stands: without a history it is the state itself.
+fn older_of(setting: Setting) -> usize
+    ensures { λ r. ⌜ r ≡ number (older-of setting) ⌝ }
+{
+    if setting.history { OLDER_STATE } else { STATE }
+}
+
+// TSRKC2's candidate, by this gain, with the older state in the vector of this number.
+fn mix(area: &mut [f64], n: usize, older: usize, gain: f64)
+    requires { ⌜ 11 * n ≤ length (now area) ⌝ }
+    requires { ⌜ (older + 1) * n ≤ length (now area) ⌝ }
+    ensures { λ _. ⌜ ((b : Vector) → number b ≡ older
+        → Becomes n (now (area .entry)) (now (area .exit)) (λ v. v with candidate ≔ each n v (mixed-entry b gain))) ⌝ }
+{
+    let from = older * n;
+    let rest = 1.0 - gain;
+    let mut i = 0;
+    while i < n {
+        let before = area[from + i];
+        let final_stage = area[NEXT_STAGE * n + i];
+        area[CANDIDATE * n + i] = rest * before + gain * final_stage;
+        i += 1;
+    }
+}
+
 // The candidate after stage s, into which c was carried.
 pub fn keep_candidate(
     area: &mut [f64],
@@ -414,7 +458,7 @@ pub fn keep_candidate(
     c: Recurrence,
     row: Coefficients,
 )
-    requires { ⌜ 11 * n ≤ length (now area) ⌝ }
+    requires { ⌜ vector-count (kind setting) * n ≤ length (now area) ⌝ }
     ensures { λ _. ⌜ Becomes n (now (area .entry)) (now (area .exit)) (with-candidate setting n step s c row) ⌝ }
 {
     let own = family::facts_of(setting.family);
@@ -423,6 +467,10 @@ pub fn keep_candidate(
         CandidateForm::LastStage => copy_vector(area, n, NEXT_STAGE, CANDIDATE),
         CandidateForm::Combined => {
             combine(area, n, step, coefficients::rkmc2::candidate_weights(s, c))
+        }
+        CandidateForm::WithOlder => {
+            let older = older_of(setting);
+            mix(area, n, older, c.polynomials.gain)
         }
     }
 }

@@ -2,13 +2,13 @@
 //! same inputs, same run, in turns, and so the same stages.
 //!
 //! The model is a rod of n cells, in C and in Rust. An attempt is made again and again from the same state, as after a
-//! rejection. Each time is the least of many rounds. The model's share is the time of its evaluations alone over the
-//! Rust's attempt.
+//! rejection. In TSRKC2 one attempt was accepted before, so that every attempt has a history, with q = 1. Each time is the least
+//! of many rounds. The model's share is the time of its evaluations alone over the Rust's attempt.
 //!
 //! An attempt's power iteration goes on where the one before ended, so that s can still grow from attempt to attempt.
 //! Therefore all three make many attempts before the rounds, and the same number in all; s is that of the last.
 use oracle::{Arguments, Oracle};
-use stabilized::calls::{Answer, Record, VECTORS};
+use stabilized::calls::{Answer, Record, code, vectors_of};
 use stabilized::{Attempt, Family, Stepper};
 use std::hint::black_box;
 use std::time::{Duration, Instant};
@@ -32,6 +32,7 @@ fn rod(rate: f64, derivative: &mut [f64], state: &[f64]) {
 struct Rod {
     rate: f64,
     n: usize,
+    area_length: usize,
     record: Record,
     evaluations: u64,
     attempts: u64,
@@ -42,30 +43,59 @@ struct Rod {
 unsafe extern "C" {
     fn rod_start(rod: *mut Rod, family: u64, state: *const f64) -> Answer;
     fn rod_attempt(rod: *mut Rod, step: f64, absolute: f64, relative: f64) -> Answer;
+    fn rod_accept(rod: *mut Rod) -> Answer;
+}
+
+/// Whether an attempt is accepted before those that are timed.
+fn has_history(family: Family) -> bool {
+    family == Family::Tsrkc2
 }
 
 /// An attempt from C, again and again: the error norm.
 fn from_c(family: Family, state: &[f64], rate: f64, attempt: Attempt) -> impl FnMut() -> f64 {
     let n = state.len();
+    let area_length = vectors_of(family as u64) * n;
     let mut rod = Rod {
         rate,
         n,
+        area_length,
         record: Record::default(),
         evaluations: 0,
         attempts: 0,
-        area: vec![0.0; VECTORS * n].leak().as_mut_ptr(),
+        area: vec![0.0; area_length].leak().as_mut_ptr(),
         derivative: vec![0.0; n].leak().as_mut_ptr(),
     };
-    // SAFETY: the rod is lent alone, and its vectors are its own, of the lengths that benchmark.c takes.
-    unsafe { rod_start(&mut rod, family as u64, state.as_ptr()) };
     let Attempt {
         step,
         absolute_tolerance: absolute,
         relative_tolerance: relative,
         ..
     } = attempt;
+    // SAFETY: the rod is lent alone, and its vectors are its own, of the lengths that benchmark.c takes.
+    unsafe {
+        rod_start(&mut rod, family as u64, state.as_ptr());
+        if has_history(family) {
+            rod_attempt(&mut rod, step, absolute, relative);
+            assert_eq!(rod_accept(&mut rod).code, code::READY);
+        }
+    }
     // SAFETY: as before.
     move || unsafe { rod_attempt(&mut rod, black_box(step), absolute, relative) }.norm
+}
+
+/// The same from Rust.
+fn from_rust<F: FnMut(&mut [f64], &[f64], f64)>(
+    family: Family,
+    state: &[f64],
+    attempt: Attempt,
+    right_hand_side: F,
+) -> Stepper<F> {
+    let mut stepper = Stepper::start(family, state, 0.0, right_hand_side).expect("a start");
+    if has_history(family) {
+        stepper.attempt(attempt).expect("a finished attempt");
+        stepper.accept().expect("an accept");
+    }
+    stepper
 }
 
 /// The same by the Rust.
@@ -83,6 +113,10 @@ fn by_the_rust(family: Family, state: &[f64], rate: f64, attempt: Attempt) -> im
         relative_tolerance: attempt.relative_tolerance,
         adaptive: attempt.adaptive,
     };
+    if has_history(family) {
+        rust.attempt(arguments, &rhs).expect("a finished attempt");
+        rust.accept(arguments.time, arguments.step);
+    }
     move || {
         let norm = rust.attempt(black_box(arguments), &rhs);
         norm.expect("a finished attempt")
@@ -112,7 +146,7 @@ fn times(family: Family, n: usize, rate: f64, step: f64) -> Times {
     let attempt = Attempt::new(0.0, step);
     let right_hand_side =
         |derivative: &mut [f64], state: &[f64], _: f64| rod(rate, derivative, state);
-    let mut engine = Stepper::start(family, &state, 0.0, right_hand_side).expect("a start");
+    let mut engine = from_rust(family, &state, attempt, right_hand_side);
     let mut rust = by_the_rust(family, &state, rate, attempt);
     let mut c = from_c(family, &state, rate, attempt);
     let once = timed(BEFORE, || {
@@ -152,18 +186,20 @@ fn rate(n: usize, scaled_radius: f64) -> f64 {
     scaled_radius / (1.2 * radius)
 }
 
-/// Each family with scaled radii of its least count and its largest; RKMC2 with one of about 200 stages as well, and with
-/// one for 1000 stages although the power iteration comes out a few percent low at n = 64 and 512.
+/// Each family with scaled radii of its least count and its largest; RKMC2 and TSRKC2 with one of about 200 stages as well. The
+/// power iteration comes out a few percent low at n = 64 and 512: RKMC2 has one for 1000 stages all the same, TSRKC2, which would
+/// be turned away above them, one for 995 at the most.
 ///
-/// In every attempt the Rust's `run_rkmc2` works omega_zero and omega_one out anew, by 50 halvings with cosh and sinh; the
-/// engine reads them from its tables.
-const RADII: [(Family, &[f64]); 6] = [
+/// In every attempt the Rust's `run_rkmc2` works omega_zero and omega_one out anew, by 50 halvings with cosh and sinh, and
+/// `run_tsrkc2` works acosh and sinh out; the engine reads them from its tables.
+const RADII: [(Family, &[f64]); 7] = [
     (Family::Rkc, &[0.5, 25_700.0]),
     (Family::Rkl1, &[0.5, 39_800.0]),
     (Family::Rkl2, &[0.5, 19_899.0]),
     (Family::Rkg1, &[0.5, 20_300.0]),
     (Family::Rkg2, &[0.5, 13_532.0]),
     (Family::Rkmc2, &[0.5, 6_400.0, 140_000.0]),
+    (Family::Tsrkc2, &[0.5, 44_000.0, 1_100_000.0]),
 ];
 
 fn main() {

@@ -4,9 +4,10 @@
 //! Rust does not count ([`cause`]) it goes over to the definition, as standard error then tells, and stays there.
 //!
 //! The same model and the same order of calls: each minute begins with `accept_step`, or with `initialize` on a kernel made
-//! anew where the last attempt was refused, and goes on with one attempt of 60 seconds. The candidate is evaluated with the
-//! next finite reading. It is known as the last of the attempt's s + k evaluations, and not by its time, since RKMC2's last
-//! stage may have the same. A minute whose reading is not finite calls nothing: it is refused with 9, and the kernel stands.
+//! anew where the last attempt was refused, and goes on with one attempt of 60 seconds. So TSRKC2 has a history in every minute
+//! but the first and those after a refused attempt. The candidate is evaluated with the next finite reading. It is known as the
+//! last of the attempt's s + k evaluations, and not by its time, since RKMC2's last stage may have the same. A minute whose
+//! reading is not finite calls nothing: it is refused with 9, and the kernel stands.
 use differential::other::{Made, Other, Replying, Rhs, cause};
 use differential::stated::{Stated, finite};
 use oracle::{Arguments, Figures, Oracle, RightHandSide, SolveError};
@@ -131,7 +132,7 @@ impl Day {
         let Inverter { family, n, .. } = self.inverter;
         if self.alone {
             let zeros = vec![0.0; n];
-            Other::Stated(Stated::with_vectors(family, [&zeros; VECTORS]))
+            Other::Stated(Stated::with_vectors(family, [&zeros; VECTORS], None))
         } else {
             Other::Rust(Oracle::new(family, n))
         }
@@ -152,6 +153,7 @@ impl Day {
             Ok(given) => Ok((made.kernel, given)),
             Err(SolveError::NonFiniteDerivative) if finite(candidate) => Err(9),
             Err(SolveError::NonFiniteDerivative) => Err(10),
+            Err(SolveError::TooManyStages) => Err(11),
             Err(error) => panic!("{} ended with {error:?}", made.kernel.name()),
         }
     }
@@ -159,8 +161,7 @@ impl Day {
     /// A kernel at the beginning of a minute: after `accept_step`, or made anew where the last attempt was refused.
     fn begun(&mut self, start: f64, minute: &Minute) -> Result<Other, u64> {
         if let Some(mut other) = self.other.take() {
-            // (without a callback neither time nor step is read)
-            other.accept(start - 60.0, 60.0);
+            other.accept(start - STEP, STEP);
             self.kept = other.vectors()[vector::STATE].to_vec();
             return Ok(other);
         }
@@ -184,7 +185,8 @@ impl Day {
                 cause.name()
             );
             self.alone = true;
-            return Other::Stated(Stated::with_vectors(family, rust.vectors()));
+            let stated = Stated::with_vectors(family, rust.vectors(), rust.history());
+            return Other::Stated(stated);
         }
         other
     }
@@ -193,7 +195,8 @@ impl Day {
     fn entered(&mut self, start: f64, mut minute: Minute) -> Ended {
         let other = self.begun(start, &minute)?;
         let arguments = arguments(start);
-        let stated = Stated::with_vectors(self.inverter.family, other.vectors());
+        let family = self.inverter.family;
+        let stated = Stated::with_vectors(family, other.vectors(), other.history());
         let length = stated.length(arguments, &minute.in_turn());
         minute.candidate = length.ok().map(|length| length - 1);
         let other = self.counting(other, arguments, &minute);
@@ -252,11 +255,14 @@ impl Day {
     }
 }
 
+/// A minute, in seconds.
+const STEP: f64 = 60.0;
+
 /// The attempt of a minute that starts at this time.
 fn arguments(start: f64) -> Arguments {
     Arguments {
         time: start,
-        step: 60.0,
+        step: STEP,
         absolute_tolerance: 1.0,
         relative_tolerance: 1.0,
         adaptive: false,

@@ -3,21 +3,23 @@
 //! Each session is run on both sides at once, and what is written was compared at every call, with the Rust's, and from the
 //! first attempt in which that does not count with the definition's: a difference ends the program. Sessions are drawn one
 //! after another for each family, and one is kept if it holds a kind of call, ending or number that no session of that family
-//! before it held, and is short. To them come the least and the largest count of stages of every family, attempts whose scaled
-//! radius is NaN with what [`Keeping`] makes after them, failed sensors, each size and each placement in two families, an error
-//! that is hot by itself, an infinite radius, and one attempt at n = 64 and at n = 512.
+//! before it held, and is short. To them come the least and the largest count of stages of every family and one at n = 16,
+//! attempts whose scaled radius is NaN with what [`Keeping`] makes after them in four families, failed sensors, each size and
+//! each placement in at least two families, an error that is hot by itself, an infinite radius, TSRKC2's histories and its steps that are
+//! far apart, and one attempt at n = 512.
+use differential::history::{Far, Sequence};
 use differential::hot::{Heat, Hot, Keeping, Overflowing, Placement, SENSORS, Unbounded};
 use differential::random::mixed;
 use differential::scenarios::{
     self, Counted, Coverage, RADIUS_INFINITE, RADIUS_NAN, wanted_of_hot,
 };
 use differential::trace::Trace;
-use oracle::RKC;
+use oracle::{RKC, RKMC2, TSRKC2};
 use std::collections::BTreeSet;
 use std::io::Write;
 
 /// The longest session that is kept, in words.
-const LONGEST: usize = 1500;
+const LONGEST: usize = 800;
 
 /// How many sessions of a family are drawn.
 const DRAWN: u64 = 4000;
@@ -130,16 +132,31 @@ impl Sample {
         Ok(())
     }
 
+    /// Histories of every kind, with one temperature, and every other pair of steps that are far apart: among them r infinite and
+    /// a bracket of 0, q infinite and q 0.
+    fn histories(&mut self) -> Result<(), String> {
+        for sequence in Sequence::all(1) {
+            self.scenario(|coverage| sequence.run(1, coverage))?;
+        }
+        for far in Far::all().skip(1).step_by(2) {
+            self.scenario(|coverage| far.run(1, coverage))?;
+        }
+        Ok(())
+    }
+
     fn fill(&mut self) -> Result<(), String> {
         for family in oracle::FAMILIES {
             self.sessions(family)?;
             let (least, largest) = oracle::ends(family);
             self.attempt(family, least, 1, 2)?;
             self.attempt(family, largest, 12, 1)?;
-            self.attempt(family, least + 2, 2, 64)?;
+            self.attempt(family, least + 2, 2, 16)?;
+        }
+        for family in [RKC, 2, RKMC2, TSRKC2] {
             self.keeping(family)?;
         }
         self.sensors()?;
+        self.histories()?;
         let [_, infinite] = Overflowing::STEPS;
         let overflowing = Overflowing {
             family: RKC,
@@ -147,7 +164,7 @@ impl Sample {
             n: 1,
         };
         self.scenario(|coverage| overflowing.run(1, coverage))?;
-        self.attempt(3, 3, 2, 512)
+        self.attempt(RKC, 2, 1, 512)
     }
 
     /// What the traces must hold and do not, and whether they fit.

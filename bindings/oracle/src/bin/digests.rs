@@ -1,8 +1,8 @@
-//! Prints what the program `rows` must write (crates/rows/stdout), from the Rust's coefficients: a digest for each family
-//! and count, then every row of one count.
+//! Prints what the program `rows` must write (crates/rows/stdout), from the Rust's coefficients, TSRKC2's without a history: a
+//! digest for each family and count, then every row of one count.
 //!
 //! The digest is FNV-1a, 64 bits, over omega_one, first_mu_tilde and each row's mu, nu, mu_tilde, gamma_tilde (in RKC
-//! nu_tilde, in RKMC2 b_previous) and theta, the bytes of a double's bits from the lowest on.
+//! nu_tilde, in RKMC2 b_previous, in TSRKC2 0) and theta, the bytes of a double's bits from the lowest on.
 use oracle::{Row, Rows};
 
 /// The count whose rows are printed whole; every family permits it.

@@ -1,7 +1,10 @@
 //! Runs the Rust on the smallest inputs at which it departs from the engine, or from what its user would expect. Attempts are
 //! of the test build, which has the engine's stage formulas of RKG; those of the checkout are counted by themselves.
 use oracle::thresholds::least;
-use oracle::{Arguments, Oracle, SolveError, checkout};
+use oracle::{
+    Arguments, Figures, Oracle, RKMC2, Rows, SolveError, TSRKC2, checkout, two_step_count,
+    two_step_overflows, two_step_rows, two_step_stages,
+};
 use std::cell::RefCell;
 use std::panic::catch_unwind;
 
@@ -147,7 +150,7 @@ fn bad_candidate() {
 /// More stages than the largest count would be needed: it is cut without a word, and the step is unstable. The norm is
 /// taken relatively to the candidate too: RKL2's stays below 1, and RKMC2's, which has the last derivative, does not.
 fn cut_count() {
-    for (family, rate) in [(3, 21_000.0), (oracle::RKMC2, 140_000.0)] {
+    for (family, rate) in [(3, 21_000.0), (RKMC2, 140_000.0)] {
         let (points, norm) = attempt(family, 1.0, 1.0, |y| -rate * y);
         println!(
             "{}: y' = -{rate} y, y = 1, step 1, relative tolerance 0.01: {} evaluations, candidate {:e}, {norm:?}",
@@ -158,15 +161,114 @@ fn cut_count() {
     }
 }
 
+/// TSRKC2's count is not limited in the Rust, and its sum overflows.
+fn two_step_counts() {
+    for q in [None, Some(1.0)] {
+        let many = |r| two_step_stages(r, q).is_none_or(|stages| stages > 1000);
+        let r = least(0.0, 1e9, many);
+        let [below, at] = [r.next_down(), r].map(|r| two_step_count(r, q));
+        println!(
+            "TSRKC2, q {q:?}: the least r that needs more than 1000 stages is {r:?} (bits {}): {at}, one double below {below}",
+            bits(&[r])
+        );
+    }
+    let r = least(1.0, f64::MAX, |r| two_step_overflows(r, 0.0));
+    println!(
+        "TSRKC2's count overflows without a history from r = {r:e} (bits {}) on",
+        bits(&[r])
+    );
+    for r in [1e12, r, f64::INFINITY] {
+        match catch_unwind(|| two_step_count(r, None)) {
+            Ok(stages) => println!("  at {r:e}: s = {stages}"),
+            Err(_) => println!("  at {r:e}: a panic (this build checks for overflow)"),
+        }
+    }
+}
+
+/// q and r at which TSRKC2's stage rule or omega_one comes to no number, and q at the ends of the doubles.
+fn two_step_edges() {
+    let edge = (1u64 << 52) as f64;
+    let no_bracket = |q: &f64| !two_step_overflows(f64::INFINITY, *q);
+    let near = (0..4096).map(|i| f64::from_bits(edge.to_bits() - 2048 + i));
+    let q = near.into_iter().find(no_bracket).expect("a bracket of 0");
+    let stages = two_step_count(f64::INFINITY, Some(q));
+    println!(
+        "TSRKC2, r infinite: the first q near 2^52 whose bracket is 0 is {q} (bits {}), where s = {stages}",
+        bits(&[q])
+    );
+    let below = (0..4_000_000).map(|i| edge.powf(f64::from(i) / 4e6));
+    println!(
+        "  of 4,000,000 q from 1 to 2^52 {} have none above 0",
+        below.filter(no_bracket).count()
+    );
+    let (large, small) = (2.0_f64.powi(-50), f64::from_bits(1));
+    println!(
+        "  q is infinite for {large:e} over {small:e}, and {:e} for the double below",
+        large.next_down() / small
+    );
+    println!(
+        "  q is {} for {small:e} over 2, and {:e} over the double below",
+        small / 2.0,
+        small / 2.0_f64.next_down()
+    );
+    let nan = |size: f64| two_step_rows(0.0, Some(-size)).omega_one.is_nan();
+    let q = -least(1e300, f64::MAX, nan);
+    println!(
+        "  r = 0: omega_one is a NaN from q = {q:e} (bits {}) on, where its root is of a difference of infinities",
+        bits(&[q])
+    );
+}
+
+/// The argument of the root in omega_one, over its first term, which is a square.
+fn root_argument(rows: &Rows, q: f64) -> f64 {
+    let [first, second] = rows.two_step.expect("TSRKC2's locals").derivatives;
+    let square = ((1.0 - q) * first).powi(2);
+    (square + 4.0 * q * 1.1 * second) / square
+}
+
+/// That no q makes it negative: the least that it comes to, over all counts and q from −10^6 to −10^-6.
+fn two_step_roots() {
+    let mut lowest = (f64::INFINITY, 0, 0.0);
+    for stages in oracle::permitted(TSRKC2) {
+        let rows = oracle::rows(TSRKC2, stages);
+        for exponent in -600..=600 {
+            let q = -(10.0_f64.powf(f64::from(exponent) / 100.0));
+            let argument = root_argument(&rows, q);
+            if argument < lowest.0 {
+                lowest = (argument, stages, q);
+            }
+        }
+    }
+    let (argument, stages, q) = lowest;
+    println!(
+        "TSRKC2: the argument of omega_one's root over its square is never below {argument:?} (s = {stages}, q = {q:?})"
+    );
+}
+
+/// Stages of TSRKC2 are evaluated after the step's end.
+fn two_step_times() {
+    for q in [None, Some(0.5), Some(1.0), Some(2.0)] {
+        for rows in [9.0, 100.0, 600_000.0].map(|r| two_step_rows(r, q)) {
+            // the last row has no stage after it
+            let evaluated = rows.rows.iter().filter(|row| row.stage < rows.stages);
+            let latest = evaluated.fold(rows.first_mu_tilde, |latest, row| latest.max(row.theta));
+            println!(
+                "TSRKC2, q {q:?}, s {}: the latest stage is evaluated at time + {latest:.4} step",
+                rows.stages
+            );
+        }
+    }
+}
+
 /// The doubles' bits.
 fn bits(values: &[f64]) -> String {
     let each = values.iter().map(|x| format!("{:016X}", x.to_bits()));
     each.collect::<Vec<_>>().join(" ")
 }
 
-/// A case that session/proofs/RustCase.antt has: what RKMC2 evaluates of y' = -rate y with two temperatures, and where it
-/// ends.
-fn rkmc2_case(step: f64, state: [f64; 2], rates: [f64; 2]) {
+/// A case that session/proofs/RustCase.antt has: what a family evaluates of y' = -rate y with two temperatures in attempts that
+/// are accepted, and where they end.
+fn case(family: u64, steps: &[f64], state: [f64; 2], rates: [f64; 2]) {
     let rhs = |derivative: &mut [f64], point: &[f64], _: f64| {
         for i in 0..2 {
             derivative[i] = -rates[i] * point[i];
@@ -179,20 +281,30 @@ fn rkmc2_case(step: f64, state: [f64; 2], rates: [f64; 2]) {
         println!("  time {time}, point {point}, reply {reply}");
         Ok(())
     };
-    println!("RKMC2: y' = -rate y, rates {rates:?}, y = {state:?}, step {step}, tolerances 1e-6");
-    let mut rust = Oracle::new(oracle::RKMC2, 2);
+    let name = oracle::name(family);
+    println!("{name}: y' = -rate y, rates {rates:?}, y = {state:?}, tolerances 1e-6");
+    let mut rust = Oracle::new(family, 2);
     rust.initialize(&state, 0.0, &printed)
         .expect("finite derivatives");
-    let arguments = Arguments {
-        time: 0.0,
-        step,
-        absolute_tolerance: 1e-6,
-        relative_tolerance: 1e-6,
-        adaptive: true,
-    };
-    let iteration = rust.iteration(arguments, &rhs);
-    let figures = rust.figures(&iteration, arguments, &printed);
-    let figures = figures.expect("a candidate that is finite");
+    let mut time = 0.0;
+    for &step in steps {
+        let arguments = Arguments {
+            time,
+            step,
+            absolute_tolerance: 1e-6,
+            relative_tolerance: 1e-6,
+            adaptive: true,
+        };
+        println!("  step {step}");
+        let iteration = rust.iteration(arguments, &rhs);
+        let figures = rust.figures(&iteration, arguments, &printed);
+        print_figures(&figures.expect("a candidate that is finite"), &rust);
+        rust.accept(time, step);
+        time += step;
+    }
+}
+
+fn print_figures(figures: &Figures, rust: &Oracle) {
     let (stages, passes) = (figures.stages, figures.passes);
     let [radius, norm] = [figures.scaled_radius, figures.norm].map(|x| bits(&[x]));
     let candidate = bits(rust.vectors()[10]);
@@ -210,6 +322,11 @@ fn main() {
     bad_derivative_written();
     bad_candidate();
     cut_count();
-    rkmc2_case(0.37, [-13.9375, -1.375], [19.1, 4.5]);
-    rkmc2_case(0.43, [-20.5625, 22.125], [3.0, 56.7]);
+    two_step_counts();
+    two_step_edges();
+    two_step_roots();
+    two_step_times();
+    case(RKMC2, &[0.37], [-13.9375, -1.375], [19.1, 4.5]);
+    case(RKMC2, &[0.43], [-20.5625, 22.125], [3.0, 56.7]);
+    case(TSRKC2, &[0.37, 0.25], [-13.9375, -1.375], [19.1, 4.5]);
 }

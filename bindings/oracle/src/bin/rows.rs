@@ -1,5 +1,5 @@
-//! Prints the Rust's coefficients, one line a stage: family, s, j, then mu, nu, mu_tilde, gamma_tilde (in RKC nu_tilde, in
-//! RKMC2 b_previous), theta, omega_one and first_mu_tilde as bits.
+//! Prints the Rust's coefficients, TSRKC2's without a history, one line a stage: family, s, j, then mu, nu, mu_tilde, gamma_tilde
+//! (in RKC nu_tilde, in RKMC2 b_previous, in TSRKC2 0), theta, omega_one and first_mu_tilde as bits.
 use std::io::{BufWriter, Write};
 
 fn main() -> std::io::Result<()> {

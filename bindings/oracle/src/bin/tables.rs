@@ -1,9 +1,9 @@
-//! tables CRATES: writes RKMC2's three tables, from the Rust, into their crates below the folder CRATES: code, definition,
-//! and the proofs that the code reads the definition and that the rule of the table holds throughout.
+//! tables CRATES: writes RKMC2's three tables and TSRKC2's one, from the Rust, into their crates below the folder CRATES: code,
+//! definition, and the proofs that the code reads the definition and that the rule of the table holds throughout.
 //!
 //! The doubles are those of the build that the program is run on; docs/VECTORS.md names the one that is stored.
-use oracle::RKMC2;
 use oracle::thresholds::{COUNTS, thresholds};
+use oracle::{RKMC2, Rows, TSRKC2};
 use std::fs;
 use std::path::{Path, PathBuf};
 
@@ -12,8 +12,11 @@ const WIDTH: usize = 16;
 
 /// A table by count, and the rule that is proved of it.
 struct Table {
+    family: &'static str,
     name: &'static str,
     title: &'static str,
+    /// The change request of document 02 that asks for it.
+    request: &'static str,
     first: usize,
     doubles: Vec<f64>,
     rule: Rule,
@@ -33,42 +36,73 @@ fn main() {
     }
 }
 
-fn tables() -> [Table; 3] {
+fn tables() -> Vec<Table> {
+    let mut all = rkmc2_tables();
+    all.push(tsrkc2_table());
+    all
+}
+
+/// What the Rust works out with for each count of a family.
+fn recorded(family: u64) -> Vec<Rows> {
+    let counts = oracle::permitted(family);
+    counts.map(|count| oracle::rows(family, count)).collect()
+}
+
+fn rkmc2_tables() -> Vec<Table> {
     let (first, _) = oracle::ends(RKMC2);
-    let rows: Vec<_> = oracle::permitted(RKMC2)
-        .map(|count| oracle::rows(RKMC2, count))
-        .collect();
-    [
-        Table {
-            name: "omega_zero",
-            title: "RKMC2's omega_zero",
+    let rows = recorded(RKMC2);
+    let omega_zero = |row: &Rows| row.omega_zero.expect("RKMC2's omega_zero");
+    let table = |name, title, first, doubles, rule| Table {
+        family: "rkmc2",
+        name,
+        title,
+        request: "CR 1",
+        first,
+        doubles,
+        rule,
+    };
+    vec![
+        table(
+            "omega_zero",
+            "RKMC2's omega_zero",
             first,
-            doubles: rows
-                .iter()
-                .map(|row| row.omega_zero.expect("RKMC2's omega_zero"))
-                .collect(),
-            rule: AT_LEAST_ONE,
-        },
-        Table {
-            name: "omega_one",
-            title: "RKMC2's omega_one",
+            rows.iter().map(omega_zero).collect(),
+            AT_LEAST_ONE,
+        ),
+        table(
+            "omega_one",
+            "RKMC2's omega_one",
             first,
-            doubles: rows.iter().map(|row| row.omega_one).collect(),
-            rule: ABOVE_ZERO,
-        },
-        Table {
-            name: "threshold",
-            title: "RKMC2's thresholds",
-            first: *COUNTS.start(),
-            doubles: thresholds(),
-            rule: RISING,
-        },
+            rows.iter().map(|row| row.omega_one).collect(),
+            ABOVE_ZERO,
+        ),
+        table(
+            "threshold",
+            "RKMC2's thresholds",
+            *COUNTS.start(),
+            thresholds(),
+            RISING,
+        ),
     ]
+}
+
+fn tsrkc2_table() -> Table {
+    let (first, _) = oracle::ends(TSRKC2);
+    let entry = |row: &Rows| row.two_step.expect("TSRKC2's locals").omega_zero_minus_one;
+    Table {
+        family: "tsrkc2",
+        name: "omega_zero_minus_one",
+        title: "TSRKC2's omega_zero_minus_one",
+        request: "CR 6",
+        first,
+        doubles: recorded(TSRKC2).iter().map(entry).collect(),
+        rule: ABOVE_ZERO,
+    }
 }
 
 impl Table {
     fn write(&self, crates: &Path) {
-        let folder = crates.join(format!("rkmc2_{}", self.name));
+        let folder = crates.join(format!("{}_{}", self.family, self.name));
         let put = |path: PathBuf, text: &str| {
             let path = folder.join(path);
             fs::create_dir_all(path.parent().unwrap()).unwrap();
@@ -113,7 +147,10 @@ impl Table {
             ("<rows>", self.rows().len()),
         ];
         let named = text
+            .replace("<crate>", "<family>_<name>")
+            .replace("<family>", self.family)
             .replace("<title>", self.title)
+            .replace("<request>", self.request)
             .replace("<name>", self.name)
             .replace("<spec>", &self.name.replace('_', "-"))
             .replace("<arms>", &self.arms())
@@ -161,7 +198,7 @@ const CODE: &str = "\
 ghost use mathlib.Core.Path.{_≡_};
 ghost use Prim.Native.Nat.{_<_};
 ghost use Rattle.table.specs.Rows.{row};
-ghost use Rattle.rkmc2_<name>·specs.specs.Table as spec;
+ghost use Rattle.<crate>.specs.Table as spec;
 
 // The counts <width> k to <width> k + <width-1>. No number below <rows> is left for the last arm.
 fn row_of(k: u64) -> [f64; <width>]
@@ -184,7 +221,7 @@ pub fn <name>(s: u64) -> f64
 ";
 
 const SPECS: &str = "\
--- <title>: a table of document 02, CR 1, with the doubles of the named build (docs/VECTORS.md). Bit patterns, <width> counts a row,
+-- <title>: a table of document 02, <request>, with the doubles of the named build (docs/VECTORS.md). Bit patterns, <width> counts a row,
 -- a row's first count above it. A count outside <first> to <last> has the nearest entry.
 use Prim.Native.Nat.{ℕ, min}
 use mathlib.Core.List.{List, [], _∷_}
@@ -202,9 +239,9 @@ unfoldable pub <spec> : ℕ → Float
 const PROOF: &str = "\
 -- `<name>` meets its contract: the row is that of the count, and so is the place in it. Assumes nothing.
 use borrow.Author.Needs.{needs}
-use Rattle.rkmc2_<name>·specs.specs.Table.{<spec>}
-use Rattle.rkmc2_<name>·proofs.proofs.<name>.Statement.{statement}
-use Rattle.rkmc2_<name>·proofs.proofs.<name>.Tie as tie
+use Rattle.<crate>.specs.Table.{<spec>}
+use Rattle.<crate>.proofs.<name>.Statement.{statement}
+use Rattle.<crate>.proofs.<name>.Tie as tie
 
 capped-requires : tie.Need-capped-requires
 capped-requires c κs = search needs
@@ -237,7 +274,7 @@ use lib.Dec.{T}
 use lib.Ieee.{le, ofBits}
 use Rattle.ieee.specs.Double.{one}
 use Rattle.ieee.proofs.Every.{every, among}
-use Rattle.rkmc2_<name>·specs.specs.Table.{<spec>}
+use Rattle.<crate>.specs.Table.{<spec>}
 
 test : ℕ → Bool
 test s = le one (<spec> s)
@@ -263,7 +300,7 @@ use lib.Dec.{T}
 use lib.Ieee.{lt, ofBits}
 use Rattle.ieee.specs.Double.{nought}
 use Rattle.ieee.proofs.Every.{every, among}
-use Rattle.rkmc2_<name>·specs.specs.Table.{<spec>}
+use Rattle.<crate>.specs.Table.{<spec>}
 
 test : ℕ → Bool
 test s = lt nought (<spec> s)
@@ -293,7 +330,7 @@ use lib.Ieee.{lt, ofBits}
 use lib.Ieee.Fits.{and-l, and-r}
 use lib.Ieee.Positive.{positive}
 use Rattle.ieee.proofs.Every.{every, among}
-use Rattle.rkmc2_<name>·specs.specs.Table.{<spec>}
+use Rattle.<crate>.specs.Table.{<spec>}
 
 test : ℕ → Bool
 test s = positive (<spec> s) && lt (<spec> s) (<spec> (suc s))

@@ -19,6 +19,12 @@ enum-told-3 c = search needs
 next-polynomials-requires-2 : tie.Need-next-polynomials-requires-2
 next-polynomials-requires-2 c κs = search needs
 
+enum-told-4 : tie.Need-enum-told-4
+enum-told-4 c = search needs
+
+next-polynomials-requires-3 : tie.Need-next-polynomials-requires-3
+next-polynomials-requires-3 c κs = search needs
+
 returns : tie.Need-returns
 unfolding next-polynomials
 returns c = rw (c .next-polynomials .ensures, c .before .enum-told .given .1)
@@ -31,6 +37,10 @@ returns-3 : tie.Need-returns-3
 unfolding next-polynomials
 returns-3 c = rw (c .next-polynomials2 .ensures, c .before .enum-told3 .given .1)
 
+returns-4 : tie.Need-returns-4
+unfolding next-polynomials
+returns-4 c = rw (c .next-polynomials3 .ensures, c .before .enum-told4 .given .1)
+
 pub next-polynomials-spec : {M : Type 1} → statement M
 next-polynomials-spec =
     tie.close
@@ -40,6 +50,9 @@ next-polynomials-spec =
     enum-told-2
     enum-told-3
     next-polynomials-requires-2
+    enum-told-4
+    next-polynomials-requires-3
     returns
     returns-2
-    returns-3)
+    returns-3
+    returns-4)

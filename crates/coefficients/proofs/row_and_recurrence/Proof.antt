@@ -1,4 +1,4 @@
--- `row_and_recurrence` meets its contract: RKC's and RKMC2's is `advance`, and the other families' the two functions one after the other.
+-- `row_and_recurrence` meets its contract: RKC's, RKMC2's and TSRKC2's is `advance`, and the other families' the two functions one after the other.
 use mathlib.Core.Path.{sym, ap, _∙_}
 use Prim.Native.Nat.{ℕ}
 use Rattle.family.specs.Family.{family-of}
@@ -33,14 +33,27 @@ returns-2 c =
       x .ensures .1 ∙ ap (λ (k : ℕ). next-of (family-of k) (a .c) (x .result .row)) sixth,
     )
 
+advance-requires-3 : tie.Need-advance-requires-3
+advance-requires-3 c κs = search needs
+
+returns-3 : tie.Need-returns-3
+unfolding coefficients-of family-of
+returns-3 c =
+    let a = c .before .before .before .before .before .before .before .args in
+    let seventh = sym (c .before .if3 .taken) in
+    let x = c .advance3 in (
+      x .ensures .0 ∙ ap (λ (k : ℕ). coefficients-of (family-of k) (a .s) (a .j) (a .c)) seventh,
+      x .ensures .1 ∙ ap (λ (k : ℕ). next-of (family-of k) (a .c) (x .result .row)) seventh,
+    )
+
 row-coefficients-requires : tie.Need-row-coefficients-requires
 row-coefficients-requires c κs = search needs
 
 next-recurrence-requires : tie.Need-next-recurrence-requires
 next-recurrence-requires c κs = search needs
 
-returns-3 : tie.Need-returns-3
-returns-3 c = search needs
+returns-4 : tie.Need-returns-4
+returns-4 c = search needs
 
 pub row-and-recurrence-spec : {M : Type 1} → statement M
 row-and-recurrence-spec =
@@ -50,6 +63,8 @@ row-and-recurrence-spec =
     returns
     advance-requires-2
     returns-2
+    advance-requires-3
+    returns-3
     row-coefficients-requires
     next-recurrence-requires
-    returns-3)
+    returns-4)

@@ -30,6 +30,9 @@ gegenbauer-one-requires c κs = search needs
 row-requires-2 : tie.Need-row-requires-2
 row-requires-2 c κs = search needs
 
+row-requires-3 : tie.Need-row-requires-3
+row-requires-3 c κs = search needs
+
 gegenbauer-two-omega-requires : tie.Need-gegenbauer-two-omega-requires
 gegenbauer-two-omega-requires c κs = search needs
 
@@ -57,11 +60,15 @@ unfolding coefficients-of family-of
 returns-5 c = rw (c .row2 .ensures, c .before .match .keys5)
 
 returns-6 : tie.Need-returns-6
+unfolding coefficients-of family-of
+returns-6 c = rw (c .row3 .ensures, c .before .match .keys6)
+
+returns-7 : tie.Need-returns-7
 unfolding coefficients-of
-returns-6 c = let r = c .before .before .match .rest in rw (
+returns-7 c = let r = c .before .before .match .rest in rw (
   c .gegenbauer-two .ensures,
   c .before .gegenbauer-two-omega .ensures,
-  last-family _ (r .0 .0 .0 .0 .1) (r .0 .0 .0 .1) (r .0 .0 .1) (r .0 .1) (r .1),
+  last-family _ (r .0 .0 .0 .0 .0 .1) (r .0 .0 .0 .0 .1) (r .0 .0 .0 .1) (r .0 .0 .1) (r .0 .1) (r .1),
 )
 
 pub row-coefficients-spec : {M : Type 1} → statement M
@@ -76,6 +83,7 @@ row-coefficients-spec =
     gegenbauer-one-omega-requires
     gegenbauer-one-requires
     row-requires-2
+    row-requires-3
     gegenbauer-two-omega-requires
     gegenbauer-two-requires
     returns
@@ -83,4 +91,5 @@ row-coefficients-spec =
     returns-3
     returns-4
     returns-5
-    returns-6)
+    returns-6
+    returns-7)

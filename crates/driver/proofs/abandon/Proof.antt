@@ -1,4 +1,4 @@
--- `abandon` meets its contract: turned away with the number of its cause (Ladder); without one, only the phase changes.
+-- `abandon` meets its contract: turned away with the number of its cause (Ladder); without one, phase and history change.
 use mathlib.Core.Path.{refl, sym, _∙_}
 use borrow.Author.Needs.{needs}
 use Rattle.driver.specs.Calls.{abandon-tests, abandon}
@@ -16,14 +16,14 @@ returns : tie.Need-returns
 unfolding abandon
 returns c = refused-keeps _ _ _ (c .before .before .of-abandon .ensures) (c .before .if1 .taken) (c .refused .ensures)
 
-in-phase-requires : tie.Need-in-phase-requires
-in-phase-requires c κs = search needs
+abandoned-requires : tie.Need-abandoned-requires
+abandoned-requires c κs = search needs
 
 returns-2 : tie.Need-returns-2
 unfolding abandon abandon-tests
 returns-2 c =
     admitted-keeps _ _ (none-fails _ refl (sym (c .before .before .of-abandon .ensures) ∙ c .before .if1 .left))
-    (λ _. record { answer = same-answer refl; kept = c .in-phase .ensures; counters = refl; area = refl })
+    (λ _. record { answer = same-answer refl; kept = c .abandoned .ensures; counters = refl; area = refl })
 
 pub abandon-spec : {M : Type 1} → statement M
 abandon-spec =
@@ -32,5 +32,5 @@ abandon-spec =
     of-abandon-requires
     refused-requires
     returns
-    in-phase-requires
+    abandoned-requires
     returns-2)

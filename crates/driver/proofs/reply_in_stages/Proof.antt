@@ -1,5 +1,6 @@
 -- `reply_in_stages` meets its contract: past the tests it is a stage's reply (Going).
-use mathlib.Core.Path.{_∙_}
+use mathlib.Core.Path.{sym, _∙_}
+use native.Mathlib.Nat.{le-of-eq}
 use native.Mathlib.Omega.{arith}
 use borrow.Author.Needs.{needs}
 use Rattle.family.specs.Family.{family-of}
@@ -19,7 +20,7 @@ take-stage-requires c κs =
     let p = passed r (a .counters) (a .area .now) (a .derivative .now) (c .before .before .before .pre) in
     let l = both-long (r .family) (r .n) (a .area .now) (a .derivative .now) (p .lengths) in
     let s = stage-in r (p .place) in
-    (whole (family-of (r .family)) (r .n) (a .area .now) (l .0), (l .1, (s .from, omega (arith, s .to, s .most))))
+    (whole (family-of (r .family)) (r .n) (a .area .now) (l .0), (le-of-eq (sym (l .0)), (l .1, (s .from, omega (arith, s .to, s .most)))))
 
 same-length : tie.Need-same-length
 same-length c = search needs

@@ -34,6 +34,30 @@ ceil-requires c κs = search needs
 saturating-u64-requires-2 : tie.Need-saturating-u64-requires-2
 saturating-u64-requires-2 c κs = search needs
 
+enum-told : tie.Need-enum-told
+enum-told c = search needs
+
+by-threshold-requires : tie.Need-by-threshold-requires
+by-threshold-requires c κs = search needs
+
+enum-known-rule-3 : tie.Need-enum-known-rule-3
+enum-known-rule-3 c = search needs
+
+sqrt-requires-3 : tie.Need-sqrt-requires-3
+sqrt-requires-3 c κs = search needs
+
+sqrt-requires-4 : tie.Need-sqrt-requires-4
+sqrt-requires-4 c κs = search needs
+
+floor-requires-2 : tie.Need-floor-requires-2
+floor-requires-2 c κs = search needs
+
+saturating-u64-requires-3 : tie.Need-saturating-u64-requires-3
+saturating-u64-requires-3 c κs = search needs
+
+one-more-requires-2 : tie.Need-one-more-requires-2
+one-more-requires-2 c κs = search needs
+
 returns : tie.Need-returns
 unfolding by-rule ofBits
 returns c = rw (
@@ -54,15 +78,20 @@ returns-2 c = rw (
   ← cast-kept,
 )
 
-enum-told : tie.Need-enum-told
-enum-told c = search needs
-
-by-threshold-requires : tie.Need-by-threshold-requires
-by-threshold-requires c κs = search needs
-
 returns-3 : tie.Need-returns-3
 unfolding by-rule
 returns-3 c = rw (c .by-threshold .ensures, c .before .enum-told .given .1, ← rule-kept)
+
+returns-4 : tie.Need-returns-4
+unfolding by-rule ofBits
+returns-4 c = rw (
+  c .one-more2 .ensures,
+  c .before .saturating-u643 .ensures,
+  c .before .before .floor2 .ensures,
+  c .before .before .before .sqrt4 .ensures,
+  c .before .before .before .before .sqrt3 .ensures,
+  c .before .before .before .before .before .before .rule3 .given .1,
+)
 
 pub by-rule-spec : {M : Type 1} → statement M
 by-rule-spec =
@@ -79,6 +108,13 @@ by-rule-spec =
     saturating-u64-requires-2
     enum-told
     by-threshold-requires
+    enum-known-rule-3
+    sqrt-requires-3
+    sqrt-requires-4
+    floor-requires-2
+    saturating-u64-requires-3
+    one-more-requires-2
     returns
     returns-2
-    returns-3)
+    returns-3
+    returns-4)

@@ -30,6 +30,9 @@ orthogonal-requires-3 c κs = search needs
 rkmc2-requires : tie.Need-rkmc2-requires
 rkmc2-requires c κs = search needs
 
+tsrkc2-requires : tie.Need-tsrkc2-requires
+tsrkc2-requires c κs = search needs
+
 rounded-up-requires-4 : tie.Need-rounded-up-requires-4
 rounded-up-requires-4 c κs = search needs
 
@@ -57,9 +60,14 @@ unfolding family-of
 returns-5 c = rw (c .rkmc2 .ensures, c .before .match .keys5)
 
 returns-6 : tie.Need-returns-6
+unfolding family-of
+returns-6 c = rw (c .tsrkc2 .ensures, c .before .match .keys6)
+
+returns-7 : tie.Need-returns-7
 unfolding facts-of ofBits
-returns-6 c = let r = c .before .before .match .rest in
-    rw (c .orthogonal4 .ensures, c .before .rounded-up4 .ensures, last-family _ (r .0 .0 .0 .0 .1) (r .0 .0 .0 .1) (r .0 .0 .1) (r .0 .1) (r .1))
+returns-7 c = let r = c .before .before .match .rest in
+    rw (c .orthogonal4 .ensures, c .before .rounded-up4 .ensures,
+    last-family _ (r .0 .0 .0 .0 .0 .1) (r .0 .0 .0 .0 .1) (r .0 .0 .0 .1) (r .0 .0 .1) (r .0 .1) (r .1))
 
 pub facts-of-spec : {M : Type 1} → statement M
 facts-of-spec =
@@ -73,6 +81,7 @@ facts-of-spec =
     rounded-up-requires-3
     orthogonal-requires-3
     rkmc2-requires
+    tsrkc2-requires
     rounded-up-requires-4
     orthogonal-requires-4
     returns
@@ -80,4 +89,5 @@ facts-of-spec =
     returns-3
     returns-4
     returns-5
-    returns-6)
+    returns-6
+    returns-7)

@@ -44,7 +44,10 @@ row-requires : tie.Need-row-requires
 row-requires c κs = search needs
 
 keep-candidate-requires : tie.Need-keep-candidate-requires
-keep-candidate-requires c κs = search needs
+keep-candidate-requires c κs =
+    let b = c .before .before .before .before .before .before .before .before .before in
+    let long = b .before .before .before .pre .1 .0 in
+    rw (b .setting-of .ensures, c .before .before .area2 .given) long
 
 finite-vector-requires : tie.Need-finite-vector-requires
 finite-vector-requires c κs = search needs

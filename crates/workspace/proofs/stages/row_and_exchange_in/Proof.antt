@@ -25,6 +25,12 @@ enum-told-3 c = search needs
 move-singly-requires : tie.Need-move-singly-requires
 move-singly-requires c κs = search needs
 
+enum-told-4 : tie.Need-enum-told-4
+enum-told-4 c = search needs
+
+move-singly-requires-2 : tie.Need-move-singly-requires-2
+move-singly-requires-2 c κs = search needs
+
 same-length : tie.Need-same-length
 same-length c = search needs
 
@@ -55,6 +61,16 @@ returns-3 c =
     ∙ ap (λ (f : RowForm). exchanged (with-row-in f (x .n) (x .step) (x .c) (unpack (x .n) (x .ten .now)) (x .derivative .now)))
     (sym (c .before .before .before .before .enum-told3 .given .1))
 
+same-length-4 : tie.Need-same-length-4
+same-length-4 c = search needs
+
+returns-4 : tie.Need-returns-4
+returns-4 c =
+    let x = c .before .before .before .before .before .before .before .before .args in
+    c .before .before .move-singly2 .ensures
+    ∙ ap (λ (f : RowForm). exchanged (with-row-in f (x .n) (x .step) (x .c) (unpack (x .n) (x .ten .now)) (x .derivative .now)))
+    (sym (c .before .before .before .before .enum-told4 .given .1))
+
 pub row-and-exchange-in-spec : {M : Type 1} → statement M
 row-and-exchange-in-spec =
     tie.close
@@ -65,9 +81,13 @@ row-and-exchange-in-spec =
     move-all-requires-2
     enum-told-3
     move-singly-requires
+    enum-told-4
+    move-singly-requires-2
     same-length
     returns
     same-length-2
     returns-2
     same-length-3
-    returns-3)
+    returns-3
+    same-length-4
+    returns-4)
