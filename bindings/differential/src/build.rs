@@ -84,47 +84,38 @@ const ACOSH: u64 = 0x3FDC_636C_1A88_2F2B;
 const IN_ROWS: Range<usize> = 0..1008;
 
 fn tables() -> [Table; 5] {
+    // those in rows, one for each permitted count
+    let in_rows = |name, family, file, rust| Table {
+        name,
+        family,
+        file,
+        held: IN_ROWS,
+        counts: permitted(family).collect(),
+        rust,
+    };
     [
         Table {
-            name: "RKC's omega_one",
-            family: 1,
-            file: "coefficients",
             held: 2..201,
-            counts: permitted(1).collect(),
-            rust: |s| rows(1, s).omega_one,
+            ..in_rows("RKC's omega_one", 1, "coefficients", |s| {
+                rows(1, s).omega_one
+            })
         },
+        in_rows(RKMC2_OMEGA_ZERO, RKMC2, "rkmc2_omega_zero", |s| {
+            rows(RKMC2, s).omega_zero.expect(RKMC2_OMEGA_ZERO)
+        }),
+        in_rows(RKMC2_OMEGA_ONE, RKMC2, "rkmc2_omega_one", |s| {
+            rows(RKMC2, s).omega_one
+        }),
         Table {
-            name: RKMC2_OMEGA_ZERO,
-            family: RKMC2,
-            file: "rkmc2_omega_zero",
-            held: IN_ROWS,
-            counts: permitted(RKMC2).collect(),
-            rust: |s| rows(RKMC2, s).omega_zero.expect(RKMC2_OMEGA_ZERO),
-        },
-        Table {
-            name: RKMC2_OMEGA_ONE,
-            family: RKMC2,
-            file: "rkmc2_omega_one",
-            held: IN_ROWS,
-            counts: permitted(RKMC2).collect(),
-            rust: |s| rows(RKMC2, s).omega_one,
-        },
-        Table {
-            name: THRESHOLD,
-            family: RKMC2,
-            file: "rkmc2_threshold",
-            held: IN_ROWS,
             counts: thresholds::COUNTS.collect(),
-            rust: thresholds::threshold,
+            ..in_rows(THRESHOLD, RKMC2, "rkmc2_threshold", thresholds::threshold)
         },
-        Table {
-            name: TSRKC2_OMEGA_ZERO,
-            family: TSRKC2,
-            file: "tsrkc2_omega_zero_minus_one",
-            held: IN_ROWS,
-            counts: permitted(TSRKC2).collect(),
-            rust: |s| two_step(s).omega_zero_minus_one,
-        },
+        in_rows(
+            TSRKC2_OMEGA_ZERO,
+            TSRKC2,
+            "tsrkc2_omega_zero_minus_one",
+            |s| two_step(s).omega_zero_minus_one,
+        ),
     ]
 }
 

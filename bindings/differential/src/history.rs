@@ -73,10 +73,9 @@ pub fn count(coverage: &mut Coverage, pair: &Pair, arguments: &Arguments, ending
     if at.family != TSRKC2 || pair.went_over.is_some() {
         return;
     }
-    let q = pair.history().map(|kept| kept.step / arguments.step);
-    let counted = coverage.quotients.entry((kind(q), ending));
+    let counted = coverage.quotients.entry((kind(pair.quotient), ending));
     *counted.or_default() += 1;
-    if ending == FINISHED && arguments.adaptive && q.is_some() {
+    if ending == FINISHED && arguments.adaptive && pair.quotient.is_some() {
         *coverage.with_history.entry(at.stages).or_default() += 1;
     }
 }
@@ -186,7 +185,7 @@ impl Counted {
 /// rejected unless `accept` or `callback` comes next. What a word with an `!` does cannot be gone on from but by a start: a
 /// callback or an attempt with a bad reply, an attempt abandoned or left at a part of its evaluations, one whose last stage
 /// overflows, or one that needs too many stages. `rkl2` and `rkmc2` start that family, and accept an attempt.
-const SEQUENCES: [(&str, &str); 14] = [
+const SEQUENCES: [(&str, &str); 15] = [
     ("none", "1 0.5 -2"),
     ("one", "1 accept 1"),
     (
@@ -226,6 +225,10 @@ const SEQUENCES: [(&str, &str); 14] = [
     (
         "a start in the middle",
         "1 accept 1!leave-pass start 2 accept 1!leave-stage start 1 accept 3!leave-last start 1",
+    ),
+    (
+        "too many stages",
+        "1 accept 0.05!many start 0.05 accept 1!many start 1 accept -1!many start 1 accept 1!many",
     ),
     (
         "other families and refusals",
@@ -310,7 +313,7 @@ impl Sequence {
         let (passes, stages) = (3, 5);
         let replies = |pair: &Pair, r| with_scaled_radius(&self.replies(), passes, r, step, pair);
         if how == "many" {
-            let replies = replies(pair, 1.6e6);
+            let replies = replies(pair, 2.5e6);
             return refused_with_11(pair, arguments(step), &replies, None, coverage);
         }
         let (what, part) = how.split_once('-').unwrap_or((how, "stage"));

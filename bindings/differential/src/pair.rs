@@ -67,6 +67,8 @@ pub struct Pair {
     strict: bool,
     /// Why the definition alone counts, once it does.
     pub went_over: Option<Cause>,
+    /// q of the latest attempt; nothing without a history.
+    pub quotient: Option<f64>,
     /// Of the latest finished answer, until an attempt is taken: what the record keeps.
     told: Option<Kept>,
     /// How many calls it was kept through, by name and the number that the call was turned away with, or 0.
@@ -115,6 +117,7 @@ impl Pair {
             finished: 0,
             strict,
             went_over: None,
+            quotient: None,
             told: None,
             kept: BTreeMap::new(),
             random: Random::new(seed),
@@ -195,6 +198,7 @@ impl Pair {
         replies: &Replies,
         stop: Option<(usize, Stop)>,
     ) -> Compared {
+        self.quotient = self.history().map(|kept| kept.step / arguments.step);
         self.go_over(arguments, replies, stop);
         let iteration = self.other.iteration(arguments, replies);
         let outcome = self.engine(&Call::Attempt(arguments_of(arguments)))?;
@@ -567,12 +571,13 @@ fn bad_calls<'a>(one_too_long: &'a [f64], infinite: &'a [f64]) -> [Call<'a>; BAD
             ..Arguments::default()
         })
     };
+    let of_family = |family| Call::Start(Start { family, ..good });
     let start = |state| Call::Start(Start { state, ..good });
     let reply = |derivative| Call::Reply { derivative };
     let callback = |state, time| Call::AcceptWithCallback { state, time };
     let time = f64::NAN;
     [
-        Call::Start(Start { family: 8, ..good }),
+        of_family(8),
         Call::Start(Start { n: 513, ..good }),
         start(one_too_long),
         Call::Start(Start { time, ..good }),
@@ -587,11 +592,8 @@ fn bad_calls<'a>(one_too_long: &'a [f64], infinite: &'a [f64]) -> [Call<'a>; BAD
         callback(good.state, 0.0),
         Call::Accept,
         Call::Abandon,
-        Call::Start(good),
-        Call::Start(Start {
-            family: TSRKC2,
-            ..good
-        }),
+        of_family(1),
+        of_family(TSRKC2),
         Call::Abandon,
     ]
 }

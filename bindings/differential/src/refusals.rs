@@ -235,53 +235,35 @@ pub struct Given<'a> {
     pub area: &'a [f64],
 }
 
-/// Every field, by name.
-fn listed(doubles: &Doubles) -> Vec<f64> {
-    let Doubles {
-        time,
-        step,
-        absolute_tolerance,
-        relative_tolerance,
-        perturbation,
-        previous_radius,
-        scaled_radius,
-        theta_previous,
-        theta_previous_two,
-        omega_zero,
-        omega_one,
-        b_previous,
-        b_previous_two,
-        value_previous,
-        value_previous_two,
-        first_previous,
-        first_previous_two,
-        second_previous,
-        second_previous_two,
-        gain,
-        previous_accepted_step,
-    } = *doubles;
-    vec![
-        time,
-        step,
-        absolute_tolerance,
-        relative_tolerance,
-        perturbation,
-        previous_radius,
-        scaled_radius,
-        theta_previous,
-        theta_previous_two,
-        omega_zero,
-        omega_one,
-        b_previous,
-        b_previous_two,
-        value_previous,
-        value_previous_two,
-        first_previous,
-        first_previous_two,
-        second_previous,
-        second_previous_two,
-        gain,
-        previous_accepted_step,
+/// How many doubles a record has.
+const DOUBLES: usize = 21;
+
+const _: () = assert!(size_of::<Doubles>() == DOUBLES * size_of::<f64>());
+
+/// Every field.
+fn listed(doubles: &Doubles) -> [f64; DOUBLES] {
+    [
+        doubles.time,
+        doubles.step,
+        doubles.absolute_tolerance,
+        doubles.relative_tolerance,
+        doubles.perturbation,
+        doubles.previous_radius,
+        doubles.scaled_radius,
+        doubles.theta_previous,
+        doubles.theta_previous_two,
+        doubles.omega_zero,
+        doubles.omega_one,
+        doubles.b_previous,
+        doubles.b_previous_two,
+        doubles.value_previous,
+        doubles.value_previous_two,
+        doubles.first_previous,
+        doubles.first_previous_two,
+        doubles.second_previous,
+        doubles.second_previous_two,
+        doubles.gain,
+        doubles.previous_accepted_step,
     ]
 }
 

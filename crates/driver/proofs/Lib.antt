@@ -6,3 +6,4 @@ pub mod Steps
 pub mod Counting
 pub mod Going
 pub mod Kept
+pub mod Histories

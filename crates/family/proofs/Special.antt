@@ -1,17 +1,18 @@
--- The counts of an infinite r, of what counts as 0, of RKC: in 2 to 200, and 200 where the root reaches 2 ^ 64; and of RKMC2: in 3 to 1000, 3 for a NaN and
--- 1000 for an infinite r. Assumes nothing.
--- ⊕ ⊗ are operations on doubles: they round.
+-- The counts of an infinite r, of what counts as 0, of RKC: in 2 to 200, and 200 where the root reaches 2 ^ 64; of RKMC2: in 3 to 1000, 3 for a NaN and 1000
+-- for an infinite r; and of TSRKC2: in 2 to 1000, 2 for a NaN, and the number before limits itself wherever the need is not refused. Assumes nothing.
+-- ⊕ ⊖ ⊗ are operations on doubles: they round.
 use mathlib.Core.Path.{_≡_, refl, sym, ap, _∙_}
-use Prim.Native.Nat.{ℕ, _+_, _-_, _*_, _^_, _≤_, _<_}
+use Prim.Native.Nat.{ℕ, _+_, _-_, _*_, _^_, _≤_, _<_, max}
 use native.Mathlib.Nat.{le-div-iff-mul-le, mul-le-mul-right}
 use native.Mathlib.Omega.{arith}
 use mathlib.Core.Bool.{Bool, true, false, _&&_, cond, true≢false}
 use lib.IntN.{pos}
-use lib.Dec.{T, eqb, eqb→eq, lit≤, lit<}
+use lib.Dec.{T, ltb, eqb, eqb→eq, lit≤, lit<}
 use lib.Ieee.{Float, nan, inf, fin, binary64, up, down, lt, le, toUnsigned, add, sub, mul, round, ofBits}
+use borrow.Author.Tests.{ltb-true, ltb-false}
 use lib.Ieee.Fits.{and-r, down-pos}
 use lib.Ieee.Order.{round-mono}
-use Rattle.ieee.specs.Double.{_⊕_, _⊗_, nearest, nought, one}
+use Rattle.ieee.specs.Double.{_⊕_, _⊖_, _⊗_, nearest, nought, one}
 use Rattle.ieee.specs.Sqrt.{sqrt}
 use Rattle.ieee.specs.Whole.{floor, ceil, cut}
 use Rattle.ieee.specs.Whole as Whole
@@ -20,7 +21,7 @@ use Rattle.rkmc2_threshold.specs.Table.{threshold}
 use Rattle.ieee.proofs.Monotone.{cross, round-nonneg}
 use Rattle.ieee.proofs.Casts.{cast-mono}
 use Rattle.family.specs.Family.{Family, RKC, RKL1, RKL2, RKG1, RKG2, RKMC2, TSRKC2, smallest-count, largest-count, odd-only}
-use Rattle.family.specs.Family.{before-limits, odd-step, limited, stage-count, facts-of, by-rule, radius-for}
+use Rattle.family.specs.Family.{keeps-older, before-limits, number-of-stages, odd-step, limited, stage-count, exceeds, facts-of, by-rule, radius-for}
 use Rattle.family.proofs.Range.{rkc-between, rkmc2-between, permitted-range}
 use Rattle.family.proofs.Limits.{limited-largest}
 use Rattle.family.proofs.Counts.{stage-count-permitted}
@@ -66,7 +67,41 @@ negative-count f q r one-step h = counted-as f q r nought one-step (go r h)
     go (inf s) h = ap (λ (b : Bool). cond b nought (inf s)) h
     go (fin s m e) h = ap (λ (b : Bool). cond b nought (fin s m e)) h
 
--- ---- TSRKC2: in 2 to 1000; a NaN gives 2; an infinite r without a history exceeds
+-- ---- TSRKC2: in 2 to 1000; a NaN gives 2; more than 1000 is refused
+pub tsrkc2-nan : (q : Float) → (stage-count TSRKC2 q nan ≡ 2) × (exceeds TSRKC2 q nan ≡ false)
+unfolding stage-count exceeds before-limits limited odd-step odd-only smallest-count largest-count nearest add sub mul sqrt floor toUnsigned by-rule radius-for
+    facts-of
+tsrkc2-nan q = (not-number (one ⊖ q ⊕ sqrt (one ⊕ q ⊗ (q ⊖ nearest 598626091572911 1000000000000000))) .0,
+    not-number (one ⊖ q ⊕ sqrt (one ⊕ q ⊗ (q ⊖ nearest 598626091572911 1000000000000000))) .1)
+  where
+    number : Float → ℕ
+    number x = toUnsigned 64 (floor (sqrt (one ⊕ nearest 759782816506459 1000000000000000 ⊗ nan ⊗ x))) + 1
+
+    not-number : (x : Float) → (limited TSRKC2 (number x) ≡ 2) × (ltb 1000 (number x) ≡ false)
+    not-number nan = (refl, refl)
+    not-number (inf s) = (refl, refl)
+    not-number (fin s m e) = (refl, refl)
+
+-- its count is the number before limits and 2 at least, wherever that is no more than 1000; more is refused, and nothing else
+pub tsrkc2-met : (q r : Float) → exceeds TSRKC2 q r ≡ false → stage-count TSRKC2 q r ≡ max (number-of-stages TSRKC2 q r) 2
+unfolding exceeds stage-count limited odd-step odd-only smallest-count largest-count facts-of
+tsrkc2-met q r e = let l = ltb-false 1000 (number-of-stages TSRKC2 q r) e in omega (arith, l)
+
+pub tsrkc2-exceeds : (q r : Float) → exceeds TSRKC2 q r ≡ true → 1000 < number-of-stages TSRKC2 q r
+unfolding exceeds largest-count facts-of
+tsrkc2-exceeds q r e = ltb-true 1000 (number-of-stages TSRKC2 q r) e
+
+-- no other family keeps an older state, and none refuses a need
+pub only-tsrkc2 : (f : Family) → (f ≡ TSRKC2 → ⊥) → (keeps-older f ≡ false) × ((q r : Float) → exceeds f q r ≡ false)
+unfolding keeps-older exceeds facts-of
+only-tsrkc2 RKC h = (refl, λ q r. refl)
+only-tsrkc2 RKL1 h = (refl, λ q r. refl)
+only-tsrkc2 RKL2 h = (refl, λ q r. refl)
+only-tsrkc2 RKG1 h = (refl, λ q r. refl)
+only-tsrkc2 RKG2 h = (refl, λ q r. refl)
+only-tsrkc2 RKMC2 h = (refl, λ q r. refl)
+only-tsrkc2 TSRKC2 h = absurd (h refl)
+
 pub tsrkc2-range : (q r : Float) → (2 ≤ stage-count TSRKC2 q r) × (stage-count TSRKC2 q r ≤ 1000)
 tsrkc2-range q r = permitted-range TSRKC2 (stage-count TSRKC2 q r) (stage-count-permitted TSRKC2 q r)
 

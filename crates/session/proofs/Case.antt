@@ -23,13 +23,13 @@ use Rattle.workspace.specs.Kernel.{with-direction, perturbation-of, perturbed-b
 use Rattle.workspace.specs.Kernel.{entry-in, with-row-in, exchanged, with-candidate, candidate-in, error-in, with-last, divisor-in, scaled-error}
 use Rattle.workspace.specs.Kernel.{scaled-error-norm, error-norm}
 use Rattle.driver.specs.declared.Counters.{Counters}
-use Rattle.driver.specs.Calls.{with-older, Held, stage-need, Call, Start, Attempt, Reply, Accept, Abandon, sized, as-long, good-times, good-tolerance, good-tolerances}
+use Rattle.driver.specs.Calls.{Held, stage-need, Call, Start, Attempt, Reply, Accept, Abandon, sized, as-long, good-times, good-tolerance, good-tolerances}
 use Rattle.driver.specs.Calls.{room}
 use Rattle.session.specs.Attempt.{closes, _>>=_, evaluate, stages-for, iterate, spectral-radius, stage-row, stage-loop, run-recurrence, finished-attempt}
 use Rattle.session.specs.Attempt.{close, attempt-step}
 use Rattle.session.specs.Session.{Shown, evaluates, finished-with, ready-at, stops, nothing, Seen, seen-of, vectors-of, initialize, tries, accept-step}
 use Rattle.session.specs.Session.{at-rest, after-attempt, waiting, finished-by, counts-on, doing-now, replied-with, session-after, doing-shown}
-use Rattle.session.specs.Session.{previous-of, is-some, quotient, session-seen, rests, has-tried, waits, waits-with-room, takes, session, fresh}
+use Rattle.session.specs.Session.{previous-of, is-some, quotient, step-after, state-after, session-seen, rests, has-tried, waits, waits-with-room, takes, session, fresh}
 use Rattle.session.proofs.Sequences.{every-sequence}
 
 -- opens, where it is named on an `unfolding` line, what a double's operation, an attempt (its rows, of RKL1) and a session are made of
@@ -50,7 +50,8 @@ attempts = tt
 unfoldable pub sessions : Unit {0}
 unfolding known family-of permitted keeps-older vector-count sized as-long good-times good-tolerance good-tolerances room vectors-of initialize tries
     accept-step at-rest after-attempt waiting finished-by counts-on doing-now replied-with session-after doing-shown session-seen rests has-tried waits
-    waits-with-room takes session fresh facts-of previous-of is-some quotient with-older
+    waits-with-room takes session fresh facts-of previous-of is-some quotient step-after
+    state-after
 sessions = tt
 
 unfoldable pub arguments : Arguments

@@ -20,7 +20,7 @@ use Rattle.driver.specs.Calls.{callback-tests, with-older, history-after}
 use Rattle.driver.proofs.Ladder.{each-passes, goes-ahead}
 use Rattle.session.specs.Attempt.{_>>=_, evaluate, Finished-attempt}
 use Rattle.session.specs.Alike.{compared, Same-vectors}
-use Rattle.session.specs.Session.{Previous-step, some-step, is-some, evaluates, ready-at, answer-shown, accept-step, callback-step, Doing, within, Session, at-rest}
+use Rattle.session.specs.Session.{Previous-step, some-step, is-some, step-after, state-after, evaluates, ready-at, answer-shown, accept-step, callback-step, Doing, within, Session, at-rest}
 use Rattle.session.specs.Session.{after-attempt, doing-now, session-after, doing-shown, has-tried}
 use Rattle.ieee.proofs.Logic.{and-left, and-right}
 use Rattle.session.proofs.Truth.{and-none, differ}
@@ -140,7 +140,7 @@ module _ (h : Held) (q : taken (accept h .answer) ≡ true) where
 
   pub accept-good : (σ : Session) → h .counters ≡ σ .counts → Does (σ .family) (σ .n) (σ .doing) h → Good (session-after σ Accept) (accept h)
   unfolding session-after Does Shows at-rest after-attempt doing-now accept-step answer-shown doing-shown going-on accepted with-older history-after in-phase
-      v w
+      step-after state-after v w
   accept-good σ cs does = subst (λ (x : Called). Good (session-after σ Accept) x) (sym accept-is)
       (go (σ .doing) (rested h (σ .family) (σ .n) (σ .doing) does (passed .phase-allows)))
     where
@@ -196,7 +196,7 @@ module _ (h : Held) (q : taken (accept h .answer) ≡ true) where
           seen : (b : Vector) → eqb (number older-state) (number b) ≡ false → compared (is-some x) b ≡ true
           seen b e = rw (other b e)
 
-          alike : (b : Vector) → eqb (number older-state) (number b) ≡ false → v b ≡ with-older (its-family (h .kept)) (o .vectors) b
+          alike : (b : Vector) → eqb (number older-state) (number b) ≡ false → v b ≡ state-after (h .kept .family) (o .vectors) b
           alike b e = on .others b e ∙ same b (seen b e) ∙ sym (on .others-too b e)
 
   pub accept-area : length (accept h .held .area) ≡ length (h .area)

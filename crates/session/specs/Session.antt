@@ -13,12 +13,12 @@ use Rattle.family.specs.declared.Setting.{Setting}
 use Rattle.family.specs.Family.{known, family-of, setting, keeps-older}
 use Rattle.workspace.specs.declared.Arguments.{Arguments}
 use Rattle.workspace.specs.Vectors.{Vectors, _with_≔_, named, vector-count, unpack, all-finite, first-derivative, last-derivative, eigenvector, state}
-use Rattle.workspace.specs.Vectors.{candidate}
+use Rattle.workspace.specs.Vectors.{candidate, older-state}
 use Rattle.driver.specs.declared.Counters.{Counters}
 use Rattle.driver.specs.declared.Answer.{Answer}
 use Rattle.driver.specs.declared.Answer.the-variants.{Evaluate, Finished, Ready, Refused, Empty}
 use Rattle.driver.specs.Calls.{Held, Called, reply, Call, Start, Attempt, Reply, Accept, Accept-with-callback, Abandon, made, taken, sized, as-long, good-times}
-use Rattle.driver.specs.Calls.{good-tolerances, room, with-older}
+use Rattle.driver.specs.Calls.{good-tolerances, room}
 use Rattle.session.specs.Attempt.{for-another, closes, Asking, done, stopped, ask, _>>=_, evaluate, Finished-attempt, Evaluated, fixed-at, attempt-step}
 
 -- ---- the calls over a list of them
@@ -121,11 +121,18 @@ tries f n a x v = do
   o ← attempt-step (kernel-setting f x (a .step)) n a v
   done (tried x (a .step) o)
 
+-- `previous_accepted_step` and `previous_accepted_state` of an attempt of this step that is accepted, in a family that keeps them
+unfoldable pub step-after : ℕ → Float → Previous-step → Previous-step
+step-after f step x = cond (keeps-older (family-of f)) (some-step step) x
+
+unfoldable pub state-after : ℕ → Vectors → Vectors
+state-after f v = cond (keeps-older (family-of f)) (v with older-state ≔ v state) v
+
 -- `accept_step`, without a callback and with one
 unfoldable pub accept-step : ℕ → Previous-step → Float → Vectors → Asking Resting
 accept-step f x step v = do
-  let w = with-older (family-of f) v
-  done (ready-with (cond (keeps-older (family-of f)) (some-step step) x) (w with first-derivative ≔ w last-derivative with state ≔ w candidate))
+  let w = state-after f v
+  done (ready-with (step-after f step x) (w with first-derivative ≔ w last-derivative with state ≔ w candidate))
 
 unfoldable pub callback-step : ℕ → List Float → Float → Vectors → Asking Resting
 callback-step n y t v = do

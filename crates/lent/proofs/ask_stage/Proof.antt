@@ -54,6 +54,9 @@ slice-write-doubles-11 c = simp length-set (omega arith)
 slice-write-doubles-12 : tie.Need-slice-write-doubles-12
 slice-write-doubles-12 c = simp length-set (omega arith)
 
+slice-write-doubles-13 : tie.Need-slice-write-doubles-13
+slice-write-doubles-13 c = simp length-set (omega arith)
+
 same-length : tie.Need-same-length
 same-length c = search needs
 
@@ -86,6 +89,7 @@ ask-stage-spec =
     slice-write-doubles-10
     slice-write-doubles-11
     slice-write-doubles-12
+    slice-write-doubles-13
     same-length
     same-length-2
     returns)

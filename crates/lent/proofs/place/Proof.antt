@@ -12,22 +12,22 @@ phase-of-requires c κs = search needs
 new-record-requires : tie.Need-new-record-requires
 new-record-requires c κs = search needs
 
-element-copy-out-t9 : tie.Need-element-copy-out-t9
-element-copy-out-t9 c = search needs
+element-copy-out-t10 : tie.Need-element-copy-out-t10
+element-copy-out-t10 c = search needs
 
-element-copy-out-t14 : tie.Need-element-copy-out-t14
-element-copy-out-t14 c = search needs
+element-copy-out-t15 : tie.Need-element-copy-out-t15
+element-copy-out-t15 c = search needs
 
-element-copy-out-t18 : tie.Need-element-copy-out-t18
-element-copy-out-t18 c = search needs
+element-copy-out-t19 : tie.Need-element-copy-out-t19
+element-copy-out-t19 c = search needs
 
-element-copy-out-t21 : tie.Need-element-copy-out-t21
-element-copy-out-t21 c = search needs
+element-copy-out-t22 : tie.Need-element-copy-out-t22
+element-copy-out-t22 c = search needs
 
 returns : tie.Need-returns
 returns c = rw (
-  c .before .before .before .before .before .before .before .new-record .ensures,
-  c .before .before .before .before .before .before .before .before .phase-of .ensures,
+  c .before .before .before .before .before .before .before .before .new-record .ensures,
+  c .before .before .before .before .before .before .before .before .before .phase-of .ensures,
 )
 
 pub place-spec : {M : Type 1} → statement M
@@ -37,8 +37,8 @@ place-spec =
     element-copy-out-phase-of
     phase-of-requires
     new-record-requires
-    element-copy-out-t9
-    element-copy-out-t14
-    element-copy-out-t18
-    element-copy-out-t21
+    element-copy-out-t10
+    element-copy-out-t15
+    element-copy-out-t19
+    element-copy-out-t22
     returns)

@@ -19,17 +19,27 @@ read-iteration-requires c κs = search needs
 read-staging-requires : tie.Need-read-staging-requires
 read-staging-requires c κs = search needs
 
-element-copy-out-t9 : tie.Need-element-copy-out-t9
-element-copy-out-t9 c = search needs
+read-history-requires : tie.Need-read-history-requires
+read-history-requires c κs = search needs
 
-element-copy-out-t14 : tie.Need-element-copy-out-t14
-element-copy-out-t14 c = search needs
+element-copy-out-t10 : tie.Need-element-copy-out-t10
+element-copy-out-t10 c = search needs
+
+element-copy-out-t15 : tie.Need-element-copy-out-t15
+element-copy-out-t15 c = search needs
 
 returns : tie.Need-returns
 unfolding meaning
 returns c =
     let t = c .before .before in
-    rw (t .before .before .before .phase-of .ensures, t .before .before .read-arguments .ensures, t .before .read-iteration .ensures, t .read-staging .ensures)
+    let u = t .before .before .before in
+    rw (
+      u .before .phase-of .ensures,
+      u .read-arguments .ensures,
+      t .before .before .read-iteration .ensures,
+      t .before .read-staging .ensures,
+      t .read-history .ensures,
+    )
 
 pub read-spec : {M : Type 1} → statement M
 read-spec =
@@ -40,6 +50,7 @@ read-spec =
     read-arguments-requires
     read-iteration-requires
     read-staging-requires
-    element-copy-out-t9
-    element-copy-out-t14
+    read-history-requires
+    element-copy-out-t10
+    element-copy-out-t15
     returns)
