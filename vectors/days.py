@@ -64,6 +64,11 @@ BAD_READINGS = day(5, 7, (21.0, 24.5, 2.5, 0.003, 0.5, 50.0), with_odd(
 RKMC2 = day(6, 32, (22.0, 26.0, 60.0, 0.004, 6e-5, 50.0), with_odd(
     readings(4, 3300.0, 340, 1245),
     {12: -7.5, 250: 5e-324, 640: math.nan, 641: -math.inf, 1000: math.inf}))
+# The two-step method: each minute but the first goes on from the step before; after the minute that the engine refuses (a finite and huge reading) it begins
+# without a history again, and bad readings leave it.
+TSRKC2 = day(7, 12, (23.0, 27.0, 4.0, 0.003, 4e-5, 48.0), with_odd(
+    readings(5, 3100.0, 335, 1250),
+    {0: -2.5, 90: math.nan, 91: math.inf, 500: 1.7e308, 1100: -math.inf}))
 
 
 def texts():
@@ -78,7 +83,7 @@ def texts():
     return {
         "empty": "",
         "family_0": headed(0, "0"),
-        "family_7": headed(0, "7"),
+        "family_8": headed(0, "8"),
         "family_with_zero": headed(0, "03"),
         "n_0": headed(1, "0"),
         "n_513": headed(1, "513"),
@@ -105,6 +110,6 @@ def write(path, text):
 
 if __name__ == "__main__":
     write("crates/day/stdin", RKL2)
-    days = {"rkl2": RKL2, "rkc": RKC, "nan_at_120": NAN_AT_120, "bad_readings": BAD_READINGS, "rkmc2": RKMC2}
+    days = {"rkl2": RKL2, "rkc": RKC, "nan_at_120": NAN_AT_120, "bad_readings": BAD_READINGS, "rkmc2": RKMC2, "tsrkc2": TSRKC2}
     for name, text in {**days, **texts()}.items():
         write("crates/days/data/" + name, text)

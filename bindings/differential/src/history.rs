@@ -17,7 +17,7 @@ const USUAL: &str = "q from 0.1 to 10";
 const LARGE: &str = "q above 10";
 const SMALL: &str = "q below 0.1";
 const NEGATIVE: &str = "q negative";
-const UNROUNDED: &str = "q from 2^52 on";
+const BEYOND: &str = "q from 2^52 on";
 const HUGE: &str = "q beyond 1e290";
 const TINY: &str = "q within 1e-290";
 const ZERO: &str = "q 0 by underflow";
@@ -33,7 +33,7 @@ fn kind(q: Option<f64>) -> &'static str {
         size if size > 1e290 => HUGE,
         size if size < 1e-290 => TINY,
         _ if q < 0.0 => NEGATIVE,
-        size if size >= (1u64 << 52) as f64 => UNROUNDED,
+        size if size >= (1u64 << 52) as f64 => BEYOND,
         size if size > 10.0 => LARGE,
         size if size < 0.1 => SMALL,
         _ => USUAL,
@@ -44,21 +44,23 @@ const FINISHED: &str = "finished attempts";
 const BAD_CANDIDATE: &str = "ended with 10";
 
 /// What every run reaches beside the Rust, by q and ending.
-const WANTED: [(&str, &str); 20] = [
+const WANTED: [(&str, &str); 22] = [
     (NONE, FINISHED),
     (NONE, BAD_CANDIDATE),
     (NONE, TOO_MANY),
     (USUAL, FINISHED),
     (USUAL, BAD_CANDIDATE),
     (USUAL, TOO_MANY),
+    (USUAL, "abandoned"),
+    (USUAL, "left for a start in the middle"),
     (LARGE, FINISHED),
     (LARGE, TOO_MANY),
     (SMALL, FINISHED),
     (SMALL, TOO_MANY),
     (NEGATIVE, FINISHED),
     (NEGATIVE, TOO_MANY),
-    (UNROUNDED, FINISHED),
-    (UNROUNDED, TOO_MANY),
+    (BEYOND, FINISHED),
+    (BEYOND, TOO_MANY),
     (HUGE, BAD_CANDIDATE),
     (HUGE, TOO_MANY),
     (TINY, FINISHED),
@@ -423,8 +425,7 @@ const FAR: f64 = f64::from_bits((1023 + 500) << 52);
 /// 2^52 + 1, the least q whose bracket in the stage rule is 0.
 const EDGE: f64 = ((1u64 << 52) + 1) as f64;
 
-/// Two steps far apart, the first accepted, and r and the ending of the second. "Any q goes on as IEEE 754 says: negative,
-/// subnormal, 0 by underflow, infinite."
+/// Two steps far apart, the first accepted, and r and the ending of the second: every q goes on as IEEE 754 says.
 const FARS: [(&str, [f64; 2], R, End); 17] = [
     ("q 2^52", [(EDGE - 1.0) * FAR, FAR], R::Infinite, End::Many),
     ("q 2^52 + 1", [EDGE * FAR, FAR], R::Infinite, End::Least),

@@ -85,7 +85,7 @@ pub fn stands(number: u64) -> bool {
 const VECTORS: usize = 11;
 const LIMIT: u64 = u64::MAX;
 
-/// "Its area is 12 × n", TSRKC2's; that of the others 11 × n.
+/// In family 7 "its area is 12 × n", in the others 11 × n.
 fn vectors_of(family: u64) -> u64 {
     if family == TSRKC2 { 12 } else { 11 }
 }
@@ -456,12 +456,12 @@ fn settled(held: &Held, call: &Call, given: &Given) -> Settled {
     s
 }
 
-/// In TSRKC2 the kept state and the step are the history.
+/// In TSRKC2 the kept state and the step are the history. A number that says so already stands.
 fn settle_accept(s: &mut Settled, record: Record, n: usize) {
     s.answer = Some(without_values(code::READY));
     s.record = with_phase(record, phase::READY);
     if record.wholes.family == TSRKC2 {
-        s.record.wholes.history = 1;
+        s.record.wholes.history = record.wholes.history.max(1);
         s.record.doubles.previous_accepted_step = record.doubles.step;
         s.copy(vector::STATE, vector::OLDER_STATE, n);
     }

@@ -94,8 +94,8 @@ pub fn stages_for(family: u64, scaled_radius: f64) -> u64 {
     stages as u64
 }
 
-/// TSRKC2's: "The saturating cast, plus 1 without overflow", and at least 2. Nothing "when family 7 would need more than 1000
-/// stages". r is not limited below by 0, and a NaN is cast to 0.
+/// TSRKC2's: the number of the Rust's formula, whose sum does not overflow here, and at least 2. Nothing "when family 7 would need
+/// more than 1000 stages". r is not limited below by 0, and a NaN is cast to 0.
 pub fn two_step_stages(scaled_radius: f64, q: f64) -> Option<u64> {
     let bracket = 1.0 - q + (1.0 + q * (q - 0.598_626_091_572_911)).sqrt();
     let root = (1.0 + 0.759_782_816_506_459 * scaled_radius * bracket).sqrt();
@@ -111,7 +111,7 @@ pub fn count_for(family: u64, scaled_radius: f64, q: f64) -> Option<u64> {
     }
 }
 
-/// "q is the last accepted step over the present one, or 0 without history."
+/// "q, the last accepted step divided by the present one, or 0 without history."
 pub fn quotient(previous_step: Option<f64>, step: f64) -> f64 {
     previous_step.map_or(0.0, |previous| previous / step)
 }
@@ -464,7 +464,7 @@ impl Stated {
         }
     }
 
-    /// "Without history the previous state is the state itself."
+    /// "`previous_accepted_state`, or the state itself."
     fn with_older(&mut self, gain: f64) {
         let [state, last] = [vector::STATE, vector::NEXT_STAGE].map(|of| &self.vectors[of]);
         let older = self.history.as_ref().map_or(state, |kept| &kept.state);

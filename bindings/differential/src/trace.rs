@@ -1,6 +1,6 @@
 //! Calls and what they left, written down as words for the program `replay`, whose src/trace.rt has the layout.
 use crate::refusals::{Call, Given, Held, Kept};
-use stabilized::calls::{Answer, Counters, code};
+use stabilized::calls::{Answer, Counters, Record, code};
 
 /// What is written so far.
 #[derive(Default)]
@@ -32,8 +32,38 @@ fn time_or_norm(answer: &Answer) -> f64 {
     }
 }
 
-/// Stands beside the bits of the vectors, where the record's s, k and r are not as before.
+/// Whether there is a history, and its step.
+fn history(record: &Record) -> [u64; 2] {
+    let present = record.wholes.history != 0;
+    let step = record.doubles.previous_accepted_step;
+    [u64::from(present), bits(step)]
+}
+
+/// Stand beside the bits of the vectors, where the record's s, k and r, and where its history, are not as before.
 const KEPT: u64 = 1 << 16;
+const HISTORY: u64 = 1 << 17;
+
+/// What a call leaves in the record, where it is not as before.
+#[derive(Default)]
+struct Moved {
+    kept: Option<[u64; 3]>,
+    history: Option<[u64; 2]>,
+}
+
+impl Moved {
+    fn between(before: &Record, after: &Record) -> Self {
+        let kept = [before, after].map(|record| three(&Kept::in_record(record)));
+        let histories = [before, after].map(history);
+        Self {
+            kept: (kept[0] != kept[1]).then_some(kept[1]),
+            history: (histories[0] != histories[1]).then_some(histories[1]),
+        }
+    }
+
+    fn marks(&self) -> u64 {
+        self.kept.map_or(0, |_| KEPT) + self.history.map_or(0, |_| HISTORY)
+    }
+}
 
 impl Trace {
     fn doubles(&mut self, values: &[f64]) {
@@ -45,8 +75,8 @@ impl Trace {
         self.doubles(values);
     }
 
-    /// The vectors that are not as before, and the record's s, k and r if they are not.
-    fn left(&mut self, before: &[f64], after: &[f64], kept: Option<[u64; 3]>) {
+    /// The vectors that are not as before, and what of the record is not.
+    fn left(&mut self, before: &[f64], after: &[f64], moved: &Moved) {
         let both = before.chunks(self.n).zip(after.chunks(self.n));
         let differ = |(before, after): (&[f64], &[f64])| {
             let mut entries = before.iter().zip(after);
@@ -55,7 +85,7 @@ impl Trace {
         let changed: Vec<bool> = both.map(differ).collect();
         let vectors = changed.iter().enumerate();
         let vectors: u64 = vectors.map(|(at, changed)| u64::from(*changed) << at).sum();
-        self.words.push(vectors + kept.map_or(0, |_| KEPT));
+        self.words.push(vectors + moved.marks());
         for (vector, _) in after
             .chunks(self.n)
             .zip(changed)
@@ -63,7 +93,8 @@ impl Trace {
         {
             self.doubles(vector);
         }
-        self.words.extend(kept.into_iter().flatten());
+        self.words.extend(moved.kept.into_iter().flatten());
+        self.words.extend(moved.history.into_iter().flatten());
     }
 
     /// A session begins, with the default record, which holds zeros, and the room that its areas are part of.
@@ -75,7 +106,7 @@ impl Trace {
             counters.evaluations,
             counters.finished_attempts,
         ]);
-        self.left(&vec![0.0; room.len()], room, None);
+        self.left(&vec![0.0; room.len()], room, &Moved::default());
     }
 
     /// A call, and what it answered and left.
@@ -96,9 +127,8 @@ impl Trace {
         if answer.code == code::FINISHED {
             self.words.extend(three(&Kept::in_answer(answer)));
         }
-        let [before, after] =
-            [held.record, given.outcome.record].map(|record| three(&Kept::in_record(&record)));
-        self.left(held.area, given.area, (after != before).then_some(after));
+        let moved = Moved::between(&held.record, &given.outcome.record);
+        self.left(held.area, given.area, &moved);
     }
 
     fn brought(&mut self, call: &Call) {

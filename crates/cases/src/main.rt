@@ -38,7 +38,7 @@ fn legendre_two_figures() {
     let three = coefficients::row_coefficients(family::without_history(3), 3, 3, c);
     print_figure(
         b"RKL2 s = 3, omega_one, 2/5",
-        coefficients::omega_one(3, 3),
+        coefficients::omega_one(family::without_history(3), 3),
         2.0 / 5.0,
     );
     print_figure(b"stage 2, mu, 3/2", two.mu, 3.0 / 2.0);
@@ -64,7 +64,7 @@ fn interval_agrees(s: u64) -> bool {
     let x = ieee::double_of(s);
     let figure = 2.0 / 3.0 * (x * x - 1.0) * (1.0 - 2.0 / 15.0 * (2.0 / 13.0));
     near(
-        (p.value_previous + 1.0) / coefficients::omega_one(1, s),
+        (p.value_previous + 1.0) / coefficients::omega_one(family::without_history(1), s),
         figure,
         400.0,
     )
@@ -94,13 +94,14 @@ fn time_agrees(s: u64, j: u64, theta: f64) -> bool {
 fn times_of(s: u64, before: Tally) -> Tally
     requires { ⌜ (2 ≤ s) × (s < 2 ^ 16) ⌝ }
 {
+    let setting = family::without_history(1);
     let mut t = before;
-    let mut c = coefficients::first_recurrence(family::without_history(1), s);
+    let mut c = coefficients::first_recurrence(setting, s);
     let mut j: u64 = 2;
     while j <= s {
-        let row = coefficients::row_coefficients(family::without_history(1), s, j, c);
+        let row = coefficients::row_coefficients(setting, s, j, c);
         t = stored::tallied(t, time_agrees(s, j, row.theta));
-        c = coefficients::next_recurrence(family::without_history(1), c, row);
+        c = coefficients::next_recurrence(setting, c, row);
         j += 1;
     }
     t
@@ -122,12 +123,12 @@ fn times() -> Tally {
 fn reach_agrees(s: u64) -> bool {
     let x = ieee::double_of(s);
     let one = near(
-        2.0 / coefficients::omega_one(2, s),
+        2.0 / coefficients::omega_one(family::without_history(2), s),
         x * x + x,
         4503599627370496.0,
     );
     let two = near(
-        2.0 / coefficients::omega_one(3, s),
+        2.0 / coefficients::omega_one(family::without_history(3), s),
         (x * x + x - 2.0) / 2.0,
         4503599627370496.0,
     );

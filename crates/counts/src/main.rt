@@ -1,4 +1,4 @@
-// The stage counts of all families, held against the Rust's over stored radii: each threshold and its neighbors within 8 units in the last place, random,
+// The stage counts of families 1 to 6, held against the Rust's over stored radii: each threshold and its neighbors within 8 units in the last place, random,
 // subnormal, huge and infinite radii, NaNs and negatives. data/counts was written by the Rust, RKG's formulas being those of document 02, CR 5
 // (bindings/oracle/src/bin/counts.rs): for each radius a word with its bits, and two words with the counts of families 1 to 4 and 5 to 8, two bytes a family,
 // the lowest the first's (0 for a family that is not carried).

@@ -1,5 +1,5 @@
-// The texts that the arguments name, each with what is written of it as a day; at the end a line for each minute of three of
-// them, the first, the fourth and the fifth.
+// The texts that the arguments name, each with what is written of it as a day; at the end a line for each minute of four of
+// them, the first, the fourth, the fifth and the sixth.
 // The longest day is 24,588 bytes, and the first bad line of a longer text is among its first 65,536.
 use libc::STDOUT_FILENO;
 
@@ -34,4 +34,5 @@ fn main() {
     write_text(1, true);
     write_text(4, true);
     write_text(5, true);
+    write_text(6, true);
 }

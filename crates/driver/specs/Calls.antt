@@ -402,6 +402,10 @@ abandon-tests r area =
 
 -- ---- the calls
 
+-- the vectors that a start leaves
+unfoldable pub start-vectors : ℕ → List Float → Vectors → Vectors
+start-vectors n y v = v with state ≔ y with eigenvector ≔ replicate n nought
+
 -- allowed in every phase; what it does not bring stands in the record too, but for the history
 unfoldable pub start : Held → ℕ → ℕ → List Float → Float → Called
 start h f n y t = guarded h (start-tests f n (h .area) y t) (record {
@@ -409,7 +413,7 @@ start h f n y t = guarded h (start-tests f n (h .area) y t) (record {
   held = record {
     kept = first-at P.First f n t (h .kept);
     counters = h .counters;
-    area = pack (unpack n (h .area) with state ≔ y with eigenvector ≔ replicate n nought);
+    area = pack (start-vectors n y (unpack n (h .area)));
   };
 })
 

@@ -1,11 +1,11 @@
 -- The counts of an infinite r, of what counts as 0, of RKC: in 2 to 200, and 200 where the root reaches 2 ^ 64; of RKMC2: in 3 to 1000, 3 for a NaN and 1000
 -- for an infinite r; and of TSRKC2: in 2 to 1000, 2 for a NaN, and the number before limits itself wherever the need is not refused. Assumes nothing.
 -- ⊕ ⊖ ⊗ are operations on doubles: they round.
-use mathlib.Core.Path.{_≡_, refl, sym, ap, _∙_}
+use mathlib.Core.Path.{_≡_, refl, sym, ap, _∙_, subst}
 use Prim.Native.Nat.{ℕ, _+_, _-_, _*_, _^_, _≤_, _<_, max}
 use native.Mathlib.Nat.{le-div-iff-mul-le, mul-le-mul-right}
 use native.Mathlib.Omega.{arith}
-use mathlib.Core.Bool.{Bool, true, false, _&&_, cond, true≢false}
+use mathlib.Core.Bool.{Bool, true, false, _&&_, cond}
 use lib.IntN.{pos}
 use lib.Dec.{T, ltb, eqb, eqb→eq, lit≤, lit<}
 use lib.Ieee.{Float, nan, inf, fin, binary64, up, down, lt, le, toUnsigned, add, sub, mul, round, ofBits}
@@ -27,7 +27,7 @@ use Rattle.family.proofs.Limits.{limited-largest}
 use Rattle.family.proofs.Counts.{stage-count-permitted}
 
 -- ---- an infinite r gives the largest, but in TSRKC2, which refuses more than the largest
-pub infinite-count : (f : Family) (q : Float) → facts-of f .«refuses_more» ≡ false → stage-count f q (inf false) ≡ largest-count f
+pub infinite-count : (f : Family) (q : Float) → (f ≡ TSRKC2 → ⊥) → stage-count f q (inf false) ≡ largest-count f
 unfolding stage-count before-limits limited odd-step odd-only smallest-count largest-count Whole.max lt nearest add sub mul sqrt floor ceil toUnsigned
     by-rule radius-for facts-of smallest threshold ofBits le
 infinite-count RKC q h = refl
@@ -36,10 +36,10 @@ infinite-count RKL2 q h = refl
 infinite-count RKG1 q h = refl
 infinite-count RKG2 q h = refl
 infinite-count RKMC2 q h = refl
-infinite-count TSRKC2 q h = absurd (true≢false h)
+infinite-count TSRKC2 q h = absurd (h refl)
 
 -- ---- a NaN and what is below 0 count as 0, but in TSRKC2
-from-zero : (f : Family) (r : Float) → facts-of f .«refuses_more» ≡ false → radius-for (facts-of f .rule) r ≡ Whole.max r nought
+from-zero : (f : Family) (r : Float) → (f ≡ TSRKC2 → ⊥) → radius-for (facts-of f .rule) r ≡ Whole.max r nought
 unfolding facts-of radius-for
 from-zero RKC r h = refl
 from-zero RKL1 r h = refl
@@ -47,18 +47,18 @@ from-zero RKL2 r h = refl
 from-zero RKG1 r h = refl
 from-zero RKG2 r h = refl
 from-zero RKMC2 r h = refl
-from-zero TSRKC2 r h = absurd (true≢false h)
+from-zero TSRKC2 r h = absurd (h refl)
 
-counted-as : (f : Family) (q r x : Float) → facts-of f .«refuses_more» ≡ false → Whole.max r nought ≡ Whole.max x nought
+counted-as : (f : Family) (q r x : Float) → (f ≡ TSRKC2 → ⊥) → Whole.max r nought ≡ Whole.max x nought
     → stage-count f q r ≡ stage-count f q x
 unfolding stage-count
 counted-as f q r x h e = ap (λ (z : Float). limited f (before-limits f q z)) (from-zero f r h ∙ e ∙ sym (from-zero f x h))
 
-pub nan-count : (f : Family) (q : Float) → facts-of f .«refuses_more» ≡ false → stage-count f q nan ≡ stage-count f q nought
+pub nan-count : (f : Family) (q : Float) → (f ≡ TSRKC2 → ⊥) → stage-count f q nan ≡ stage-count f q nought
 unfolding Whole.max lt
 nan-count f q h = counted-as f q nan nought h refl
 
-pub negative-count : (f : Family) (q r : Float) → facts-of f .«refuses_more» ≡ false → lt r nought ≡ true → stage-count f q r ≡ stage-count f q nought
+pub negative-count : (f : Family) (q r : Float) → (f ≡ TSRKC2 → ⊥) → lt r nought ≡ true → stage-count f q r ≡ stage-count f q nought
 unfolding Whole.max lt
 negative-count f q r one-step h = counted-as f q r nought one-step (go r h)
   where
@@ -91,7 +91,16 @@ pub tsrkc2-exceeds : (q r : Float) → exceeds TSRKC2 q r ≡ true → 1000 < nu
 unfolding exceeds largest-count facts-of
 tsrkc2-exceeds q r e = ltb-true 1000 (number-of-stages TSRKC2 q r) e
 
--- no other family keeps an older state, and none refuses a need
+-- an infinite r without a history is refused
+pub tsrkc2-infinite : exceeds TSRKC2 nought (inf false) ≡ true
+unfolding exceeds before-limits largest-count nearest add sub mul sqrt floor toUnsigned by-rule radius-for facts-of
+tsrkc2-infinite = refl
+
+-- it keeps an older state; no other family does, and none refuses a need
+pub tsrkc2-keeps : keeps-older TSRKC2 ≡ true
+unfolding keeps-older facts-of
+tsrkc2-keeps = refl
+
 pub only-tsrkc2 : (f : Family) → (f ≡ TSRKC2 → ⊥) → (keeps-older f ≡ false) × ((q r : Float) → exceeds f q r ≡ false)
 unfolding keeps-older exceeds facts-of
 only-tsrkc2 RKC h = (refl, λ q r. refl)
@@ -145,4 +154,13 @@ rkmc2-nan q = refl
 
 pub rkmc2-infinite : (q : Float) → stage-count RKMC2 q (inf false) ≡ 1000
 unfolding largest-count facts-of
-rkmc2-infinite q = infinite-count RKMC2 q refl
+rkmc2-infinite q = infinite-count RKMC2 q (λ e. subst other e tt)
+  where
+    other : Family → Type 0
+    other RKC = Unit {0}
+    other RKL1 = Unit {0}
+    other RKL2 = Unit {0}
+    other RKG1 = Unit {0}
+    other RKG2 = Unit {0}
+    other RKMC2 = Unit {0}
+    other TSRKC2 = ⊥

@@ -11,7 +11,7 @@ pub struct Comparison {
     pub entries: u64,
 }
 
-// What is right of a call: its answer, the counts, and s, k and r in the record.
+// What is right of a call: its answer, the counts, and s, k, r and the history in the record.
 pub struct Right {
     pub answer: bool,
     pub counts: bool,
@@ -152,7 +152,7 @@ pub fn print(comparison: Comparison, seen: &[u64; 280]) {
     number(comparison.counts);
     say(b" counts, ");
     number(comparison.records);
-    say(b" records in s, k or r, ");
+    say(b" records in s, k, r or the history, ");
     number(comparison.entries);
     say(b" doubles of areas differ\n");
 }

@@ -1,6 +1,6 @@
 // Sessions with the engine, made again call by call from traces of the Rust: every answer, count, point and vector is to be the
-// Rust's, bit for bit; in every finished answer s, k and r are the Rust's; after every call the record's three are those of the
-// trace. data/traces was written by bindings/differential/src/bin/sample.rs; docs/VECTORS.md tells of which build of the Rust,
+// Rust's, bit for bit; in every finished answer s, k and r are the Rust's; after every call the record's three and its history
+// are those of the trace. data/traces was written by bindings/differential/src/bin/sample.rs; docs/VECTORS.md tells of which build of the Rust,
 // and where the definition stands in for it.
 ghost use Prim.Native.Nat.{_≤_};
 use calls::Made;
@@ -8,22 +8,26 @@ use comparison::Comparison;
 use comparison::Right;
 use driver::Answer;
 use driver::Counters;
+use driver::History;
 use driver::Record;
 use kept::Kept;
 
 mod calls;
 mod comparison;
+mod history;
 mod kept;
 mod trace;
 mod vectors;
 
-// Where a session stands: the next word, n, what the engine is handed, and what its record is to hold of s, k and r.
+// Where a session stands: the next word, n, what the engine is handed, and what its record is to hold: s, k and r, and the
+// history.
 pub struct Session {
     pub at: usize,
     pub n: usize,
     pub record: Record,
     pub counters: Counters,
     pub kept: Kept,
+    pub history: History,
     pub comparison: Comparison,
 }
 
@@ -105,6 +109,7 @@ fn begun(
         record: driver::new_record(),
         counters,
         kept: kept::zeros(),
+        history: history::none(),
         comparison: comparison::with_session(comparison),
     }
 }
@@ -117,13 +122,20 @@ fn area_at(s: &[u8], at: usize) -> usize {
     trace::on(at, 5)
 }
 
-// Held against what stands after the call, and what the record is to hold of s, k and r.
-fn right_of(s: &[u8], made: Made, kept: Kept) -> Right {
+fn right_record(record: Record, kept: Kept, history: History) -> bool {
+    if !kept::same(kept::of_record(record), kept) {
+        return false;
+    }
+    history::same(record.history, history)
+}
+
+// Held against what stands after the call, and what the record is to hold.
+fn right_of(s: &[u8], made: Made, kept: Kept, history: History) -> Right {
     let answer = made.answer;
     Right {
         answer: right_answer(s, made.at, answer),
         counts: right_counters(s, trace::on(made.at, 3), made.counters),
-        record: kept::same(kept::of_record(made.record), kept),
+        record: right_record(made.record, kept, history),
     }
 }
 
@@ -143,15 +155,18 @@ fn compared(
     let left = area_at(s, made.at);
     let next = vectors::follow(s, left, session.n, expected);
     let kept = kept::left(s, left, next, session.kept);
-    let right = right_of(s, made, kept);
+    let then = kept::after(s, left, next);
+    let history = history::left(s, left, then, session.history);
+    let right = right_of(s, made, kept, history);
     let differ = vectors::differing(area, expected);
     comparison::count(seen, call, kind(answer));
     Session {
-        at: kept::after(s, left, next),
+        at: history::after(s, left, then),
         n: session.n,
         record,
         counters,
         kept,
+        history,
         comparison: comparison::with_call(session.comparison, right, differ, area.len()),
     }
 }
@@ -180,6 +195,14 @@ fn least(a: usize, b: usize) -> usize
     b
 }
 
+// The family whose area a call is lent: the one that a start brings, else the record's.
+fn family_of(s: &[u8], call: u64, at: usize, record: Record) -> u64 {
+    if call == 1 {
+        return stored::word(s, at);
+    }
+    record.family
+}
+
 // The next record of the trace: a session begun, or a call.
 fn next_record(
     s: &[u8],
@@ -194,8 +217,9 @@ fn next_record(
     if call == 0 {
         return begun(s, at, session.comparison, area, expected);
     }
+    let family = family_of(s, call, at, session.record);
     let end = least(
-        vectors::COUNT * least(session.n, 512),
+        workspace::vector_count(family) * least(session.n, 512),
         least(area.len(), expected.len()),
     );
     let mut on = session;
@@ -228,6 +252,7 @@ fn sessions(
             finished_attempts: 0,
         },
         kept: kept::zeros(),
+        history: history::none(),
         comparison: comparison::none(),
     };
     let mut left = s.len() / 8;

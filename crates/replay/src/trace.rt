@@ -12,7 +12,9 @@
 // finished answer also s, k and the scaled radius; and the area. An area is a word with a bit for each vector that is not as it
 // was before (at the beginning of a session: not zero), the lowest for vector 0, and those vectors. Where bit 16 of that word is
 // set, the record's s, k and scaled radius are not as they were before the call (before the first: 0), and stand after the
-// vectors. The area at the beginning of a session has no bit 16.
+// vectors. Where bit 17 is set, the record's history is not as it was before the call (before the first: absent, and its step
+// 0): after all else stand 1 where there is one, else 0, and its step. The area at the beginning of a session has neither bit,
+// and all twelve vectors; a call is lent those of the family that it brings (start) or that is its record's.
 
 pub fn on(at: usize, by: usize) -> usize {
     std::num::wrapping_add_usize(at, by)

@@ -1,8 +1,8 @@
 // The area as the Rust left it, beside the engine's.
 use crate::trace;
 
-// How many vectors a trace has of an area, and how many doubles that are at most.
-pub const COUNT: usize = 11;
+// How many vectors the largest area has, and how many doubles that are at most.
+pub const COUNT: usize = 12;
 
 pub const LARGEST_AREA: usize = COUNT * 512;
 

@@ -112,7 +112,7 @@ concludes h calls x s t z =
       suits = p .suits;
       evaluations-are = (let e = t .underway .evaluations-are in let e′ = p .replies-are in omega arith);
       attempts-are = p .attempts-are;
-      largest-at-infinity = λ cut e. stages ∙ ap (stage-count f q) e ∙ infinite-count f q cut;
+      largest-at-infinity = λ other e. stages ∙ ap (stage-count f q) e ∙ infinite-count f q other;
       demand-three = λ g is. demanded g q r (stages-of (x .held)) (p .suits .not-negative) (stages ∙ ap (λ (f : Family). stage-count f q r) is);
       record-holds = record { stages-held = refl; passes-held = refl; radius-held = refl };
     }

@@ -1,7 +1,7 @@
 -- The theorems over the calls, in reading order, each with its sentence; the statements are in specs/.
 
 -- An attempt that is taken, and replies of n doubles each for which the counters have room, give the evaluations of the attempt in one piece and its end:
--- `run`. Where that is finished it is so after s + k replies, and the candidate is the last stage, in RKMC2 the combination (`finished`); k is from 1 to 12,
+-- `run`. Where that is finished it is so after s + k replies, and the candidate is the last stage, in RKMC2 and TSRKC2 their combination (`finished`); k is from 1 to 12,
 -- and each reply but the last is answered by a further evaluation (`took`).
 pub mod Theorem
 -- Where the counters lack room the attempt is the same up to the reply that is turned away with 8, and stays there: `evaluations-lack`, `attempts-lack`.
@@ -10,7 +10,7 @@ pub mod Room
 pub mod Always
 -- After a finished attempt: another without a call between, as after a rejection, and an accept: `again`, `accepts`.
 pub mod Sequel
--- An attempt depends on the kept state, the first derivative, the eigenvector and, with a history, the older state alone: `depends`.
+-- Under one setting an attempt depends on the kept state, the first derivative, the eigenvector and, with a history, the older state alone: `depends`.
 pub mod Depends
 -- From a start that is taken on, any list of calls shows what the session of specs/Session shows, which is the Rust's kernel in direct style but for the
 -- listed differences and begins with zeros: `every-sequence`.

@@ -9,7 +9,8 @@ use lib.ListN.{length, length-replicate, replicate}
 use lib.Ieee.{Float}
 use lib.Ieee.Scale.{finite}
 use Rattle.ieee.specs.Double.{nought}
-use Rattle.family.specs.Family.{Family, keeps-older}
+use Rattle.family.specs.Family.{Family, family-of, keeps-older, facts-of}
+use Rattle.family.proofs.Numbers.{seven-alone}
 use Rattle.workspace.specs.Vectors.{Vector, Vectors, _with_≔_, unpack, pack, all-finite, first-derivative, last-derivative, eigenvector, state, candidate}
 use Rattle.workspace.specs.Vectors.{number, derivative, previous-two, previous-one, next-stage, perturbed-state, perturbed-derivative, older-state}
 use Rattle.workspace.proofs.Areas.{unpack-pack, long-with}
@@ -109,29 +110,40 @@ module _ (h : Held) (q : taken (accept h .answer) ≡ true) where
       long-with F (h .kept .n) (v with first-derivative ≔ v last-derivative) state (v candidate)
       (long-with F (h .kept .n) v first-derivative (v last-derivative) long-v (long-v last-derivative)) (long-v candidate)
 
+  -- the family that keeps an older state is the seventh
+  kept-by : (k : ℕ) → keeps-older (family-of k) ≡ eqb k 7
+  unfolding keeps-older facts-of
+  kept-by k = seven-alone keeps-older refl refl refl refl refl refl k ∙ go (eqb k 7)
+    where
+      go : (t : Bool) → t && true ≡ t
+      go true = refl
+      go false = refl
+
   -- the history after it, where the session had the history x and the attempt this step: that of the attempt, or as it was
-  record Taken-on (x : Previous-step) (step : Float) (o : Finished-attempt) (t : Bool) : Type 0 where
+  record Taken-on (x : Previous-step) (step : Float) (o : Finished-attempt) (t u : Bool) : Type 0 where
     remembered : Remembers (cond t (record { present = true; «previous_accepted_step» = h .kept .arguments .step }) (h .kept .history))
-        (cond t (some-step step) x)
+        (cond u (some-step step) x)
     others : (b : Vector) → eqb (number older-state) (number b) ≡ false
         → cond t (unpack (h .kept .n) (h .area) with older-state ≔ unpack (h .kept .n) (h .area) state) (unpack (h .kept .n) (h .area)) b
         ≡ unpack (h .kept .n) (h .area) b
     others-too : (b : Vector) → eqb (number older-state) (number b) ≡ false
-        → cond t (o .vectors with older-state ≔ o .vectors state) (o .vectors) b ≡ o .vectors b
-    older : is-some (cond t (some-step step) x) ≡ true
+        → cond u (o .vectors with older-state ≔ o .vectors state) (o .vectors) b ≡ o .vectors b
+    older : is-some (cond u (some-step step) x) ≡ true
         → cond t (unpack (h .kept .n) (h .area) with older-state ≔ unpack (h .kept .n) (h .area) state) (unpack (h .kept .n) (h .area)) older-state
-        ≡ cond t (o .vectors with older-state ≔ o .vectors state) (o .vectors) older-state
+        ≡ cond u (o .vectors with older-state ≔ o .vectors state) (o .vectors) older-state
 
   taken-on : (x : Previous-step) (step : Float) (o : Finished-attempt) → Remembers (h .kept .history) x → h .kept .arguments .step ≡ step
-      → Same-vectors (is-some x) (unpack (h .kept .n) (h .area)) (o .vectors) → (t : Bool) → Taken-on x step o t
+      → Same-vectors (is-some x) (unpack (h .kept .n) (h .area)) (o .vectors) → (t u : Bool) → t ≡ u → Taken-on x step o t u
   unfolding Remembers is-some
-  taken-on x step o rem same-step same true = record {
+  taken-on x step o rem same-step same true true e = record {
     remembered = (refl, same-step);
     others = λ b e. rw e;
     others-too = λ b e. rw e;
     older = λ e. same state refl;
   }
-  taken-on x step o rem same-step same false = record {
+  taken-on x step o rem same-step same true false e = absurd (differ (sym e))
+  taken-on x step o rem same-step same false true e = absurd (differ e)
+  taken-on x step o rem same-step same false false e = record {
     remembered = rem;
     others = λ b e. refl;
     others-too = λ b e. refl;
@@ -173,8 +185,8 @@ module _ (h : Held) (q : taken (accept h .answer) ≡ true) where
         );
       })
         where
-          on : Taken-on x step o (keeps-older (its-family (h .kept)))
-          on = taken-on x step o rem same-step same (keeps-older (its-family (h .kept)))
+          on : Taken-on x step o (keeps-older (its-family (h .kept))) (eqb (h .kept .family) 7)
+          on = taken-on x step o rem same-step same (keeps-older (its-family (h .kept))) (eqb (h .kept .family) 7) (kept-by (h .kept .family))
 
           after-accept : ℕ → Session
           after-accept f = record { family = f; n = σ .n; doing = within (accept-step f x step (o .vectors)); counts = σ .counts }

@@ -13,7 +13,7 @@ use Rattle.workspace.specs.Vectors.{Vectors, _with_≔_, unpack, all-finite, fi
 use Rattle.workspace.proofs.Areas.{Long, unpack-pack, long-with}
 use Rattle.driver.specs.declared.Phase.the-variants as P
 use Rattle.driver.specs.Calls.{Held, in-phase, at-time, first-at, take-first, replied, sized, whole-area, as-long, pending, in-range, awaiting, finishes}
-use Rattle.driver.specs.Calls.{start, Start, taken, first-failing, decide, guarded, start-tests}
+use Rattle.driver.specs.Calls.{start-vectors, start, Start, taken, first-failing, decide, guarded, start-tests}
 use Rattle.driver.proofs.Ladder.{each-passes}
 use Rattle.session.specs.Attempt.{_>>=_, evaluate}
 use Rattle.session.specs.Session.{evaluates, answer-shown, initialize, Session, session-after, doing-shown}
@@ -56,7 +56,7 @@ module _ (h : Held) (f n : ℕ) (y : List Float) (t : Float) (q : taken (start h
       (long-with (family-of f) n (unpack n (h .area)) state y (long-area f n (h .area) whole) long) (length-replicate n nought)
 
   pub start-good : (σ : Session) → h .counters ≡ σ .counts → Good (session-after σ (Start f n y t)) (start h f n y t)
-  unfolding start start-tests guarded decide first-failing session-after initialize Does first-at at-time pending in-range awaiting finishes
+  unfolding start start-vectors start-tests guarded decide first-failing session-after initialize Does first-at at-time pending in-range awaiting finishes
       answer-shown doing-shown evaluate _>>=_ replied take-first in-phase v
   start-good σ cs = rw (passed .family-known, passed .n-sized, passed .lengths-good, passed .state-finite, passed .time-finite) (record {
     shown-is = ap (λ (w : Vectors). evaluates t (w state)) (unpack-pack (family-of f) n v long-v);
@@ -69,7 +69,7 @@ module _ (h : Held) (f n : ℕ) (y : List Float) (t : Float) (q : taken (start h
   })
 
   pub start-area : length (start h f n y t .held .area) ≡ length (h .area)
-  unfolding start start-tests guarded decide first-failing v
+  unfolding start start-vectors start-tests guarded decide first-failing v
   start-area = rw (
     passed .family-known,
     passed .n-sized,

@@ -2,15 +2,15 @@
 -- behind its list (Guards), for a reply also from the tests of its phase; the list that the call goes by is the one spelled in Refusals by computation.
 use mathlib.Core.Path.{_≡_, refl, sym, ap, _∙_, subst}
 use mathlib.Core.Logic.{_↔_}
-use mathlib.Core.Bool.{Bool, true, false, cond, not, _&&_, _||_}
+use mathlib.Core.Bool.{Bool, true, false, cond, not, true≢false, _&&_, _||_}
 use mathlib.Core.List.{List, [], _∷_, _++_}
 use Prim.Native.Nat.{ℕ, _+_, _≤_, _-_, _^_}
 use native.Mathlib.Omega.{arith}
 use lib.Dec.{ltb, eqb}
 use borrow.Author.Tests.{le-ltb, ltb-false}
 use lib.Ieee.{Float}
-use Rattle.family.specs.declared.Setting.{Setting}
-use Rattle.family.specs.Family.{Family, family-of}
+use Rattle.family.specs.Family.{Family, family-of, stage-count, exceeds, largest-count, facts-of}
+use Rattle.family.proofs.Numbers.{seven-alone}
 use Rattle.coefficients.specs.Rows.{coefficients, next}
 use Rattle.workspace.specs.declared.Arguments.{Arguments}
 use Rattle.workspace.specs.Vectors.{Vectors, unpack, all-finite, candidate, next-stage}
@@ -19,7 +19,6 @@ use Rattle.driver.specs.declared.Phase.{Phase}
 use Rattle.driver.specs.declared.Phase.the-variants as P
 use Rattle.driver.specs.declared.Record.{Record}
 use Rattle.driver.specs.declared.Counters.{Counters}
-use Rattle.driver.specs.declared.Need.{Need}
 use Rattle.driver.specs.declared.Need.the-variants.{Met, Unmet}
 use Rattle.driver.specs.declared.Answer.{Answer}
 use Rattle.driver.specs.declared.Answer.the-variants.{Evaluate, Finished, Ready, Refused, Empty}
@@ -32,9 +31,8 @@ use Rattle.driver.specs.Calls.{take-stage, take-candidate, replied, going-on, s
 use Rattle.driver.specs.Calls.{start, attempt, reply, accept, accept-with-callback, abandon, made}
 use Rattle.driver.specs.Calls.{Call, Start, Attempt, Reply, Accept, Accept-with-callback, Abandon}
 use Rattle.driver.proofs.Ladder.{is-refused}
-use Rattle.session.specs.Refusals.{verdict-of, need-tests, pass-tests, stage-tests, replied-tests, tests-of, numbers-of, _∈_, here, later}
+use Rattle.session.specs.Refusals.{verdict-of, too-many, pass-tests, stage-tests, replied-tests, tests-of, numbers-of, _∈_, here, later}
 use Rattle.session.proofs.Numbers.{every-one, each, is-in}
-use Rattle.session.proofs.Needs.{Needed, need-holds}
 use Rattle.session.proofs.Guards.{verdict-alone, verdict-then}
 
 -- the call's answer is decided by its tests
@@ -69,15 +67,31 @@ unfolding ask-candidate
 candidate-verdict true r v e = rw e
 candidate-verdict false r v e = rw e
 
-need-verdict : (need : Need) (r : Record) (v : Vectors) (radius : Float) → verdict-of (by-need need r v radius .answer) ≡ first-failing (need-tests need)
-unfolding by-need ask-stage need-tests first-failing
-need-verdict (Met s) r v radius = refl
-need-verdict (Unmet i) r v radius = refl
+-- the engine's need exceeds exactly where the document's words say so
+exceeds-is : (r : Record) (radius : Float) → exceeds (family-of (r .family)) (setting-of r .quotient) radius ≡ too-many r radius
+unfolding too-many exceeds largest-count facts-of
+exceeds-is r radius = seven-alone (λ f. exceeds f (setting-of r .quotient) radius) refl refl refl refl refl refl (r .family)
+
+need-verdict : (r : Record) (v : Vectors) (radius : Float)
+    → verdict-of (begin-stages r v radius .answer) ≡ first-failing (11 ∶ not (too-many r radius) ∷ [])
+unfolding begin-stages stage-need by-need ask-stage first-failing
+need-verdict r v radius = go (exceeds (family-of (r .family)) q radius) (too-many r radius) (exceeds-is r radius)
+  where
+    q : Float
+    q = setting-of r .quotient
+
+    go : (t u : Bool) → t ≡ u
+        → verdict-of (by-need (cond t (Unmet 11) (Met (stage-count (family-of (r .family)) q radius))) r v radius .answer)
+        ≡ cond (not u) admitted (refused-with 11)
+    go true true e = refl
+    go true false e = absurd (true≢false e)
+    go false true e = absurd (true≢false (sym e))
+    go false false e = refl
 
 pass-verdict : (t : Bool) (r r′ : Record) (v v′ : Vectors) (radius : Float)
-    → verdict-of (cond t (begin-stages r v radius) (ask-pass r′ v′) .answer) ≡ first-failing (cond t (need-tests (stage-need (setting-of r) radius)) [])
-unfolding begin-stages ask-pass first-failing
-pass-verdict true r r′ v v′ radius = need-verdict (stage-need (setting-of r) radius) r v radius
+    → verdict-of (cond t (begin-stages r v radius) (ask-pass r′ v′) .answer) ≡ first-failing (cond t (11 ∶ not (too-many r radius) ∷ []) [])
+unfolding ask-pass first-failing
+pass-verdict true r r′ v v′ radius = need-verdict r v radius
 pass-verdict false r r′ v v′ radius = refl
 
 stage-verdict : (t : Bool) (r r′ : Record) (v v′ : Vectors) → verdict-of (cond t (ask-stage r v) (ask-candidate r′ v′) .answer)
@@ -193,14 +207,11 @@ stage-within : (t u : Bool) → Within (cond t [] (10 ∶ u ∷ [])) after-nine
 stage-within true u = last after-nine
 stage-within false u = more (10 ∶ u) [] need-numbers (last need-numbers)
 
-need-within : (m : Setting) (need : Need) → Needed m need → Within (need-tests need) after-nine
-unfolding need-tests first-failing
-need-within m (Met s) ok = last after-nine
-need-within m (Unmet i) ok = record { among = later ok }
-
-pass-within : (t : Bool) (r : Record) (radius : Float) → Within (cond t (need-tests (stage-need (setting-of r) radius)) []) after-nine
-pass-within true r radius = let f = setting-of r in need-within f (stage-need f radius) (need-holds f radius)
-pass-within false r radius = last after-nine
+pass-within : (t u : Bool) → Within (cond t (11 ∶ u ∷ []) []) after-nine
+unfolding first-failing
+pass-within true true = record { among = tt }
+pass-within true false = record { among = later here }
+pass-within false u = last after-nine
 
 replied-within : (φ : Phase) (r : Record) (v : Vectors) (d : List Float) → Within (replied-tests φ r v d) after-nine
 unfolding replied-tests pass-tests stage-tests
@@ -208,7 +219,7 @@ replied-within P.Empty r v d = last after-nine
 replied-within P.First r v d = last after-nine
 replied-within P.Ready r v d = last after-nine
 replied-within P.Pass r v d = let i = r .iteration in let radius = radius-of (i .perturbation) (turned (r .n) v d) in
-    pass-within (ended (i .pass) (i .«previous_radius») radius || eqb (i .pass) 12) r (scaled (r .arguments .step) radius)
+    pass-within (ended (i .pass) (i .«previous_radius») radius || eqb (i .pass) 12) _
 replied-within P.Stage r v d = stage-within (ltb (r .staging .stage) (r .staging .stages)) _
 replied-within P.Candidate r v d = last after-nine
 replied-within P.Finished r v d = last after-nine

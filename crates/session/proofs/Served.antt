@@ -6,7 +6,7 @@ use lib.Dec.{T}
 use lib.Ieee.{Float, inf}
 use lib.Ieee.Scale.{finite}
 use mathlib.Core.Bool.{false}
-use Rattle.family.specs.Family.{Family, Orthogonal, made-of, family-of, largest-count, stage-count, facts-of}
+use Rattle.family.specs.Family.{Family, TSRKC2, Orthogonal, made-of, family-of, largest-count, stage-count}
 use Rattle.family.specs.Reach.{Serves}
 use Rattle.family.proofs.Counts.{serves}
 use Rattle.family.proofs.Special.{infinite-count}
@@ -28,6 +28,6 @@ module _ (h : Held) (a : Arguments) (o : Finished-attempt) (replies : ℕ) (x : 
   served g e fin = let r = o .scaled-radius in
       subst (λ (s : ℕ). Serves g r s) (sym (stages-from ∙ ap (λ (f : Family). stage-count f q r) e)) (serves g q r fin (f .not-negative))
 
-  pub served-infinite : facts-of (family-of (h .kept .family)) .«refuses_more» ≡ false → o .scaled-radius ≡ inf false
+  pub served-infinite : (family-of (h .kept .family) ≡ TSRKC2 → ⊥) → o .scaled-radius ≡ inf false
       → o .stages ≡ largest-count (family-of (h .kept .family))
-  served-infinite cut e = stages-from ∙ ap (stage-count (family-of (h .kept .family)) q) e ∙ infinite-count (family-of (h .kept .family)) q cut
+  served-infinite other e = stages-from ∙ ap (stage-count (family-of (h .kept .family)) q) e ∙ infinite-count (family-of (h .kept .family)) q other

@@ -14,7 +14,7 @@ use lib.Ieee.{Float, inf, le, lt}
 use lib.Ieee.Scale.{finite}
 use Rattle.ieee.specs.Double.{nought, one}
 use Rattle.ieee.specs.Close.{Close}
-use Rattle.family.specs.Family.{RKC, RKMC2, TSRKC2, Orthogonal, made-of, family-of, kind, permitted, largest-count, stage-count, exceeds, facts-of}
+use Rattle.family.specs.Family.{RKC, RKMC2, TSRKC2, Orthogonal, made-of, family-of, kind, permitted, largest-count, stage-count, exceeds}
 use Rattle.family.specs.declared.Setting.{Setting}
 use Rattle.family.specs.Reach.{Serves}
 use Rattle.coefficients.specs.declared.Recurrence.{Recurrence}
@@ -126,7 +126,7 @@ pub record Concluded (h : Held) (calls : List Call) (told : Figures) (x : Held) 
   pub suits : Suits (setting-of (x .kept)) (told .passes) (told .stages) (told .«scaled_radius»)
   pub evaluations-are : x .counters .evaluations ≡ found attempt .counters .evaluations + (told .stages + told .passes)
   pub attempts-are : x .counters .«finished_attempts» ≡ found attempt .counters .«finished_attempts» + 1
-  pub largest-at-infinity : facts-of (family-of (start .family)) .«refuses_more» ≡ false → told .«scaled_radius» ≡ inf false
+  pub largest-at-infinity : (family-of (start .family) ≡ TSRKC2 → ⊥) → told .«scaled_radius» ≡ inf false
       → told .stages ≡ largest-count (family-of (start .family))
   pub demand-three : (g : Orthogonal) → family-of (start .family) ≡ made-of g → Demand-three g (told .«scaled_radius») (told .stages)
   pub record-holds : Holds-figures told (x .kept)

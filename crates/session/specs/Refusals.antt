@@ -3,24 +3,22 @@
 use Prim.Native.Nat.{ℕ, _+_}
 use mathlib.Core.Path.{_≡_}
 use mathlib.Core.Logic.{_⊎_}
-use mathlib.Core.Bool.{Bool, false, cond, _&&_, _||_}
+use mathlib.Core.Bool.{Bool, false, cond, not, _&&_, _||_}
 use mathlib.Core.List.{List, [], _∷_}
 use lib.Dec.{ltb, eqb}
 use lib.Ieee.{Float}
 use lib.Ieee.Scale.{finite}
-use Rattle.family.specs.Family.{known}
+use Rattle.family.specs.Family.{TSRKC2, known, number-of-stages}
 use Rattle.coefficients.specs.Rows.{coefficients}
 use Rattle.workspace.specs.Vectors.{Vector, Vectors, number, unpack, all-finite, last-derivative, eigenvector, perturbed-derivative, candidate, older-state}
 use Rattle.workspace.specs.Kernel.{turned, radius-of, ended, scaled, with-row, with-candidate}
 use Rattle.driver.specs.declared.Phase.{Phase}
 use Rattle.driver.specs.declared.Phase.the-variants as P
 use Rattle.driver.specs.declared.Record.{Record}
-use Rattle.driver.specs.declared.Need.{Need}
-use Rattle.driver.specs.declared.Need.the-variants.{Met, Unmet}
 use Rattle.driver.specs.declared.Answer.{Answer}
 use Rattle.driver.specs.declared.Answer.the-variants.{Evaluate, Finished, Ready, Refused, Empty}
 use Rattle.driver.specs.Numbers.{standing-numbers, need-numbers, ending-numbers}
-use Rattle.driver.specs.Calls.{Held, in-phase, setting-of, stage-need, Test, _∶_, Verdict, admitted, refused-with}
+use Rattle.driver.specs.Calls.{Held, in-phase, setting-of, Test, _∶_, Verdict, admitted, refused-with}
 use Rattle.driver.specs.Calls.{sized, whole-area, as-long, awaiting, may-attempt, may-accept, good-times, good-tolerances, has-room}
 use Rattle.driver.specs.Calls.{Call, Start, Attempt, Reply, Accept, Accept-with-callback, Abandon}
 
@@ -31,16 +29,16 @@ verdict-of Ready = admitted
 verdict-of (Refused i) = refused-with i
 verdict-of Empty = admitted
 
--- a reply that ends the power iteration has the need of stages tested: 11, after tests 1 to 9 (document 02, CR 6)
-unfoldable pub need-tests : Need → List Test
-need-tests (Met s) = []
-need-tests (Unmet i) = i ∶ false ∷ []
+-- "11, when family 7 would need more than 1000 stages" (document 02, CR 6): family 7, and the formula's number, for its q and the scaled radius
+unfoldable pub too-many : Record → Float → Bool
+too-many r radius = eqb (r .family) 7 && ltb 1000 (number-of-stages TSRKC2 (setting-of r .quotient) radius)
 
+-- "found by the reply that ends the power iteration after tests 1 to 9"
 unfoldable pub pass-tests : Record → Vectors → List Float → List Test
 pass-tests r v d = let i = r .iteration in
     let radius = radius-of (i .perturbation) (turned (r .n) v d) in
     cond (ended (i .pass) (i .«previous_radius») radius || eqb (i .pass) 12)
-    (need-tests (stage-need (setting-of r) (scaled (r .arguments .step) radius)))
+    (11 ∶ not (too-many r (scaled (r .arguments .step) radius)) ∷ [])
     []
 
 -- "the reply that ends stage s also 10"

@@ -121,6 +121,21 @@ counted RKG2 = refl
 counted RKMC2 = refl
 counted TSRKC2 = refl
 
+-- TSRKC2's area has twelve vectors, every other family's eleven
+pub tsrkc2-twelve : vector-count TSRKC2 ≡ 12
+unfolding vector-count keeps-older facts-of
+tsrkc2-twelve = refl
+
+pub others-eleven : (f : Family) → (f ≡ TSRKC2 → ⊥) → vector-count f ≡ 11
+unfolding vector-count keeps-older facts-of
+others-eleven RKC h = refl
+others-eleven RKL1 h = refl
+others-eleven RKL2 h = refl
+others-eleven RKG1 h = refl
+others-eleven RKG2 h = refl
+others-eleven RKMC2 h = refl
+others-eleven TSRKC2 h = absurd (h refl)
+
 pub twelve : (f : Family) → facts-of f .candidate ≡ WithOlder → vector-count f ≡ 12
 unfolding taken-by
 twelve f e = counted f ∙ ap taken-by e

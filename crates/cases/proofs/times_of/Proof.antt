@@ -5,10 +5,13 @@ use Rattle.cases.proofs.times_of.Statement.{statement}
 use Rattle.cases.proofs.times_of.Tie as tie
 
 abbrev Inv-loop : tie.InvT-loop
-Inv-loop s t₀ c₀ j₀ t c j = (2 ≤ j) × (j ≤ s + 1) × (s < 2 ^ 16)
+Inv-loop s setting t₀ c₀ j₀ t c j = (2 ≤ j) × (j ≤ s + 1) × (s < 2 ^ 16)
 
 abbrev μ-loop : tie.MeasureT-loop
-μ-loop s t₀ c₀ j₀ t c j = s + 1 - j
+μ-loop s setting t₀ c₀ j₀ t c j = s + 1 - j
+
+without-history-requires : tie.Need-without-history-requires Inv-loop μ-loop
+without-history-requires c κs = search needs
 
 first-recurrence-requires : tie.Need-first-recurrence-requires Inv-loop μ-loop
 first-recurrence-requires c κs = search needs
@@ -46,6 +49,7 @@ times-of-spec =
     (tie.spec
     Inv-loop
     μ-loop
+    without-history-requires
     first-recurrence-requires
     loop-holds
     row-coefficients-requires

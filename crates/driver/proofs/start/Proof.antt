@@ -8,7 +8,7 @@ use Rattle.ieee.specs.Double.{nought}
 use Rattle.family.specs.Family.{family-of}
 use Rattle.workspace.specs.Vectors.{Vectors, _with_≔_, eigenvector}
 use Rattle.workspace.proofs.Areas.{whole}
-use Rattle.driver.specs.Calls.{start-tests, start, going-on}
+use Rattle.driver.specs.Calls.{start-vectors, start-tests, start, going-on}
 use Rattle.driver.proofs.Steps.{keeps}
 use Rattle.driver.proofs.Clear.{brings}
 use Rattle.driver.proofs.Ladder.{refused-keeps, admitted-keeps, same-answer}
@@ -51,7 +51,7 @@ same-length-2 : tie.Need-same-length-2
 same-length-2 c = search needs
 
 returns-2 : tie.Need-returns-2
-unfolding start start-tests going-on ofBits
+unfolding start start-vectors start-tests going-on ofBits
 returns-2 c =
     let t = c .before .before .before .before .before .before .before .before .before in
     let a = t .before .before .before .before .before .args in

@@ -3,6 +3,7 @@ use mathlib.Core.Path.{sym}
 use native.Mathlib.Omega.{arith}
 use borrow.Author.Needs.{needs}
 use lib.Seq.{length-take-le}
+use Rattle.workspace.proofs.Areas.{at-most-twelve}
 use Rattle.replay.proofs.next_record.Statement.{statement}
 use Rattle.replay.proofs.next_record.Tie as tie
 
@@ -24,11 +25,17 @@ same-length-2 c = search needs
 returns : tie.Need-returns
 returns c = search needs
 
+family-of-requires : tie.Need-family-of-requires
+family-of-requires c κs = search needs
+
+vector-count-requires : tie.Need-vector-count-requires
+vector-count-requires c κs = search needs
+
 least-requires : tie.Need-least-requires
 least-requires c κs = search needs
 
 mul-least : tie.Need-mul-least
-mul-least c = search needs
+mul-least c = record { fits = omega (arith, at-most-twelve _ (c .least .result) (c .before .vector-count .ensures), c .least .ensures .1) }
 
 least-requires-2 : tie.Need-least-requires-2
 least-requires-2 c κs = search needs
@@ -73,6 +80,8 @@ next-record-spec =
     same-length
     same-length-2
     returns
+    family-of-requires
+    vector-count-requires
     least-requires
     mul-least
     least-requires-2

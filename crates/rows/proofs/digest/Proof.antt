@@ -5,10 +5,13 @@ use Rattle.rows.proofs.digest.Statement.{statement}
 use Rattle.rows.proofs.digest.Tie as tie
 
 abbrev Inv-loop : tie.InvT-loop
-Inv-loop family s h₀ c₀ j₀ h c j = (2 ≤ j) × (j ≤ s + 1) × (s < 2 ^ 16)
+Inv-loop family s setting h₀ c₀ j₀ h c j = (2 ≤ j) × (j ≤ s + 1) × (s < 2 ^ 16)
 
 abbrev μ-loop : tie.MeasureT-loop
-μ-loop family s h₀ c₀ j₀ h c j = s + 1 - j
+μ-loop family s setting h₀ c₀ j₀ h c j = s + 1 - j
+
+without-history-requires : tie.Need-without-history-requires Inv-loop μ-loop
+without-history-requires c κs = search needs
 
 omega-one-requires : tie.Need-omega-one-requires Inv-loop μ-loop
 omega-one-requires c κs = search needs
@@ -55,6 +58,7 @@ digest-spec =
     (tie.spec
     Inv-loop
     μ-loop
+    without-history-requires
     omega-one-requires
     double-in-requires
     first-mu-tilde-requires

@@ -5,10 +5,13 @@ use Rattle.rows.proofs.print_rows.Statement.{statement}
 use Rattle.rows.proofs.print_rows.Tie as tie
 
 abbrev Inv-loop : tie.InvT-loop
-Inv-loop family s c₀ j₀ c j = (2 ≤ j) × (j ≤ s + 1) × (s < 2 ^ 16)
+Inv-loop family s setting c₀ j₀ c j = (2 ≤ j) × (j ≤ s + 1) × (s < 2 ^ 16)
 
 abbrev μ-loop : tie.MeasureT-loop
-μ-loop family s c₀ j₀ c j = s + 1 - j
+μ-loop family s setting c₀ j₀ c j = s + 1 - j
+
+without-history-requires : tie.Need-without-history-requires Inv-loop μ-loop
+without-history-requires c κs = search needs
 
 first-recurrence-requires : tie.Need-first-recurrence-requires Inv-loop μ-loop
 first-recurrence-requires c κs = search needs
@@ -43,6 +46,7 @@ print-rows-spec =
     (tie.spec
     Inv-loop
     μ-loop
+    without-history-requires
     first-recurrence-requires
     loop-holds
     row-coefficients-requires

@@ -16,11 +16,11 @@ use package.mir.Syntax.{Fn, Local, local, valueLocal, Ty, named, erased, imm, mu
 use package.mir.Syntax.{call, seq, return}
 use mir.Val.{Val, vptr}
 use base.Logic.{SProp, ent, sep, emp, id⊢}
-use base.Fml.{GName, Lft, Share, Fml, ftrue, fat, flft, fobs, fbor}
-use prog.Wp.{Heap, Calls, Loops, WpFn, Tables}
+use base.Fml.{GName, Lft, Share, Fml, ftrue, fat, fdies, froom, flft, fobs, fauth, fbor, fobor}
+use prog.Wp.{Heap, Env, Calls, Loops, WpFn, Tables}
 use ghost.Atoms.{Atoms, sem}
 use contract.Monad.{fact}
-use types.Kit.{Given, ‵, raw, some, later, _⊛_, ⋆, _$_, _∵_, !, qed, by, move, keep, drop, use1, use3, split, join, pick, rewrite, fsplit, fsplit3, fjoin}
+use types.Kit.{Given, Item, Seq, Go, prop, lands, atRet, frees, ‵, raw, some, later, _⊛_, ⋆, _$_, _∵_, !, qed, by, move, keep, drop, use1, use3, split, join, pick, rewrite, fsplit, fsplit3, fjoin}
 use types.Kit.{fjoin3, feqL, feqI, suffices, frame, await, done}
 use types.Run.{look, look-raw, init, store-raw, forget, stop, hop, fld, from, load, addr, of-opd, and-then, no-more, assigns, land, returns, enter, alloc1}
 use types.Run.{alloc0, params1, pass1, pass0, free1, free0}
@@ -29,7 +29,7 @@ use types.SemTy.{Body}
 use sound.WpLaws.{FmC, fmOf, WpFn-mono}
 use denote.RattleType.{owns}
 use denote.Laws.{Is, shows}
-use denote.Memory.{mem, pointee}
+use denote.Memory.{mem, cellAt, pointee}
 use denote.Builtin.{f64}
 use denote.Ref.{RefT, now, MutRef, ptr-vals, mut-tells}
 use denote.Slice.{sliceTy, sliceVal, slice-vals, MutSlice, ShrSlice, Room, finally, mut-slice-tells, shr-slice-tells}
@@ -134,6 +134,23 @@ module _ {M : Type 1} (𝓤 : URA M) where
     ensures = λ _ r e. fact 𝓤 (Outer-said (a .0) (now (a .1 .0)) (now (a .1 .1 .0)) (now (a .1 .1 .1 .0)) r (now (e .1 .0)) (now (e .1 .1 .0)));
   }
 
+-- at the return: the nine locals are freed, whatever they hold, and of what stands before them five are kept
+module _ {M : Type 1} {𝓤 : URA M} {H : Heap 𝓤} {A : Atoms 𝓤} {W : Given 𝓤 H A} {i₀ i₁ i₂ i₃ i₄ i₅ i₆ : Item 𝓤}
+    {τ₀ τ₁ τ₂ τ₃ τ₄ τ₅ τ₆ τ₇ τ₈ : Ty} {l₀ l₁ l₂ l₃ l₄ l₅ l₆ l₇ l₈ : ℕ} {v₀ v₁ v₂ v₃ v₄ v₅ v₆ v₇ v₈ : Val} {P : SProp 𝓤} where
+  freed : Seq (Go {0}) W (i₀ ∷ i₁ ∷ i₂ ∷ i₄ ∷ i₅ ∷ []) (prop P)
+      → Seq (Go {0}) W (i₀ ∷ i₁ ∷ i₂ ∷ i₃ ∷ i₄ ∷ i₅ ∷ i₆
+      ∷ ‵ (fat fullShare τ₈ l₈ 0 v₈) ∷ ‵ (fdies τ₈ l₈)
+      ∷ ‵ (fat fullShare τ₇ l₇ 0 v₇) ∷ ‵ (fdies τ₇ l₇)
+      ∷ ‵ (fat fullShare τ₆ l₆ 0 v₆) ∷ ‵ (fdies τ₆ l₆)
+      ∷ ‵ (fat fullShare τ₅ l₅ 0 v₅) ∷ ‵ (fdies τ₅ l₅)
+      ∷ ‵ (fat fullShare τ₄ l₄ 0 v₄) ∷ ‵ (fdies τ₄ l₄)
+      ∷ ‵ (fat fullShare τ₃ l₃ 0 v₃) ∷ ‵ (fdies τ₃ l₃)
+      ∷ ‵ (fat fullShare τ₂ l₂ 0 v₂) ∷ ‵ (fdies τ₂ l₂)
+      ∷ ‵ (fat fullShare τ₁ l₁ 0 v₁) ∷ ‵ (fdies τ₁ l₁)
+      ∷ ‵ (fat fullShare τ₀ l₀ 0 v₀) ∷ ‵ (fdies τ₀ l₀) ∷ []) (frees ((τ₀, l₀) ∷ (τ₁, l₁) ∷ (τ₂, l₂) ∷ (τ₃, l₃) ∷ (τ₄, l₄) ∷ (τ₅, l₅) ∷ (τ₆, l₆) ∷ (τ₇, l₇) ∷ (τ₈, l₈) ∷ []) (prop P))
+  freed kept =
+      forget ! 7 refl $ forget ! 9 refl $ forget ! 11 refl $ forget ! 13 refl $ forget ! 15 refl $ forget ! 17 refl $ forget ! 19 refl $ forget ! 21 refl $ forget ! 23 refl $ move ! (23 ∷ 24 ∷ []) $ free1 ! $ move ! (21 ∷ 22 ∷ []) $ free1 ! $ move ! (19 ∷ 20 ∷ []) $ free1 ! $ move ! (17 ∷ 18 ∷ []) $ free1 ! $ move ! (15 ∷ 16 ∷ []) $ free1 ! $ move ! (13 ∷ 14 ∷ []) $ free1 ! $ move ! (11 ∷ 12 ∷ []) $ free1 ! $ move ! (9 ∷ 10 ∷ []) $ free1 ! $ move ! (7 ∷ 8 ∷ []) $ free1 ! $ free0 ! $ keep ! (0 ∷ 1 ∷ 2 ∷ 4 ∷ 5 ∷ []) $ kept
+
 -- the core's triple
 abbrev Core : {M : Type 1} (𝓤 : URA M) (H : Heap 𝓤) (A : Atoms 𝓤) → Contract 𝓤
 Core 𝓤 H A = tripleOf 𝓤 H A core.signature (closing 𝓤 H A core.ended (core-clauses 𝓤))
@@ -210,6 +227,41 @@ module _ {M : Type 1} (𝓤 : URA M) (H : Heap 𝓤) (A : Atoms 𝓤) (W : Given
       $ fjoin ! $ nothing ! $ fjoin ! $
       owned ! P.the-row (Is P.the-row) (LL.makes P.the-type P′.the-plain 𝓤 H A) (answered r) _ (is-reply r w is) $ move ! (1 ∷ 0 ∷ []) $ done !
 
+  -- where the locals lie
+  abbrev locals-at : (l₀ l₁ l₂ l₃ l₄ l₅ l₆ l₇ l₈ : ℕ) → Env 𝓤 H
+  locals-at l₀ l₁ l₂ l₃ l₄ l₅ l₆ l₇ l₈ = (P′.mir, l₀) ∷ (R′.mir, l₁) ∷ (tyRef (named 0) mut (pointee (K.the-row .written)), l₂)
+      ∷ (sliceTy (tyRef (named 1) mut (tyFloat binary64)), l₃) ∷ (sliceTy (tyRef (named 2) imm (tyFloat binary64)), l₄) ∷ (O′.mir, l₅) ∷ (K′.mir, l₆)
+      ∷ (tyRef erased mut (tyFloat binary64), l₇) ∷ (area-ty, l₈) ∷ []
+
+  -- from the core's return on, whatever the locals hold that are not read any more: [what the outcome owns; the tokens; the last list; …; the counters' cell;
+  -- what they own; the open borrow; obs; auth; _8; …; _7; …; _6; …; room for _5; …; _4; …; _3; …; _2; …; _1; …; room for _0; …]
+  after-core : (C : Calls 𝓤 H) (Λ : Loops 𝓤 H) (l₀ l₁ l₂ l₃ l₄ l₅ l₆ l₇ l₈ : ℕ) {i : Item 𝓤} {v₁ v₃ v₄ v₆ v₇ v₈ : Val} → Is K.the-row k (kv k ∷ []) → (r : Replied) (w : Val)
+      (zs : List Float) → Is O.the-row r (w ∷ []) → Core-said s k (x .now) (d .now) r zs → length zs ≡ length (x .now)
+      → Seq (Go {0}) W (‵ (O.the-row .own r (w ∷ [])) ∷ (‵ (flft κ₁ q₁) ⊛ (‵ (flft κ₂ q₂) ⊛ ‵ ftrue)) ∷ ‵ (finally f64 (x .name) zs) ∷ i
+      ∷ ‵ (cellAt fullShare (K.the-row .mir) (kv k ∷ []) b o) ∷ ‵ (K.the-row .own k (kv k ∷ [])) ∷ ‵ (fobor κ₀ q₀ (Body (mem K.the-row) b o γ))
+      ∷ ‵ (fobs γ (K.the-row .coded .code k)) ∷ ‵ (fauth γ (K.the-row .coded .code k)) ∷ ‵ (fat fullShare area-ty l₈ 0 v₈) ∷ ‵ (fdies area-ty l₈)
+      ∷ ‵ (fat fullShare (tyRef erased mut (tyFloat binary64)) l₇ 0 v₇) ∷ ‵ (fdies (tyRef erased mut (tyFloat binary64)) l₇)
+      ∷ ‵ (fat fullShare K′.mir l₆ 0 v₆) ∷ ‵ (fdies K′.mir l₆) ∷ ‵ (froom O′.mir l₅ 0) ∷ ‵ (fdies O′.mir l₅)
+      ∷ ‵ (fat fullShare (sliceTy (tyRef (named 2) imm (tyFloat binary64))) l₄ 0 v₄) ∷ ‵ (fdies (sliceTy (tyRef (named 2) imm (tyFloat binary64))) l₄)
+      ∷ ‵ (fat fullShare (sliceTy (tyRef (named 1) mut (tyFloat binary64))) l₃ 0 v₃) ∷ ‵ (fdies (sliceTy (tyRef (named 1) mut (tyFloat binary64))) l₃)
+      ∷ ‵ (fat fullShare (tyRef (named 0) mut (pointee (K.the-row .written))) l₂ 0 (vptr b o)) ∷ ‵ (fdies (tyRef (named 0) mut (pointee (K.the-row .written))) l₂)
+      ∷ ‵ (fat fullShare R′.mir l₁ 0 v₁) ∷ ‵ (fdies R′.mir l₁) ∷ ‵ (froom P′.mir l₀ 0) ∷ ‵ (fdies P′.mir l₀) ∷ [])
+      (lands C Λ (locals-at l₀ l₁ l₂ l₃ l₄ l₅ l₆ l₇ l₈) (place 5 []) w (seq (assign (place 2 (deref K′.mir ∷ [])) (rvOpd (copy (place 5 (field 2 ∷ [])))))
+      (seq (assign (place 0 []) (aggregate (copy (place 5 (field 0 ∷ [])) ∷ copy (place 5 (field 1 ∷ [])) ∷ []))) return)) (atRet (locals-at l₀ l₁ l₂ l₃ l₄ l₅ l₆ l₇ l₈) Post))
+  after-core C Λ l₀ l₁ l₂ l₃ l₄ l₅ l₆ l₇ l₈ is-k r w zs is e l =
+      land ! (from ! (stop !)) (init ! 15 refl (LL.lawful O.the-type O′.the-laws 𝓤 H A W .typed r _ is .0)) $ rewrite ! 15
+      (λ (u : Val). ‵ (fat fullShare O′.mir l₅ 0 u)) (ap only (LL.tells O.the-type O′.the-laws r _ is)) refl $
+      assigns ! (of-opd ! (load ! (from ! (fld ! refl (stop !))) (look-in ! 15 (sub ! 2 refl (whole !))))) (from ! (hop ! (look ! 21 refl) (stop !)))
+      (store-raw ! 4 refl (LL.lawful K.the-type K′.the-laws 𝓤 H A W .typed (left k r) _ (is-left is-k r w is) .0)) $
+      assigns ! (agg ! (and-then ! (load ! (from ! (fld ! refl (stop !))) (look-in ! 15 (sub ! 0 refl (whole !))))
+      (and-then ! (load ! (from ! (fld ! refl (stop !))) (look-in ! 15 (sub ! 1 refl (whole !)))) (no-more !)))) (from ! (stop !))
+      (init ! 25 refl (LL.lawful P.the-type P′.the-laws 𝓤 H A W .typed (answered r) _ (is-reply r w is) .0)) $
+      -- the borrow is closed at the new counters
+      move ! (5 ∷ []) $ drop ! $ owned ! K.the-row (Is K.the-row) (LL.makes K.the-type K′.the-plain 𝓤 H A) (left k r) _ (is-left is-k r w is) $ move !
+      (5 ∷ 0 ∷ 6 ∷ 7 ∷ 8 ∷ []) $ closes ! tt K.the-row (left k r) (kv (left k r) ∷ []) b o $
+      -- [obs; the borrow; its token; what the outcome owns; the tokens; the last list; …; _8; …]
+      returns ! (look ! 23 refl) $ freed (by ! (exits r w zs is e l))
+
   module _ (C : Calls 𝓤 H) (Λ : Loops 𝓤 H) (fm : FmC 𝓤 H (W .laws) C) (known : Triple 𝓤 (C #core) (Core 𝓤 H A)) where
     walk : Is R.the-row s (sv ∷ []) → Room f64 (length (x .now)) → Room f64 (length (d .now))
         → ent 𝓤 (sep 𝓤 (onEntry 𝓤 H A reply.signature (κ₀, (κ₁, (κ₂, tt))) (q₀, (q₁, (q₂, tt))) a vals) required)
@@ -249,24 +301,7 @@ module _ {M : Type 1} (𝓤 : URA M) (H : Heap 𝓤) (A : Atoms 𝓤) (W : Given
         split ! $ move ! (1 ∷ []) $ heard ! (Core-said s k (x .now) (d .now) r (zs .1 .1 .0))
         (λ e. fsplit ! $ drop ! $ fsplit ! $ drop ! $ fsplit ! $ fsplit ! $ move ! (1 ∷ []) $ feqL ! (λ l.
         move ! (2 ∷ []) $ split ! $ move ! (1 ∷ []) $ peeks ! O.the-row (Is O.the-row) (shows 𝓤 H A O.the-row) r (w ∷ []) (λ is.
-        -- [what the outcome owns; the tokens; the last list; …; the counters' cell; what they own; the open borrow; obs; auth; _8; …]
-        land ! (from ! (stop !)) (init ! 15 refl (LL.lawful O.the-type O′.the-laws 𝓤 H A W .typed r _ is .0)) $ rewrite ! 15
-        (λ (u : Val). ‵ (fat fullShare O′.mir l₅ 0 u)) (ap only (LL.tells O.the-type O′.the-laws r _ is)) refl $
-        assigns ! (of-opd ! (load ! (from ! (fld ! refl (stop !))) (look-in ! 15 (sub ! 2 refl (whole !))))) (from ! (hop ! (look ! 21 refl) (stop !)))
-        (store-raw ! 4 refl (LL.lawful K.the-type K′.the-laws 𝓤 H A W .typed (left k r) _ (is-left is-k r w is) .0)) $
-        assigns ! (agg ! (and-then ! (load ! (from ! (fld ! refl (stop !))) (look-in ! 15 (sub ! 0 refl (whole !))))
-        (and-then ! (load ! (from ! (fld ! refl (stop !))) (look-in ! 15 (sub ! 1 refl (whole !)))) (no-more !)))) (from ! (stop !))
-        (init ! 25 refl (LL.lawful P.the-type P′.the-laws 𝓤 H A W .typed (answered r) _ (is-reply r w is) .0)) $
-        -- the borrow is closed at the new counters
-        move ! (5 ∷ []) $ drop ! $ owned ! K.the-row (Is K.the-row) (LL.makes K.the-type K′.the-plain 𝓤 H A) (left k r) _ (is-left is-k r w is) $ move !
-        (5 ∷ 0 ∷ 6 ∷ 7 ∷ 8 ∷ []) $ closes ! tt K.the-row (left k r) (kv (left k r) ∷ []) b o $
-        -- [obs; the borrow; its token; what the outcome owns; the tokens; the last list; …; _8; …]
-        returns ! (look ! 23 refl) $ forget ! 7 refl $ forget ! 9 refl $ forget ! 11 refl $ forget ! 13 refl $ forget ! 15 refl $ forget ! 17 refl $ forget ! 19
-        refl $ forget ! 21 refl $ forget ! 23 refl $
-        move ! (23 ∷ 24 ∷ []) $ free1 ! $ move ! (21 ∷ 22 ∷ []) $ free1 ! $ move ! (19 ∷ 20 ∷ []) $ free1 ! $ move ! (17 ∷ 18 ∷ []) $ free1 ! $ move ! (15 ∷ 16
-        ∷ []) $ free1 ! $ move ! (13 ∷ 14 ∷ []) $ free1 ! $ move ! (11 ∷ 12 ∷ []) $ free1 ! $ move ! (9 ∷ 10 ∷ []) $ free1 ! $ move ! (7 ∷ 8 ∷ []) $
-        free1 ! $ free0 ! $
-        keep ! (0 ∷ 1 ∷ 2 ∷ 4 ∷ 5 ∷ []) $ by ! (exits r w (zs .1 .1 .0) is e l))))))))))))))))))
+        after-core C Λ l₀ l₁ l₂ l₃ l₄ l₅ l₆ l₇ l₈ is-k r w (zs .1 .1 .0) is e l)))))))))))))))))
 
 module _ {M : Type 1} (𝓤 : URA M) (H : Heap 𝓤) (A : Atoms 𝓤) (W : Given 𝓤 H A) where
   outer-walks : (C : Calls 𝓤 H) (Λ : Loops 𝓤 H) → FmC 𝓤 H (W .laws) C → Triple 𝓤 (C #core) (Core 𝓤 H A)

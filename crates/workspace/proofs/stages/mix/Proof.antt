@@ -71,10 +71,13 @@ unfolding mixed-entry ofBits
 loop-again c =
     let r = c .before .before .before in
     let a = r .before .args in
-    let l = r .loop in
-    (λ b e. turn (_ ∷ []) (l .inv .0 b e) (omega arith)
-    (ap (λ (k : ℕ). (one ⊖ a .gain) ⊗ getD (l .area) (k * a .n + l .i) nan ⊕ a .gain ⊗ getD (l .area) (number next-stage * a .n + l .i) nan) (sym e), tt),
-    simp length-set (omega arith), simp length-set (omega arith), simp length-set (l .inv .3))
+    let l = r .loop in (
+      λ b e. turn (_ ∷ []) (l .inv .0 b e) (omega arith)
+          (ap (λ (k : ℕ). (one ⊖ a .gain) ⊗ getD (l .area) (k * a .n + l .i) nan ⊕ a .gain ⊗ getD (l .area) (number next-stage * a .n + l .i) nan) (sym e), tt),
+      simp length-set (omega arith),
+      simp length-set (omega arith),
+      simp length-set (l .inv .3),
+    )
 
 same-length : tie.Need-same-length Inv-loop μ-loop
 same-length c = omega arith
