@@ -24,7 +24,8 @@ use Rattle.fractions.proofs.Ring.{var, _:*_}
 use Rattle.ieee.specs.Double.{nought}
 use Rattle.coefficients.specs.declared.Recurrence.{Recurrence}
 use Rattle.coefficients.specs.declared.Coefficients.{Coefficients}
-use Rattle.coefficients.specs.Rows.{coefficients-of, recurrence-of, orthogonal-omega, legendre-one, legendre-two, gegenbauer-one, gegenbauer-two, with-theta}
+use Rattle.coefficients.specs.Rows.{coefficients-of, recurrence-of, orthogonal-omega, legendre-one, legendre-two, gegenbauer-one, gegenbauer-two}
+use Rattle.coefficients.specs.Rows.{with-theta}
 use Rattle.coefficients.specs.Closeness.{Close-row, Same-row, gamma-zero}
 use Rattle.ieee.specs.Close.{signed, sign, value, Close}
 use Rattle.ieee.proofs.Value.{round-none}

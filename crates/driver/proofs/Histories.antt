@@ -16,7 +16,8 @@ use Rattle.family.specs.Family.{TSRKC2, family-of, keeps-older}
 use Rattle.family.proofs.Special.{tsrkc2-keeps, only-tsrkc2}
 use Rattle.coefficients.specs.Rows.{coefficients, next}
 use Rattle.workspace.specs.declared.Arguments.{Arguments}
-use Rattle.workspace.specs.Vectors.{Vectors, _with_≔_, number, unpack, each, vector-norm, all-finite, first-derivative, last-derivative, derivative, eigenvector}
+use Rattle.workspace.specs.Vectors.{Vectors, _with_≔_, number, unpack, each, vector-norm, all-finite, first-derivative, last-derivative, derivative}
+use Rattle.workspace.specs.Vectors.{eigenvector}
 use Rattle.workspace.specs.Vectors.{state, candidate, older-state}
 use Rattle.workspace.specs.Kernel.{with-direction, perturbed, perturbed-by, turned, radius-of, ended, scaled, first-stage, with-row, with-row-in, exchanged}
 use Rattle.workspace.specs.Kernel.{with-candidate, with-last, error}

@@ -1,6 +1,6 @@
--- The numbers that the six calls are turned away with, sorted by what a call then leaves. Document 01, "When a call is turned away", and document 02, CR 6. A new number comes in here
--- and in the list of its call (`numbers-of` in session/specs/Refusals): the statements of driver, session, lent and accounts go by the lists and not by a
--- range.
+-- The numbers that the six calls are turned away with, sorted by what a call then leaves. Document 01, "When a call is turned away", and document 02, CR 6. A
+-- new number comes in here and in the list of its call (`numbers-of` in session/specs/Refusals): the statements of driver, session, lent and accounts go by
+-- the lists and not by a range.
 use Prim.Native.Nat.{ℕ}
 use mathlib.Core.Bool.{Bool, false, _||_}
 use mathlib.Core.List.{List, [], _∷_, _++_}

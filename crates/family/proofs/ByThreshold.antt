@@ -15,7 +15,8 @@ use Rattle.table.proofs.Search as search-by
 use Rattle.table.proofs.Search.{Bracket, smallest-from, smallest-to}
 use Rattle.rkmc2_threshold.specs.Table.{threshold}
 use Rattle.rkmc2_threshold.proofs.Rising.{above-zero, rises}
-use Rattle.family.specs.Family.{RKMC2, smallest-count, largest-count, odd-only, odd-step, limited, before-limits, by-rule, radius-for, facts-of, stage-count}
+use Rattle.family.specs.Family.{RKMC2, smallest-count, largest-count, odd-only, odd-step, limited, before-limits, by-rule, radius-for, facts-of}
+use Rattle.family.specs.Family.{stage-count}
 
 some : (i : ℕ) → 3 ≤ i → i < 3 + 997 → T (positive (threshold i))
 some i l h = above-zero i l (omega arith)

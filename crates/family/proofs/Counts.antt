@@ -75,7 +75,8 @@ module _ (f : Orthogonal) (quotient r : Float) (p : NonNeg r) (i : T (finite r))
     where
       go : (P Q : ℕ) → P * num (high f k) * reach-den f k ≤ Q * den (high f k) → Above f k (high f k) (past f k)
           → T (le (high f k) r) ⊎ (num r * den (high f k) ≤ num (high f k) * den r) → P * num r * reach-den f k ≤ Q * den r
-      go P Q z a (inl l) = absurd (not-le-of-lt (lt-of-lt-of-le (a .count) (more-from f quotient (high f k) r (past f k) (high-nonneg f k) p l (a .root) (a .from))) h)
+      go P Q z a (inl l) =
+          absurd (not-le-of-lt (lt-of-lt-of-le (a .count) (more-from f quotient (high f k) r (past f k) (high-nonneg f k) p l (a .root) (a .from))) h)
       go P Q z a (inr l) = carry P Q (reach-den f k) (num r) (den r) (num (high f k)) (den (high f k)) (den-pos (high f k)) l z
 
   needed : (k : ℕ) → T (permitted (made-of f) k) → k < n → parts * reach-num f k * den r ≤ (parts + 1) * num r * reach-den f k

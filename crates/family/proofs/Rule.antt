@@ -155,8 +155,8 @@ from-shift f r p =
     (sqrt-mono (inner f nought) (inner f r) n n' o o' (inner-mono f nought r z p (least r p)))
 
 -- ---- the count at one double, u, bounds it at another, r. a / L is a bound of the root at u
-pub more-from : (f : Orthogonal) (quotient u r : Float) (a : ℕ) → NonNeg u → NonNeg r → T (le u r) → a * a ≤ squared-units (inner f u) → T (le (shifted f) (nearest a L))
-    → after f (nearest a L) ≤ before-limits (made-of f) quotient r
+pub more-from : (f : Orthogonal) (quotient u r : Float) (a : ℕ) → NonNeg u → NonNeg r → T (le u r) → a * a ≤ squared-units (inner f u)
+    → T (le (shifted f) (nearest a L)) → after f (nearest a L) ≤ before-limits (made-of f) quotient r
 more-from f quotient u r a p q h w l =
     let n = inner-nonneg f u p in
     let o = inner-some f u p in

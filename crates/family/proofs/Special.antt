@@ -71,8 +71,10 @@ negative-count f q r one-step h = counted-as f q r nought one-step (go r h)
 pub tsrkc2-nan : (q : Float) → (stage-count TSRKC2 q nan ≡ 2) × (exceeds TSRKC2 q nan ≡ false)
 unfolding stage-count exceeds before-limits limited odd-step odd-only smallest-count largest-count nearest add sub mul sqrt floor toUnsigned by-rule radius-for
     facts-of
-tsrkc2-nan q = (not-number (one ⊖ q ⊕ sqrt (one ⊕ q ⊗ (q ⊖ nearest 598626091572911 1000000000000000))) .0,
-    not-number (one ⊖ q ⊕ sqrt (one ⊕ q ⊗ (q ⊖ nearest 598626091572911 1000000000000000))) .1)
+tsrkc2-nan q = (
+  not-number (one ⊖ q ⊕ sqrt (one ⊕ q ⊗ (q ⊖ nearest 598626091572911 1000000000000000))) .0,
+  not-number (one ⊖ q ⊕ sqrt (one ⊕ q ⊗ (q ⊖ nearest 598626091572911 1000000000000000))) .1,
+)
   where
     number : Float → ℕ
     number x = toUnsigned 64 (floor (sqrt (one ⊕ nearest 759782816506459 1000000000000000 ⊗ nan ⊗ x))) + 1

@@ -23,7 +23,8 @@ use Rattle.workspace.specs.declared.Arguments.{Arguments}
 use Rattle.workspace.specs.Vectors.{Vector, Vectors, _with_≔_, number, each, vector-norm, first-derivative, last-derivative, derivative, previous-two}
 use Rattle.workspace.specs.Vectors.{previous-one, next-stage, eigenvector, perturbed-state, perturbed-derivative, state, candidate, older-state}
 use Rattle.workspace.specs.Kernel.{with-direction, perturbed-by, perturbed, turned, first-stage, orthogonal-entry, chebyshev-entry}
-use Rattle.workspace.specs.Kernel.{initial-first-entry, plain-entry, older-of, entry-in, with-row-in, exchanged, with-candidate, candidate-in, with-last, error, error-in}
+use Rattle.workspace.specs.Kernel.{initial-first-entry, plain-entry, older-of, entry-in, with-row-in, exchanged, with-candidate, candidate-in, with-last}
+use Rattle.workspace.specs.Kernel.{error, error-in}
 use Rattle.workspace.specs.Kernel.{scaled-error, scaled-error-norm, error-norm}
 use Rattle.workspace.proofs.Candidate.{combined-same, mixed-same}
 use Rattle.session.specs.Attempt.{iteration-work, all-but-last}

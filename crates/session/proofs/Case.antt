@@ -14,7 +14,8 @@ use Rattle.ieee.specs.Sqrt.{root-below, root, halves, root-units, sqrt}
 use Rattle.ieee.specs.Whole.{abs, max, floor, ceil}
 use Rattle.family.specs.Family.{known, family-of, keeps-older, smallest-count, largest-count, odd-only, permitted, before-limits, odd-step, limited}
 use Rattle.family.specs.Family.{stage-count, exceeds, by-rule, radius-for, facts-of}
-use Rattle.coefficients.specs.Rows.{omega-zero, orthogonal-omega, omega-one-of, b-first, first-mu-tilde, first-polynomials, first-polynomials-in, recurrence-of, with-theta}
+use Rattle.coefficients.specs.Rows.{omega-zero, orthogonal-omega, omega-one-of, b-first, first-mu-tilde, first-polynomials, first-polynomials-in}
+use Rattle.coefficients.specs.Rows.{recurrence-of, with-theta}
 use Rattle.coefficients.specs.Rows.{legendre-one, coefficients-of, next-polynomials, next-of}
 use Rattle.workspace.specs.declared.Arguments.{Arguments}
 use Rattle.norm.specs.Norm.{overflows, lowered, raised, root-over}
@@ -29,7 +30,8 @@ use Rattle.session.specs.Attempt.{closes, _>>=_, evaluate, stages-for, i
 use Rattle.session.specs.Attempt.{close, attempt-step}
 use Rattle.session.specs.Session.{Shown, evaluates, finished-with, ready-at, stops, nothing, Seen, seen-of, vectors-of, initialize, tries, accept-step}
 use Rattle.session.specs.Session.{at-rest, after-attempt, waiting, finished-by, counts-on, doing-now, replied-with, session-after, doing-shown}
-use Rattle.session.specs.Session.{previous-of, is-some, quotient, step-after, state-after, session-seen, rests, has-tried, waits, waits-with-room, takes, session, fresh}
+use Rattle.session.specs.Session.{previous-of, is-some, quotient, step-after, state-after, session-seen, rests, has-tried, waits, waits-with-room}
+use Rattle.session.specs.Session.{takes, session, fresh}
 use Rattle.session.proofs.Sequences.{every-sequence}
 
 -- opens, where it is named on an `unfolding` line, what a double's operation, an attempt (its rows, of RKL1) and a session are made of

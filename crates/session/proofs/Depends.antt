@@ -1,5 +1,5 @@
 -- What an attempt asks for and how it ends depends only on the kept state, its derivative, the eigenvector and, with a history, the older state: how it ends
--- is the finished attempt with all its vectors (without a history, but for the older state), or the number, and with number 10 ten of the vectors.
+-- is the finished attempt with all its vectors (without a history, but for the older state), or the number, and with 10 ten of the vectors, with 11 five.
 -- ⊕ ⊗ are operations on doubles: they round.
 use mathlib.Core.Path.{_≡_, refl, sym, ap, subst}
 use mathlib.Core.Bool.{Bool, true, false, cond}
@@ -150,7 +150,10 @@ module _ (history : Bool) (under : Setting) (own : under .history ≡ history) (
   unfolding from-need stages-for _>>=_ fixed-at
   need-alike (Met s) k r v w ok p = bind-alike (Agree (ten history)) (Same-attempt history) (close under n a s k r) (close under n a s k r)
       (run-recurrence under n a s v) (run-recurrence under n a s w) (recurrence-alike s v w p) (λ v w. close-alike s k r v w)
-  need-alike (Unmet i) k r v w ok p = record { number-same = refl; vectors-same = rw (ne-eqb i 10 (not-ten ok)) (ap (λ (l : List (List Float)). cond (eqb i 11) l []) (five-same history n v w p)) }
+  need-alike (Unmet i) k r v w ok p = record {
+    number-same = refl;
+    vectors-same = rw (ne-eqb i 10 (not-ten ok)) (ap (λ (l : List (List Float)). cond (eqb i 11) l []) (five-same history n v w p));
+  }
 
   from-radius : Radius → Asking Finished-attempt
   from-radius x = let r = scaled (a .step) (x .radius) in from-need (stage-need under r) (x .passes) r (x .vectors)

@@ -1,8 +1,8 @@
 -- The theorems over the calls, in reading order, each with its sentence; the statements are in specs/.
 
 -- An attempt that is taken, and replies of n doubles each for which the counters have room, give the evaluations of the attempt in one piece and its end:
--- `run`. Where that is finished it is so after s + k replies, and the candidate is the last stage, in RKMC2 and TSRKC2 their combination (`finished`); k is from 1 to 12,
--- and each reply but the last is answered by a further evaluation (`took`).
+-- `run`. Where that is finished it is so after s + k replies, and the candidate is the last stage, in RKMC2 and TSRKC2 their combination (`finished`); k is
+-- from 1 to 12, and each reply but the last is answered by a further evaluation (`took`).
 pub mod Theorem
 -- Where the counters lack room the attempt is the same up to the reply that is turned away with 8, and stays there: `evaluations-lack`, `attempts-lack`.
 pub mod Room

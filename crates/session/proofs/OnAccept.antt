@@ -21,7 +21,8 @@ use Rattle.driver.specs.Calls.{callback-tests, with-older, history-after}
 use Rattle.driver.proofs.Ladder.{each-passes, goes-ahead}
 use Rattle.session.specs.Attempt.{_>>=_, evaluate, Finished-attempt}
 use Rattle.session.specs.Alike.{compared, Same-vectors}
-use Rattle.session.specs.Session.{Previous-step, some-step, is-some, step-after, state-after, evaluates, ready-at, answer-shown, accept-step, callback-step, Doing, within, Session, at-rest}
+use Rattle.session.specs.Session.{Previous-step, some-step, is-some, step-after, state-after, evaluates, ready-at, answer-shown, accept-step}
+use Rattle.session.specs.Session.{callback-step, Doing, within, Session, at-rest}
 use Rattle.session.specs.Session.{after-attempt, doing-now, session-after, doing-shown, has-tried}
 use Rattle.ieee.proofs.Logic.{and-left, and-right}
 use Rattle.session.proofs.Truth.{and-none, differ}
@@ -164,26 +165,26 @@ module _ (h : Held) (q : taken (accept h .answer) ≡ true) where
       go δ (finished-at x step o at rem same-step same) =
           subst (λ (f : ℕ). Good (after-accept f) (going-on (h .counters) (accepted (h .kept) (unpack (h .kept .n) (h .area))))) (at .family-is)
           (record {
-        shown-is = ap₂ ready-at (kept state ∙ alike candidate refl) (kept first-derivative ∙ alike last-derivative refl);
-        counts-are = cs;
-        does = (
-          record {
-            family-is = refl;
-            n-is = at .n-is;
-            phase-is = refl;
-            family-known = at .family-known;
-            n-sized = at .n-sized;
-            area-whole = whole-pack (h .kept .family) (h .kept .n) w long-w;
-          },
-          on .remembered,
-          record {
-            state-same = kept state ∙ alike candidate refl;
-            first-same = kept first-derivative ∙ alike last-derivative refl;
-            eigenvector-same = kept eigenvector ∙ alike eigenvector refl;
-            older-same = λ e. kept older-state ∙ on .older e;
-          },
-        );
-      })
+            shown-is = ap₂ ready-at (kept state ∙ alike candidate refl) (kept first-derivative ∙ alike last-derivative refl);
+            counts-are = cs;
+            does = (
+              record {
+                family-is = refl;
+                n-is = at .n-is;
+                phase-is = refl;
+                family-known = at .family-known;
+                n-sized = at .n-sized;
+                area-whole = whole-pack (h .kept .family) (h .kept .n) w long-w;
+              },
+              on .remembered,
+              record {
+                state-same = kept state ∙ alike candidate refl;
+                first-same = kept first-derivative ∙ alike last-derivative refl;
+                eigenvector-same = kept eigenvector ∙ alike eigenvector refl;
+                older-same = λ e. kept older-state ∙ on .older e;
+              },
+            );
+          })
         where
           on : Taken-on x step o (keeps-older (its-family (h .kept))) (eqb (h .kept .family) 7)
           on = taken-on x step o rem same-step same (keeps-older (its-family (h .kept))) (eqb (h .kept .family) 7) (kept-by (h .kept .family))

@@ -18,7 +18,8 @@ use Rattle.family.specs.declared.Setting.{Setting}
 use Rattle.session.specs.Attempt.{done, stopped, ask, _>>=_, attempt-step}
 use Rattle.session.specs.Claim.{Allowed, in-one-piece}
 use Rattle.session.specs.Alike.{Same-start}
-use Rattle.session.specs.Session.{ready-with, tried, vectors-of, Previous-step, is-some, previous-of, tries, Doing, none, within, Session, at-rest, doing-now}
+use Rattle.session.specs.Session.{ready-with, tried, vectors-of, Previous-step, is-some, previous-of, tries, Doing, none, within, Session, at-rest}
+use Rattle.session.specs.Session.{doing-now}
 use Rattle.session.specs.Session.{session-after, rests}
 use Rattle.session.proofs.Truth.{differ}
 use Rattle.session.proofs.Lengths.{its-family, long-area, pack-length}

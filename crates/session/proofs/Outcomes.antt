@@ -28,8 +28,10 @@ use Rattle.driver.specs.declared.Counters.{Counters}
 use Rattle.driver.specs.declared.Answer.{Answer}
 use Rattle.driver.specs.declared.Answer.the-variants.{Evaluate, Finished, Ready, Refused, Empty}
 use Rattle.driver.specs.declared.Need.the-variants.{Met, Unmet}
-use Rattle.driver.specs.Calls.{Held, Called, step-to, in-phase, first-at, at-pass, with-radius, at-stage, taken, setting-of, permits, figures-after, with-history, without-history, history-after}
-use Rattle.driver.specs.Calls.{take-first, take-callback, ask-pass, ask-stage, stage-need, by-need, begin-stages, take-pass, ask-candidate, take-stage, take-candidate}
+use Rattle.driver.specs.Calls.{Held, Called, step-to, in-phase, first-at, at-pass, with-radius, at-stage, taken, setting-of, permits, figures-after}
+use Rattle.driver.specs.Calls.{with-history, without-history, history-after}
+use Rattle.driver.specs.Calls.{take-first, take-callback, ask-pass, ask-stage, stage-need, by-need, begin-stages, take-pass, ask-candidate, take-stage}
+use Rattle.driver.specs.Calls.{take-candidate}
 use Rattle.driver.specs.Calls.{replied, whole-area, as-long, pending, in-range, awaiting, good-stage, good-end, one-more, counted, spoiled, settled, going-on}
 use Rattle.driver.specs.Calls.{start, attempted, attempt, reply, accepted, accept, called-back, accept-with-callback, abandon, made}
 use Rattle.driver.specs.Calls.{Test, guarded, start-tests, attempt-tests, reply-tests, accept-tests, callback-tests, abandon-tests}

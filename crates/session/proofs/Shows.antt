@@ -24,7 +24,8 @@ use Rattle.session.specs.Attempt.{for-another, closes, Asking, done, sto
 use Rattle.session.specs.Claim.{called-for, Allowed, room-in}
 use Rattle.session.specs.Alike.{Alike, Same-vectors, Same-start, Same-attempt}
 use Rattle.session.specs.Session.{Shown, evaluates, finished-with, ready-at, stops, nothing, Seen, answer-shown, call-seen, Resting, ready-with}
-use Rattle.session.specs.Session.{Previous-step, no-step, some-step, is-some, quotient, kernel-setting, tried, Doing, none, within, Session, finished-by, counts-on, doing-shown, session-seen}
+use Rattle.session.specs.Session.{Previous-step, no-step, some-step, is-some, quotient, kernel-setting, tried, Doing, none, within, Session}
+use Rattle.session.specs.Session.{finished-by, counts-on, doing-shown, session-seen}
 use Rattle.session.proofs.Lengths.{its-family, Long-in, whole-pack}
 use Rattle.session.proofs.Follows.{some-empty, Follows}
 use Rattle.session.proofs.Asked.{reply-is}

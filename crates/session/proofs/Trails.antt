@@ -129,7 +129,8 @@ module _ (h : Held) (calls : List Call) where
   trail-on t c x is (spoils i area) on = absurd (differ on)
   trail-on t c x is (readies area) on = absurd (differ on)
   trail-on t (Reply d) x is (iterates s radius b area p below same) on = from-phase P.Pass refl t p d x is (iterates s radius b area p below same) refl on
-  trail-on t (Reply d) x is (begins w s b area p twelve met same turned) on = from-phase P.Pass refl t p d x is (begins w s b area p twelve met same turned) refl on
+  trail-on t (Reply d) x is (begins w s b area p twelve met same turned) on =
+      from-phase P.Pass refl t p d x is (begins w s b area p twelve met same turned) refl on
   trail-on t (Reply d) x is (goes-on s b area p below both) on = from-phase P.Stage refl t p d x is (goes-on s b area p below both) refl on
   trail-on t (Reply d) x is (asks-candidate s b area p at both) on = from-phase P.Stage refl t p d x is (asks-candidate s b area p at both) refl on
   trail-on t (Reply d) x is (finishes w p good long both) on = from-phase P.Candidate refl t p d x is (finishes w p good long both) refl on

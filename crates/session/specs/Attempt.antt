@@ -1,7 +1,8 @@
 -- An attempt in one piece, as the Rust has it: `attempt_step`, `spectral_radius`, `run_orthogonal_polynomial`, `run_rkc`, `run_rkmc2` and `run_tsrkc2`, with
--- `?` where the Rust has `?`. Document 01, "driver.rs: the calls", and document 02, CR 1 and CR 6. Where the port differs, as docs/DIFFERENCES.md lists, so does
--- this: `evaluate`, `close`, every norm (document 02, CR 4), and what `stage-need` (RKC's 200 where the Rust's count overflows, RKG's counts by document 02,
--- CR 5, RKMC2's thresholds, 11 where TSRKC2 would need more than 1000 stages) and `recurrence` (the tables of RKC, RKMC2 and TSRKC2) take from the layers below.
+-- `?` where the Rust has `?`. Document 01, "driver.rs: the calls", and document 02, CR 1 and CR 6. Where the port differs, as docs/DIFFERENCES.md lists, so
+-- does this: `evaluate`, `close`, every norm (document 02, CR 4), and what `stage-need` (RKC's 200 where the Rust's count overflows, RKG's counts by document
+-- 02, CR 5, RKMC2's thresholds, 11 where TSRKC2 would need more than 1000 stages) and `recurrence` (the tables of RKC, RKMC2 and TSRKC2) take from the layers
+-- below.
 -- The right-hand side is whoever answers `ask`. The vectors, which the Rust changes in place, go from line to line. ⊕ ⊗ are operations on doubles: they round.
 use Prim.Native.Nat.{ℕ, zero, suc, _+_, _-_}
 use mathlib.Core.Bool.{Bool, true, false, cond, _||_}

@@ -109,7 +109,7 @@ written-part k n a {ys} {x} h l long e =
           ∙ sym (width k n));
     }
 
--- ---- the first ten vectors: the area without the candidate
+-- ---- the first ten vectors: the area up to the candidate
 
 -- the first ten of one, and the others of the other
 infixl 10 _beside_

@@ -60,7 +60,7 @@ fn gather(one: f64, two: f64, initial: f64, slope: f64, first: f64) -> Entries
     }
 }
 
-// `slope` is the element of the derivative, which is not in the area yet. `ten` is the area without the candidate: a row
+// `slope` is the element of the derivative, which is not in the area yet. `ten` is the area up to the candidate: a row
 // reads other vectors than the one it writes, so it is lent the shortest part that holds them all.
 fn entries_at(ten: &[f64], n: usize, i: usize, slope: f64) -> Entries
     requires { ⌜ length (now ten) ≡ 10 * n ⌝ }
@@ -74,7 +74,7 @@ fn entries_at(ten: &[f64], n: usize, i: usize, slope: f64) -> Entries
     gather(one, two, initial, slope, first)
 }
 
-// Whether the state's term comes first in a row. A choice of two, as the next is, so that a loop over the columns is
+// Whether the state's term comes first in a row. A choice of two, as the next two are, so that a loop over the columns is
 // compiled apart for each: with one of three it is not.
 fn state_first(form: RowForm) -> bool
     ensures { λ r. ⌜ r ≡ state-first form ⌝ }

@@ -66,8 +66,11 @@ returns-6 c = rw (c .tsrkc2 .ensures, c .before .match .keys6)
 returns-7 : tie.Need-returns-7
 unfolding facts-of ofBits
 returns-7 c = let r = c .before .before .match .rest in
-    rw (c .orthogonal4 .ensures, c .before .rounded-up4 .ensures,
-    last-family _ (r .0 .0 .0 .0 .0 .1) (r .0 .0 .0 .0 .1) (r .0 .0 .0 .1) (r .0 .0 .1) (r .0 .1) (r .1))
+    rw (
+      c .orthogonal4 .ensures,
+      c .before .rounded-up4 .ensures,
+      last-family _ (r .0 .0 .0 .0 .0 .1) (r .0 .0 .0 .0 .1) (r .0 .0 .0 .1) (r .0 .0 .1) (r .0 .1) (r .1),
+    )
 
 pub facts-of-spec : {M : Type 1} → statement M
 facts-of-spec =
