@@ -39,6 +39,8 @@ pub mod Close
 pub mod Case
 -- Two cases of the Rust in RKMC2, by computation: `rkmc2-of-calls`.
 pub mod RustCase
+-- A case of the Rust in TSRKC2, three attempts of which two have a history, by computation: `two-step-of-calls`.
+pub mod TwoStepCase
 -- What they rest on. First what holds of any numbers, needs and lengths;
 pub mod Truth
 pub mod Numbers

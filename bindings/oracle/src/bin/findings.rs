@@ -266,8 +266,8 @@ fn bits(values: &[f64]) -> String {
     each.collect::<Vec<_>>().join(" ")
 }
 
-/// A case that session/proofs/RustCase.antt has: what a family evaluates of y' = -rate y with two temperatures in attempts that
-/// are accepted, and where they end.
+/// A case that RustCase.antt or TwoStepCase.antt of session/proofs has: what a family evaluates of y' = -rate y with two
+/// temperatures in attempts that are accepted, and where they end.
 fn case(family: u64, steps: &[f64], state: [f64; 2], rates: [f64; 2]) {
     let rhs = |derivative: &mut [f64], point: &[f64], _: f64| {
         for i in 0..2 {
@@ -328,5 +328,10 @@ fn main() {
     two_step_times();
     case(RKMC2, &[0.37], [-13.9375, -1.375], [19.1, 4.5]);
     case(RKMC2, &[0.43], [-20.5625, 22.125], [3.0, 56.7]);
-    case(TSRKC2, &[0.37, 0.25], [-13.9375, -1.375], [19.1, 4.5]);
+    case(
+        TSRKC2,
+        &[0.297001, 0.439274, 0.779309],
+        [-20.25, -7.4375],
+        [14.8, 6.4],
+    );
 }

@@ -4,6 +4,7 @@
 --     outer           the code that is walked
 --     core-clauses, outer-clauses     the two contracts
 --     Core            the driver's triple
+--     freed, stored, after-core, walk     the walk from its end: the locals freed; what is stored after the driver's call; from that call's return on; all of it
 --     outer-meets     from the driver's triple, that the code meets its contract
 use mathlib.Core.Path.{_≡_, refl, ap}
 use Prim.Native.Nat.{ℕ}
@@ -229,15 +230,15 @@ module _ {M : Type 1} (𝓤 : URA M) (H : Heap 𝓤) (A : Atoms 𝓤) (W : Given
       $ fjoin ! $ nothing ! $ fjoin ! $
       owned ! P.the-row (Is P.the-row) (LL.makes P.the-type P′.the-plain 𝓤 H A) (answered r) _ (is-reply r w is) $ move ! (1 ∷ 0 ∷ []) $ done !
 
-  -- where the locals lie
-  abbrev locals-at : (l₀ l₁ l₂ l₃ l₄ l₅ l₆ l₇ l₈ : ℕ) → Env 𝓤 H
-  locals-at l₀ l₁ l₂ l₃ l₄ l₅ l₆ l₇ l₈ = (P′.mir, l₀) ∷ (R′.mir, l₁) ∷ (tyRef (named 0) mut (pointee (K.the-row .written)), l₂)
-      ∷ (sliceTy (tyRef (named 1) mut (tyFloat binary64)), l₃) ∷ (sliceTy (tyRef (named 2) imm (tyFloat binary64)), l₄) ∷ (O′.mir, l₅) ∷ (K′.mir, l₆)
-      ∷ (tyRef erased mut (tyFloat binary64), l₇) ∷ (area-ty, l₈) ∷ []
-
   -- the type of the reference to the counters
   abbrev counters-ref : Ty
   counters-ref = tyRef (named 0) mut (pointee (K.the-row .written))
+
+  -- where the locals lie
+  abbrev locals-at : (l₀ l₁ l₂ l₃ l₄ l₅ l₆ l₇ l₈ : ℕ) → Env 𝓤 H
+  locals-at l₀ l₁ l₂ l₃ l₄ l₅ l₆ l₇ l₈ = (P′.mir, l₀) ∷ (R′.mir, l₁) ∷ (counters-ref, l₂)
+      ∷ (sliceTy (tyRef (named 1) mut (tyFloat binary64)), l₃) ∷ (sliceTy (tyRef (named 2) imm (tyFloat binary64)), l₄) ∷ (O′.mir, l₅) ∷ (K′.mir, l₆)
+      ∷ (tyRef erased mut (tyFloat binary64), l₇) ∷ (area-ty, l₈) ∷ []
 
   -- answer and record, handed back
   abbrev handed : Val → Val → Val
@@ -292,7 +293,7 @@ module _ {M : Type 1} (𝓤 : URA M) (H : Heap 𝓤) (A : Atoms 𝓤) (W : Given
       ∷ ‵ (fat fullShare K′.mir l₆ 0 v₆) ∷ ‵ (fdies K′.mir l₆) ∷ ‵ (froom O′.mir l₅ 0) ∷ ‵ (fdies O′.mir l₅)
       ∷ ‵ (fat fullShare (sliceTy (tyRef (named 2) imm (tyFloat binary64))) l₄ 0 v₄) ∷ ‵ (fdies (sliceTy (tyRef (named 2) imm (tyFloat binary64))) l₄)
       ∷ ‵ (fat fullShare (sliceTy (tyRef (named 1) mut (tyFloat binary64))) l₃ 0 v₃) ∷ ‵ (fdies (sliceTy (tyRef (named 1) mut (tyFloat binary64))) l₃)
-      ∷ ‵ (fat fullShare (tyRef (named 0) mut (pointee (K.the-row .written))) l₂ 0 (vptr b o)) ∷ ‵ (fdies (tyRef (named 0) mut (pointee (K.the-row .written))) l₂)
+      ∷ ‵ (fat fullShare counters-ref l₂ 0 (vptr b o)) ∷ ‵ (fdies counters-ref l₂)
       ∷ ‵ (fat fullShare R′.mir l₁ 0 v₁) ∷ ‵ (fdies R′.mir l₁) ∷ ‵ (froom P′.mir l₀ 0) ∷ ‵ (fdies P′.mir l₀) ∷ [])
       (lands C Λ (locals-at l₀ l₁ l₂ l₃ l₄ l₅ l₆ l₇ l₈) (place 5 []) w (seq (assign (place 2 (deref K′.mir ∷ [])) (rvOpd (copy (place 5 (field 2 ∷ [])))))
       (seq (assign (place 0 []) (aggregate (copy (place 5 (field 0 ∷ [])) ∷ copy (place 5 (field 1 ∷ [])) ∷ []))) return)) (atRet (locals-at l₀ l₁ l₂ l₃ l₄ l₅ l₆ l₇ l₈) Post))
