@@ -37,6 +37,9 @@ write-text-requires-3 c κs = tt
 write-text-requires-4 : tie.Need-write-text-requires-4 Inv-loop μ-loop
 write-text-requires-4 c κs = tt
 
+write-text-requires-5 : tie.Need-write-text-requires-5 Inv-loop μ-loop
+write-text-requires-5 c κs = tt
+
 returns : tie.Need-returns Inv-loop μ-loop
 returns c = tt
 
@@ -55,4 +58,5 @@ main-spec =
     write-text-requires-2
     write-text-requires-3
     write-text-requires-4
+    write-text-requires-5
     returns)
