@@ -4,6 +4,7 @@ ghost use Rattle.driver.specs.Promises.{Meets, holding};
 pub use driver::Answer;
 pub use driver::Counters;
 pub use driver::Figures;
+pub use driver::History;
 pub use driver::Iteration;
 pub use driver::Next;
 pub use driver::Phase;
