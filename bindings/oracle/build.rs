@@ -84,15 +84,7 @@ fn recording(name: &str, text: &str) -> String {
             let rkc = with_recorded_locals(text, "fn run_rkc", "Some(omega_zero)", "nu_tilde");
             let rkmc2 =
                 with_recorded_locals(&rkc, "fn run_rkmc2", "Some(omega_zero)", "b_previous");
-            let tsrkc2 =
-                with_recorded_two_step(&rkmc2, "fn run_tsrkc2", "0.0", "let gain =", TSRKC2_REST);
-            with_recorded_two_step(
-                &tsrkc2,
-                "fn run_tsrkc3",
-                "nu_tilde",
-                "let current_gain =",
-                &tsrkc3_rest(text),
-            )
+            with_recorded_two_step(&rkmc2)
         }
         _ => text.to_string(),
     }
@@ -110,43 +102,19 @@ fn with_recorded_locals(text: &str, heading: &str, omega_zero: &str, fourth: &st
     [before, function, after].concat()
 }
 
-/// The same for TSRKC2 and TSRKC3, whose theta is worked out only where a stage follows: its expression is recorded with the
-/// row, so that every row has one. After the loop, at the statement that begins with `last`, comes `rest`.
-fn with_recorded_two_step(
-    text: &str,
-    heading: &str,
-    fourth: &str,
-    last: &str,
-    rest: &str,
-) -> String {
-    let [before, function, after] = function(text, heading);
+/// The same for TSRKC2, whose theta is worked out only where a stage follows: its expression is recorded with the row, so
+/// that every row has one. After the loop come the table's entry, the values at 1.1 and the gain.
+fn with_recorded_two_step(text: &str) -> String {
+    let [before, function, after] = function(text, "fn run_tsrkc2");
     let theta = expression(&function, "let theta =");
-    let row = format!("record_row(stage, [mu, nu, mu_tilde, {fourth}, {theta}])");
+    let row = format!("record_row(stage, [mu, nu, mu_tilde, 0.0, {theta}])");
+    let rest = "record_two_step([acosh_t_star, sinh_acosh_t_star, omega_zero_minus_one, \
+                derivative_t_star, second_derivative_t_star, gain])";
     let first = "record_first(stages, Some(omega_zero), omega_one, theta_previous)";
     let function = recorded_before(&function, LOOP, first);
     let function = recorded_after(&function, "            mu_tilde =", &row);
-    let function = recorded_after(&function, last, rest);
+    let function = recorded_after(&function, "let gain =", rest);
     [before, function, after].concat()
-}
-
-/// Of TSRKC2 the table's entry, the values at 1.1 and the gain.
-const TSRKC2_REST: &str = "record_two_step([acosh_t_star, sinh_acosh_t_star, omega_zero_minus_one, \
-    derivative_t_star, second_derivative_t_star, gain])";
-
-/// Of TSRKC3 the tables' entries, the values at 1.25 and the gains. Two entries are no locals: their expressions stand in
-/// `run_tsrkc3`, and are recorded as they stand there.
-fn tsrkc3_rest(text: &str) -> String {
-    let [_, function, _] = function(text, "fn run_tsrkc3");
-    let [two, one] = ["2.0", "1.0"].map(|less| {
-        let sinh = format!("((degree - {less}) * scaled_acosh).sinh()");
-        assert_eq!(function.matches(&sinh).count(), 1, "{sinh} once");
-        sinh
-    });
-    format!(
-        "record_third_order([acosh_t_star, sinh_acosh_t_star, omega_zero_minus_one, {two}, {one}], \
-         [derivative_t_star, second_derivative_t_star, third_derivative_t_star], \
-         [current_gain, history_gain, recurrence_gain])"
-    )
 }
 
 /// The first line of a loop over the stages.

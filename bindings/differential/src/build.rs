@@ -96,7 +96,7 @@ fn tables() -> [Table; 5] {
     [
         Table {
             held: 2..201,
-            ..in_rows("RKC's omega_one", 1, "rkc_omega_one", |s| {
+            ..in_rows("RKC's omega_one", 1, "coefficients", |s| {
                 rows(1, s).omega_one
             })
         },

@@ -2,11 +2,10 @@
 //! driver.rs of a checkout, behind stand-ins for what they lean on. In family.rs the two stage formulas of RKG are replaced by
 //! those of document 02, CR 5 ([`formulas`]); nothing else is changed.
 //!
-//! [`Oracle`] runs `initialize`, `attempt_step` and `accept_step` and shows all eleven vectors, the history of TSRKC2 or TSRKC3,
-//! and s, k and r of an attempt. [`stages`] are the test build's stage counts, [`checkout::stages`] those of the checkout as it
-//! stands. [`rows`] reads the coefficients of a stage, which are locals of the Rust, from a copy with added lines, and so do
-//! [`two_step_stages`] and [`third_order_stages`] the stage counts of TSRKC2 and TSRKC3. [`thresholds`] holds RKMC2's stage rule as
-//! the engine has it.
+//! [`Oracle`] runs `initialize`, `attempt_step` and `accept_step` and shows all eleven vectors, TSRKC2's history, and s, k and r
+//! of an attempt. [`stages`] are the test build's stage counts, [`checkout::stages`] those of the checkout as it stands. [`rows`]
+//! reads the coefficients of a stage, which are locals of the Rust, from a copy with added lines, and so does
+//! [`two_step_stages`] the stage count of TSRKC2. [`thresholds`] holds RKMC2's stage rule as the engine has it.
 pub mod checkout;
 pub mod formulas;
 pub mod radii;
@@ -19,9 +18,8 @@ mod recorded;
 
 use formulas::{FORMULAS, Formula};
 pub use recorded::{
-    Row, Rows, ThirdOrder, TwoStep, radius_for, rows, starts, third_order_count,
-    third_order_overflows, third_order_radius_for, third_order_rows, third_order_stages,
-    two_step_count, two_step_overflows, two_step_rows, two_step_stages,
+    Row, Rows, TwoStep, radius_for, rows, two_step_count, two_step_overflows, two_step_rows,
+    two_step_stages,
 };
 pub use shim::SolveError;
 pub(crate) use shim::{OdeFunction, OdeProblem, SolveOptions, SolverStats, integrator};
@@ -39,13 +37,7 @@ pub const RKMC2: u64 = 6;
 /// The number of TSRKC2.
 pub const TSRKC2: u64 = 7;
 
-/// The number of TSRKC3.
-pub const TSRKC3: u64 = 8;
-
-/// The least count of TSRKC3's own stages. Where it starts with RKC's, that has 2.
-pub const THIRD_ORDER_LEAST: usize = 3;
-
-/// The families that the engine has, by their numbers.
+/// The families, by their numbers.
 pub const FAMILIES: [u64; 7] = [RKC, 2, 3, 4, 5, RKMC2, TSRKC2];
 
 /// Those whose stage count depends on r alone. TSRKC2's depends on the history too.
@@ -61,21 +53,17 @@ pub fn overflows(family: u64, scaled_radius: f64) -> bool {
 
 /// A family's name, by its number.
 pub fn name(family: u64) -> &'static str {
-    let names = [
-        "RKC", "RKL1", "RKL2", "RKG1", "RKG2", "RKMC2", "TSRKC2", "TSRKC3",
-    ];
-    names[family as usize - 1]
+    ["RKC", "RKL1", "RKL2", "RKG1", "RKG2", "RKMC2", "TSRKC2"][family as usize - 1]
 }
 
-/// The least and the largest stage count that documents 01 and 02 permit to a family, to TSRKC3 where it starts with RKC's
-/// stages: its own begin at [`THIRD_ORDER_LEAST`].
+/// The least and the largest stage count that documents 01 and 02 permit to a family.
 pub fn ends(family: u64) -> (usize, usize) {
     match family {
         RKC | 4 => (2, 200),
         2 | 3 => (3, 199),
         5 => (3, 200),
         RKMC2 => (3, 1000),
-        TSRKC2 | TSRKC3 => (2, 1000),
+        TSRKC2 => (2, 1000),
         _ => panic!("no family {family}"),
     }
 }

@@ -1,7 +1,7 @@
 //! Locals of the Rust, read from a copy of the test build to which build.rs adds lines that record them.
 #![allow(dead_code)]
 
-use crate::{OdeFunction, OdeProblem, SolveError, SolverStats, TSRKC2, TSRKC3};
+use crate::{OdeFunction, OdeProblem, SolveError, SolverStats, TSRKC2};
 use family::StabilizedFamily;
 use std::cell::RefCell;
 use workspace::StabilizedKernel;
@@ -18,9 +18,9 @@ pub struct Row {
     pub mu: f64,
     pub nu: f64,
     pub mu_tilde: f64,
-    /// In RKC and TSRKC3 nu_tilde, in RKMC2 b_previous, in TSRKC2 0.
+    /// In RKC nu_tilde, in RKMC2 b_previous, in TSRKC2 0.
     pub gamma_tilde: f64,
-    /// In TSRKC2 and TSRKC3 the Rust has none after the last stage; this is its expression there too.
+    /// In TSRKC2 the Rust has none after the last stage; this is its expression there too.
     pub theta: f64,
 }
 
@@ -28,15 +28,13 @@ pub struct Row {
 #[derive(Clone, Debug, Default, PartialEq)]
 pub struct Rows {
     pub stages: usize,
-    /// Of RKC, RKMC2, TSRKC2 and TSRKC3 alone.
+    /// Of RKC, RKMC2 and TSRKC2 alone.
     pub omega_zero: Option<f64>,
     pub omega_one: f64,
     pub first_mu_tilde: f64,
     pub rows: Vec<Row>,
     /// Of TSRKC2 alone.
     pub two_step: Option<TwoStep>,
-    /// Of TSRKC3's own stages alone: it has none where it starts with RKC's.
-    pub third_order: Option<ThirdOrder>,
 }
 
 /// What TSRKC2 has beside its rows.
@@ -50,23 +48,6 @@ pub struct TwoStep {
     /// The first and the second derivative of the Chebyshev polynomial there.
     pub derivatives: [f64; 2],
     pub gain: f64,
-}
-
-/// What TSRKC3 has beside its own rows.
-#[derive(Clone, Copy, Debug, PartialEq)]
-pub struct ThirdOrder {
-    /// acosh(1.25).
-    pub acosh: f64,
-    /// The sinh of that.
-    pub sinh: f64,
-    pub omega_zero_minus_one: f64,
-    /// The sinh of degree − 2 and of degree − 1 times acosh(1.25) over the degree.
-    pub sinh_degree_minus_two: f64,
-    pub sinh_degree_minus_one: f64,
-    /// The first, the second and the third derivative of the Chebyshev polynomial there.
-    pub derivatives: [f64; 3],
-    /// Of the state, of the older state and of the last stage.
-    pub gains: [f64; 3],
 }
 
 thread_local! {
@@ -112,23 +93,6 @@ pub(crate) fn record_two_step([acosh, sinh, omega_zero_minus_one, first, second,
     RECORDED.with_borrow_mut(|rows| rows.two_step = recorded);
 }
 
-pub(crate) fn record_third_order(
-    [acosh, sinh, omega_zero_minus_one, sinh_two, sinh_one]: [f64; 5],
-    derivatives: [f64; 3],
-    gains: [f64; 3],
-) {
-    let recorded = Some(ThirdOrder {
-        acosh,
-        sinh,
-        omega_zero_minus_one,
-        sinh_degree_minus_two: sinh_two,
-        sinh_degree_minus_one: sinh_one,
-        derivatives,
-        gains,
-    });
-    RECORDED.with_borrow_mut(|rows| rows.third_order = recorded);
-}
-
 /// A right-hand side that is 0 everywhere, or stops at once.
 struct Zero {
     stops: bool,
@@ -157,12 +121,10 @@ const fn problem(stops: bool) -> OdeProblem<Zero, ()> {
     }
 }
 
-/// The coefficients that the Rust uses for a family and a stage count, in TSRKC2 and TSRKC3 without a history.
+/// The coefficients that the Rust uses for a family and a stage count, in TSRKC2 without a history.
 pub fn rows(family: u64, stages: usize) -> Rows {
-    match family {
-        TSRKC2 => return two_step_rows(radius_for(stages), None),
-        TSRKC3 => return third_order_rows(third_order_radius_for(stages, None), None),
-        _ => {}
+    if family == TSRKC2 {
+        return two_step_rows(radius_for(stages), None);
     }
     let run = StabilizedKernel::new(family_of(family), 1).run_recurrence(
         &problem(false),
@@ -195,55 +157,9 @@ pub fn two_step_overflows(scaled_radius: f64, q: f64) -> bool {
     root >= 18_446_744_073_709_551_616.0
 }
 
-/// The q from which on TSRKC3 runs its own stages, and RKC's below.
-const OWN_FROM: f64 = 0.49;
-
-/// The number of the stage rule of TSRKC3's start, and the two of its own.
-const START_SLOPE: f64 = 1.54;
-const THIRD_ORDER_SLOPE: f64 = 1.267_029_788_142_009;
-const THIRD_ORDER_BEND: f64 = 0.442_562_207_455_629_63;
-
-/// Whether TSRKC3 starts with RKC's stages, as it does without a history.
-pub fn starts(q: Option<f64>) -> bool {
-    q.unwrap_or(0.0) < OWN_FROM
-}
-
-/// A scaled radius at which TSRKC3 has this stage count, without a history for none. Its own counts begin at 3.
-pub fn third_order_radius_for(stages: usize, q: Option<f64>) -> f64 {
-    let root = stages as f64 - 0.5;
-    if starts(q) {
-        return (root * root - 1.0) / START_SLOPE;
-    }
-    (root * root - 4.0) / (THIRD_ORDER_SLOPE * third_order_bracket(q.unwrap_or(0.0)))
-}
-
-fn third_order_bracket(q: f64) -> f64 {
-    (1.0 - q) + (1.0 + q * (THIRD_ORDER_BEND + q)).sqrt()
-}
-
-/// Whether the sum in the Rust's stage count of TSRKC3 overflows, as in TSRKC2's.
-pub fn third_order_overflows(scaled_radius: f64, q: Option<f64>) -> bool {
-    let root = if starts(q) {
-        (START_SLOPE * scaled_radius + 1.0).sqrt()
-    } else {
-        let bracket = third_order_bracket(q.unwrap_or(0.0));
-        (4.0 + THIRD_ORDER_SLOPE * scaled_radius * bracket).sqrt()
-    };
-    root >= 18_446_744_073_709_551_616.0
-}
-
 /// The coefficients of TSRKC2 for a scaled radius and q, without a history for none.
 pub fn two_step_rows(scaled_radius: f64, q: Option<f64>) -> Rows {
-    rows_by_history(TSRKC2, scaled_radius, q)
-}
-
-/// The coefficients of TSRKC3 likewise: RKC's where it starts.
-pub fn third_order_rows(scaled_radius: f64, q: Option<f64>) -> Rows {
-    rows_by_history(TSRKC3, scaled_radius, q)
-}
-
-fn rows_by_history(family: u64, scaled_radius: f64, q: Option<f64>) -> Rows {
-    run_by_history(family, scaled_radius, q, false).expect("a run with zero derivatives");
+    two_step(scaled_radius, q, false).expect("a run with zero derivatives");
     RECORDED.take()
 }
 
@@ -256,43 +172,17 @@ pub fn two_step_stages(scaled_radius: f64, q: Option<f64>) -> Option<usize> {
 /// The same as it comes out, which is 2 where the sum overflows and that is not checked. It is recorded before the first stage
 /// is evaluated, where the run is stopped.
 pub fn two_step_count(scaled_radius: f64, q: Option<f64>) -> usize {
-    count_by_history(TSRKC2, scaled_radius, q)
-}
-
-/// The stage count that the Rust gives TSRKC3 likewise.
-pub fn third_order_stages(scaled_radius: f64, q: Option<f64>) -> Option<usize> {
-    let overflows = third_order_overflows(scaled_radius, q);
-    (!overflows).then(|| third_order_count(scaled_radius, q))
-}
-
-/// That of TSRKC3 as it comes out: where the sum overflows and that is not checked, 2 where it starts and else 3.
-pub fn third_order_count(scaled_radius: f64, q: Option<f64>) -> usize {
-    count_by_history(TSRKC3, scaled_radius, q)
-}
-
-fn count_by_history(family: u64, scaled_radius: f64, q: Option<f64>) -> usize {
-    let stopped = run_by_history(family, scaled_radius, q, true);
+    let stopped = two_step(scaled_radius, q, true);
     assert_eq!(stopped, Err(SolveError::Stopped));
     RECORDED.take().stages
 }
 
-/// `run_tsrkc2` or `run_tsrkc3` with a step of 1, so that the step before it is q.
-fn run_by_history(
-    family: u64,
-    scaled_radius: f64,
-    q: Option<f64>,
-    stops: bool,
-) -> Result<(), SolveError> {
-    let mut kernel = StabilizedKernel::new(family_of(family), 1);
+/// `run_tsrkc2` with a step of 1, so that the step before it is q.
+fn two_step(scaled_radius: f64, q: Option<f64>, stops: bool) -> Result<(), SolveError> {
+    let mut kernel = StabilizedKernel::new(family_of(TSRKC2), 1);
     kernel.previous_accepted_step = q;
     kernel.previous_accepted_state = q.map(|_| vec![1.0]);
-    let run = if family == TSRKC2 {
-        StabilizedKernel::run_tsrkc2
-    } else {
-        StabilizedKernel::run_tsrkc3
-    };
-    run(
-        &mut kernel,
+    kernel.run_tsrkc2(
         &problem(stops),
         &[1.0],
         0.0,

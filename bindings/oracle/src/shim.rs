@@ -23,8 +23,8 @@ impl<F, P> OdeProblem<F, P> {
     }
 }
 
-/// The errors that the five files name, and two of ours: the right-hand side asks to stop, and TSRKC2 or TSRKC3 would need more
-/// than 1000 stages, which the Rust does not limit.
+/// The errors that the five files name, and two of ours: the right-hand side asks to stop, and TSRKC2 would need more than 1000
+/// stages, which the Rust does not limit.
 #[derive(Clone, Copy, Debug, Eq, PartialEq)]
 pub enum SolveError {
     NonFiniteDerivative,
@@ -132,7 +132,6 @@ macro_rules! carried_families {
                 5 => StabilizedFamily::Rkg2,
                 6 => StabilizedFamily::Rkmc2,
                 7 => StabilizedFamily::Tsrkc2,
-                8 => StabilizedFamily::Tsrkc3,
                 _ => panic!("no family {number}"),
             }
         }

@@ -3,8 +3,7 @@
 
 use crate::integrator::StepKernel;
 use crate::{
-    OdeFunction, OdeProblem, SolveError, SolveOptions, SolverStats, TSRKC2, TSRKC3,
-    third_order_stages, two_step_stages,
+    OdeFunction, OdeProblem, SolveError, SolveOptions, SolverStats, TSRKC2, two_step_stages,
 };
 use family::StabilizedFamily;
 use std::fmt::{Display, Formatter};
@@ -61,7 +60,7 @@ impl Display for Figures {
     }
 }
 
-/// What TSRKC2 and TSRKC3 keep of the last accepted step: the step, and the state before it.
+/// What TSRKC2 keeps of the last accepted step: the step, and the state before it.
 #[derive(Clone, Debug, PartialEq)]
 pub struct History {
     pub step: f64,
@@ -225,36 +224,31 @@ impl Oracle {
         })
     }
 
-    /// The stage count that the Rust gives for r and a step; nothing where the sum of TSRKC2 or TSRKC3 overflows.
+    /// The stage count that the Rust gives for r and a step; nothing where TSRKC2's sum overflows.
     fn by_rule(&self, scaled_radius: f64, step: f64) -> Option<usize> {
         let kernel = &self.kernel;
         let q = kernel
             .previous_accepted_step
             .map(|previous| previous / step);
         let by_radius = kernel.family.stages(scaled_radius);
-        let by_history = if kernel.family == family_of(TSRKC3) {
-            third_order_stages
-        } else {
-            two_step_stages
-        };
-        by_radius.or_else(|| by_history(scaled_radius, q))
+        by_radius.or_else(|| two_step_stages(scaled_radius, q))
     }
 
-    /// Whether TSRKC2 or TSRKC3 would need more than its largest count, at which the Rust goes on and the engine does not.
+    /// Whether TSRKC2 would need more than its largest count, at which the Rust goes on and the engine does not.
     pub fn needs_too_many(&self, scaled_radius: f64, step: f64) -> bool {
-        let by_history = |family: &u64| self.kernel.family == family_of(*family);
-        let Some(family) = [TSRKC2, TSRKC3].into_iter().find(by_history) else {
-            return false;
+        let (_, largest) = crate::ends(TSRKC2);
+        let two_step = self.kernel.family == family_of(TSRKC2);
+        let within = || {
+            self.by_rule(scaled_radius, step)
+                .filter(|count| *count <= largest)
         };
-        let (_, largest) = crate::ends(family);
-        let count = self.by_rule(scaled_radius, step);
-        count.is_none_or(|count| count > largest)
+        two_step && within().is_none()
     }
 
     /// `attempt` after `iteration` on the same replies. What it evaluates beside the passes are its stages, stages 2 to s and
     /// the candidate, as many as the Rust's rule gives for r. `attempt_step` writes the eigenvector in the power iteration
-    /// alone, so that the same bits afterwards show the same last pass. Where TSRKC2 or TSRKC3 would need too many stages, only
-    /// the power iteration is made.
+    /// alone, so that the same bits afterwards show the same last pass. Where TSRKC2 would need too many stages, only the power
+    /// iteration is made.
     pub fn figures<F: RightHandSide + ?Sized>(
         &mut self,
         iteration: &Result<Iteration, SolveError>,
@@ -295,7 +289,7 @@ impl Oracle {
         self.stats.rhs_evaluations as u64
     }
 
-    /// What TSRKC2 and TSRKC3 keep of the last accepted step. The kernel has either both parts or none.
+    /// What TSRKC2 keeps of the last accepted step. The kernel has either both parts or none.
     pub fn history(&self) -> Option<History> {
         let kernel = &self.kernel;
         let both = kernel

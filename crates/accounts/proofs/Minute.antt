@@ -102,7 +102,7 @@ module _ (r : Record) where
       let row = coefficients m s j c in
       let w = with_row m r.n r.arguments.step row v d in
       let last = with_candidate m r.n r.arguments.step s c row w in
-      after_stage (ltb j s) (calls.at_stage s (j + 1) (rows.next m j c row) r) last (exchanged w) refl
+      after_stage (ltb j s) (calls.at_stage s (j + 1) (rows.next m c row) r) last (exchanged w) refl
   replied_answers P.Candidate v d = (refl, refl, refl)
   replied_answers P.Finished v d = refl
   replied_answers P.Callback v d = refl

@@ -13,7 +13,7 @@ use Rattle.driver.specs.Answers.{SameAnswer}
 use Rattle.driver.specs.Calls.{Held, Called, one_more}
 use Rattle.driver.specs.Promises.{Meets, Keeps, StandsFor, holding, stage_taken, outcome_of}
 use Rattle.driver.proofs.Counting.{said}
-use Rattle.lent.specs.Numbers.{Record, Answered, brought, meaning, in_numbers, handed_back}
+use Rattle.lent.specs.Numbers.{Record, Answered, meaning, in_numbers, handed_back}
 use Rattle.lent.specs.Lent.{lent, place_of, staged_outcome}
 use Rattle.capi.specs.Promises.{MeetsLent, KeepsLent}
 
@@ -58,12 +58,12 @@ bringing {A} call {before = before} {adaptive} {area} {left} {given} e t = subst
 -- ---- the tests of a stage's reply
 
 -- as they were made, of what was read for them
-pub as_tested : (w : List ℕ) (x : List Float) (c : Counters) (area d : List Float) {at : Kept} {r b : Bool} → at ≡ place_of w x
-    → r ≡ stage_taken at c area d → r ≡ b → stage_taken (place_of w x) c area d ≡ b
-as_tested w x c area d e t u = sym (ap (λ (k : Kept). stage_taken k c area d) e) ∙ (sym t ∙ u)
+pub as_tested : (w : List ℕ) (c : Counters) (area d : List Float) {at : Kept} {r b : Bool} → at ≡ place_of w → r ≡ stage_taken at c area d → r ≡ b
+    → stage_taken (place_of w) c area d ≡ b
+as_tested w c area d e t u = sym (ap (λ (k : Kept). stage_taken k c area d) e) ∙ (sym t ∙ u)
 
 -- they say of the record what they say of its place
 pub at_place : (w : List ℕ) (x : List Float) (c : Counters) (area d : List Float) {kept : Kept} {b : Bool} → kept ≡ meaning (lent w x)
-    → stage_taken (place_of w x) c area d ≡ b → stage_taken kept c area d ≡ b
-unfolding stage_taken meaning brought
+    → stage_taken (place_of w) c area d ≡ b → stage_taken kept c area d ≡ b
+unfolding stage_taken meaning
 at_place w x c area d e h = ap (λ (k : Kept). stage_taken k c area d) e ∙ h

@@ -58,7 +58,7 @@ fn lent_reply_in_stages(
     area: &mut [f64],
     derivative: &[f64],
 ) -> Answer
-    requires { stage_taken (place_of wholes.old doubles.old) (counting evaluations.old finished_attempts) area.old derivative.now ≡ true }
+    requires { stage_taken (place_of wholes.old) (counting evaluations.old finished_attempts) area.old derivative.now ≡ true }
     ensures { Replies (lent wholes.old doubles.old) (counting evaluations.old finished_attempts) area.old
         derivative.now (left_with result wholes.new doubles.new) (counting evaluations.new finished_attempts)
         area.new }
@@ -82,7 +82,7 @@ fn lent_reply_elsewhere(
     area: &mut [f64],
     derivative: &[f64],
 ) -> Answer
-    requires { stage_taken (place_of wholes.old doubles.old) (counting evaluations.old finished_attempts.old) area.old derivative.now ≡ false }
+    requires { stage_taken (place_of wholes.old) (counting evaluations.old finished_attempts.old) area.old derivative.now ≡ false }
     ensures { Replies (lent wholes.old doubles.old) (counting evaluations.old finished_attempts.old)
         area.old derivative.now (left_with result wholes.new doubles.new)
         (counting evaluations.new finished_attempts.new) area.new }
@@ -118,7 +118,7 @@ pub extern "C" fn stabilized_reply(
         evaluations: *evaluations,
         finished_attempts: *finished_attempts,
     };
-    let found = lent::place(wholes, doubles);
+    let found = lent::place(wholes);
     if driver::stage_taken(found, counters, area, derivative) {
         return lent_reply_in_stages(
             wholes,

@@ -101,7 +101,7 @@ fn times_of(s: u64, before: Tally) -> Tally
     while j <= s {
         let row = coefficients::row_coefficients(setting, s, j, c);
         t = stored::tallied(t, time_agrees(s, j, row.theta));
-        c = coefficients::next_recurrence(setting, j, c, row);
+        c = coefficients::next_recurrence(setting, c, row);
         j += 1;
     }
     t

@@ -1,11 +1,11 @@
+mod Bits
 mod Small
 mod Doubles
 mod RowTable
 pub mod CloseRows
 pub mod Zeros
-pub mod Methods
+pub mod CloseTable
 pub mod Carried
-pub mod ThirdRows
 mod Normalized
 mod PaperValues
 mod Multiplier

@@ -1,6 +1,7 @@
 // `run_rkmc2` of chebyshev.rs: the recurrence of the Chebyshev polynomials, and the weights of the candidate. omega_zero and
 // omega_one are tables by s, read only when the stages begin.
 ghost use Rattle.std.specs.Prelude.{◌≡◌};
+ghost use Rattle.family.specs.Family.{RKMC2};
 ghost use Rattle.coefficients.specs.Rows as rows;
 
 use crate::{Advance, Coefficients, Polynomials, Recurrence, Weights};
@@ -28,7 +29,6 @@ pub fn first_polynomials(omega: f64, s: u64) -> Polynomials
         second_previous: 0.0,
         second_previous_two: 0.0,
         gain: 0.0,
-        history_gain: 0.0,
     }
 }
 
@@ -49,7 +49,6 @@ pub fn next_polynomials(p: Polynomials) -> Polynomials
         second_previous: p.second_previous,
         second_previous_two: p.second_previous_two,
         gain: p.gain,
-        history_gain: p.history_gain,
     }
 }
 
@@ -83,7 +82,7 @@ pub fn row(c: Recurrence) -> Coefficients
 // The row and what is carried on from it, with the polynomials worked out once.
 pub fn advance(c: Recurrence) -> Advance
     ensures row_value { result.row ≡ rows.rkmc2_row c }
-    ensures after_value { result.after ≡ rows.next_with (rows.rkmc2_polynomials_on c.polynomials) c result.row }
+    ensures after_value { result.after ≡ rows.next_of RKMC2 c result.row }
 {
     let p = c.polynomials;
     let polynomials = next_polynomials(p);

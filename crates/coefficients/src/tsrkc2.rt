@@ -1,9 +1,10 @@
 // `run_tsrkc2` of chebyshev.rs: what follows from s and the quotient of the steps, worked out when the stages begin, and the
 // recurrence of the Chebyshev polynomials. omega_zero - 1 is a table by s.
 ghost use Rattle.std.specs.Prelude.{◌≡◌};
+ghost use Rattle.family.specs.Family.{TSRKC2};
 ghost use Rattle.coefficients.specs.Rows as rows;
 
-use crate::{Advance, Coefficients, Polynomials, Recurrence, two_step};
+use crate::{Advance, Coefficients, Polynomials, Recurrence};
 
 // The value of the polynomial of degree s at omega_zero.
 const T_STAR: f64 = 1.1;
@@ -17,28 +18,47 @@ pub fn omega_zero(s: u64) -> f64
     1.0 + tsrkc2_omega_zero_minus_one::omega_zero_minus_one(s)
 }
 
-// The polynomial's first derivative at omega_zero.
-fn derivative(s: u64) -> f64
-    ensures { result ≡ rows.tsrkc2_derivative s }
+fn omega_zero_squared_minus_one(s: u64) -> f64
+    ensures { result ≡ rows.omega_zero_squared_minus_one s }
 {
     let w = tsrkc2_omega_zero_minus_one::omega_zero_minus_one(s);
-    two_step::derivative_at(SINH_ACOSH_T_STAR, w, s)
+    w * (w + 2.0)
+}
+
+// The polynomial's first derivative at omega_zero.
+fn derivative_t_star(s: u64) -> f64
+    ensures { result ≡ rows.derivative_t_star s }
+{
+    let degree = ieee::double_of(s);
+    let root = ieee::sqrt(omega_zero_squared_minus_one(s));
+    degree * SINH_ACOSH_T_STAR / root
+}
+
+// Its second, from the first.
+fn second_derivative_t_star(s: u64, first: f64) -> f64
+    requires { first ≡ rows.derivative_t_star s }
+    ensures { result ≡ rows.second_derivative_t_star s }
+{
+    let degree = ieee::double_of(s);
+    let w = omega_zero(s);
+    (degree * degree * T_STAR - w * first) / omega_zero_squared_minus_one(s)
 }
 
 pub fn omega_one(q: f64, s: u64) -> f64
     ensures { result ≡ rows.tsrkc2_omega_one q s }
 {
-    let w = tsrkc2_omega_zero_minus_one::omega_zero_minus_one(s);
-    let first = derivative(s);
-    let second = two_step::second_derivative_at(T_STAR, first, w, s);
-    two_step::omega_one_from(q, T_STAR, first, second)
+    let first = derivative_t_star(s);
+    let second = second_derivative_t_star(s, first);
+    let x = (1.0 - q) * first;
+    let root = ieee::sqrt(x * x + 4.0 * q * T_STAR * second);
+    (x + root) / (2.0 * second)
 }
 
 // The weight of the last stage in the candidate, from omega_one, here `w`.
 fn gain(q: f64, w: f64, s: u64) -> f64
     ensures { result ≡ rows.tsrkc2_gain q w s }
 {
-    (1.0 + q) * T_STAR / (q * T_STAR + w * derivative(s))
+    (1.0 + q) * T_STAR / (q * T_STAR + w * derivative_t_star(s))
 }
 
 pub fn first_polynomials(q: f64, omega: f64, s: u64) -> Polynomials
@@ -58,7 +78,6 @@ pub fn first_polynomials(q: f64, omega: f64, s: u64) -> Polynomials
         second_previous: 0.0,
         second_previous_two: 0.0,
         gain,
-        history_gain: 0.0,
     }
 }
 
@@ -79,7 +98,6 @@ pub fn next_polynomials(p: Polynomials) -> Polynomials
         second_previous: p.second_previous,
         second_previous_two: p.second_previous_two,
         gain: p.gain,
-        history_gain: p.history_gain,
     }
 }
 
@@ -113,7 +131,7 @@ pub fn row(c: Recurrence) -> Coefficients
 // The row and what is carried on from it, with the polynomial worked out once.
 pub fn advance(c: Recurrence) -> Advance
     ensures row_value { result.row ≡ rows.tsrkc2_row c }
-    ensures after_value { result.after ≡ rows.next_with (rows.tsrkc2_polynomials_on c.polynomials) c result.row }
+    ensures after_value { result.after ≡ rows.next_of TSRKC2 c result.row }
 {
     let p = c.polynomials;
     let polynomials = next_polynomials(p);

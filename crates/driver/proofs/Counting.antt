@@ -109,7 +109,7 @@ stage_goes r v d =
     let row = coefficients m s j c in
     let w = with_row m r.n r.arguments.step row v d in
     either (ltb j s)
-    (ask_stage (at_stage s (j + 1) (next m j c row) r) (exchanged w))
+    (ask_stage (at_stage s (j + 1) (next m c row) r) (exchanged w))
     (ask_candidate r (with_candidate m r.n r.arguments.step s c row w))
     (asks _ _ _ _)
     (candidate_goes r (with_candidate m r.n r.arguments.step s c row w))

@@ -1,9 +1,9 @@
--- What the calls do to the history, in the words of document 02, CR 6, to which CR 7 refers: "Accept keeps them; accept with a callback, start and abandon mark
--- them absent in the record, and that part of the area stands." A family that keeps an older state takes on, at accept, the state that was kept before the
--- candidate takes its place and the step of the finished attempt (`accept_keeps`), and no other family anything (`accept_leaves`); the three others mark the
--- history absent (`start_forgets`, `callback_forgets`, `abandon_forgets`) and leave the older state (`start_stands`, `callback_stands`, `abandon_stands`); an
--- attempt and a reply leave both (`attempt_stands`, `reply_stands`, `spoiled_stands`), so that an attempt that is not accepted leaves no trace in them. From
--- the definitions of the calls alone.
+-- What the calls do to the history, in the words of document 02, CR 6: "Accept keeps them; accept with a callback, start and abandon mark them absent in the
+-- record, and that part of the area stands." A family that keeps an older state takes on, at accept, the state that was kept before the candidate takes its
+-- place and the step of the finished attempt (`accept_keeps`), and no other family anything (`accept_leaves`); the three others mark the history absent
+-- (`start_forgets`, `callback_forgets`, `abandon_forgets`) and leave the older state (`start_stands`, `callback_stands`, `abandon_stands`); an attempt and a
+-- reply leave both (`attempt_stands`, `reply_stands`, `spoiled_stands`), so that an attempt that is not accepted leaves no trace in them. From the definitions
+-- of the calls alone.
 use mathlib.Core.Path.{◌≡◌, refl, ap, ◌∙◌}
 use mathlib.Core.Bool.{Bool, true, false, cond, ◌||◌}
 use mathlib.Core.List.{List}
@@ -12,7 +12,8 @@ use lib.Dec.{eqb, ltb}
 use lib.ListN.{replicate}
 use lib.Ieee.{Float, le}
 use Rattle.ieee.specs.Double.{◌⊕◌, nought, one, min_positive}
-use Rattle.family.specs.Family.{family_of, keeps_older}
+use Rattle.family.specs.Family.{TSRKC2, family_of, keeps_older}
+use Rattle.family.proofs.Special.{tsrkc2_keeps, only_tsrkc2}
 use Rattle.coefficients.specs.Rows.{coefficients, next}
 use Rattle.workspace.specs.declared.Arguments.{Arguments}
 use Rattle.workspace.specs.Vectors.{Vectors, ◌with◌≔◌, number, unpack, each, vector_norm, all_finite, first_derivative, last_derivative, derivative}
@@ -69,14 +70,14 @@ pub record KeepsHistory (r : Record) (v : Vectors) (x : Step) : Type 0 where
   pub state_kept : x.vectors older_state ≡ v state
   pub candidate_taken : x.vectors state ≡ v candidate
 
-pub accept_keeps : (r : Record) (v : Vectors) → keeps_older (family_of r.family) ≡ true → KeepsHistory r v (accepted r v)
+pub accept_keeps : (r : Record) (v : Vectors) → family_of r.family ≡ TSRKC2 → KeepsHistory r v (accepted r v)
 unfolding accepted with_older history_after
-accept_keeps r v e = record { present = rw e; step_kept = rw e; state_kept = rw e; candidate_taken = rw e }
+accept_keeps r v is = let e = ap keeps_older is ∙ tsrkc2_keeps in record { present = rw e; step_kept = rw e; state_kept = rw e; candidate_taken = rw e }
 
-pub accept_leaves : (r : Record) (v : Vectors) → keeps_older (family_of r.family) ≡ false
+pub accept_leaves : (r : Record) (v : Vectors) → (family_of r.family ≡ TSRKC2 → ⊥)
     → ((accepted r v).kept.history ≡ r.history) × ((accepted r v).vectors older_state ≡ v older_state)
 unfolding accepted with_older history_after in_phase
-accept_leaves r v e = (rw e, rw e)
+accept_leaves r v other = let e = (only_tsrkc2 (family_of r.family) other).0 in (rw e, rw e)
 
 -- ---- an attempt and its replies
 
@@ -147,7 +148,7 @@ reply_stands P.Stage r v d =
     let c = r.staging.recurrence in
     let row = coefficients m s j c in
     let w = with_row m r.n r.arguments.step row v d in
-    stage_stands (ltb j s) r (at_stage s (j + 1) (next m j c row) r) v (exchanged w) (with_candidate m r.n r.arguments.step s c row w) refl refl refl
+    stage_stands (ltb j s) r (at_stage s (j + 1) (next m c row) r) v (exchanged w) (with_candidate m r.n r.arguments.step s c row w) refl refl refl
 reply_stands P.Candidate r v d = (refl, last_stands r v d)
 reply_stands P.Finished r v d = (refl, refl)
 reply_stands P.Callback r v d = (refl, refl)

@@ -12,13 +12,12 @@ use lib.ListN.{length}
 use lib.Ieee.{Float}
 use Rattle.ieee.specs.Double.{◌⊕◌, nought}
 use Rattle.family.specs.declared.Setting.{Setting}
+use Rattle.family.specs.declared.RowForm.{RowForm}
 use Rattle.family.specs.declared.RowForm.TheVariants.{OrthogonalRow}
 use Rattle.family.specs.Family.{Family, facts_of, kind}
 use Rattle.coefficients.specs.declared.Coefficients.{Coefficients}
 use Rattle.coefficients.specs.declared.Recurrence.{Recurrence}
-use Rattle.coefficients.specs.declared.Polynomials.{Polynomials}
-use Rattle.coefficients.specs.Rows.{recurrence, coefficients, next, next_of, next_with}
-use Rattle.coefficients.proofs.Methods.{orthogonal_stands}
+use Rattle.coefficients.specs.Rows.{recurrence, coefficients, next, next_of, next_polynomials}
 use Rattle.workspace.specs.declared.Arguments.{Arguments}
 use Rattle.workspace.specs.Vectors.{Vectors, unpack, vector_count, all_finite, candidate}
 use Rattle.workspace.specs.Kernel.{with_direction, perturbation_of, turned, radius_of, ended, scaled, first_stage, with_row, exchanged, with_candidate}
@@ -132,14 +131,14 @@ module _ (r : Record) (v : Vectors) (d : List Float) where
   abbrev staged : Bool → Step
   staged b =
       cond b
-      (ask_stage (at_stage r.staging.stages (r.staging.stage + 1) (next (setting_of r) r.staging.stage r.staging.recurrence row_of) r)
+      (ask_stage (at_stage r.staging.stages (r.staging.stage + 1) (next (setting_of r) r.staging.recurrence row_of) r)
       (exchanged (rowed (setting_of r) row_of)))
       (ask_candidate r (kept (setting_of r) row_of (rowed (setting_of r) row_of)))
 
   -- below stage s
   pub stages_on : {m : Setting} {c : Coefficients} {on : Recurrence} {made : Record} {x : Next} {w : Vectors} → m ≡ setting_of r
       → c ≡ coefficients m r.staging.stages r.staging.stage r.staging.recurrence → r.staging.stage < r.staging.stages
-      → w ≡ exchanged (with_row m r.n r.arguments.step c v d) → on ≡ next m r.staging.stage r.staging.recurrence c
+      → w ≡ exchanged (with_row m r.n r.arguments.step c v d) → on ≡ next m r.staging.recurrence c
       → made ≡ at_stage r.staging.stages (r.staging.stage + 1) on r → Steps (ask_stage made w) x w → Steps (take_stage r v d) x w
   unfolding take_stage
   stages_on {m} {c} {w = w} b e h p q k t =
@@ -148,10 +147,10 @@ module _ (r : Record) (v : Vectors) (d : List Float) where
       let f = r.staging.recurrence in
       let row = e ∙ ap (λ (y : Setting). coefficients y s j f) b in
       let vectors = p ∙ ap (λ (y : Setting). exchanged (rowed y c)) b ∙ ap (λ (y : Coefficients). exchanged (rowed (setting_of r) y)) row in
-      let carried = q ∙ ap (λ (y : Setting). next y j f c) b ∙ ap (next (setting_of r) j f) row in
+      let carried = q ∙ ap (λ (y : Setting). next y f c) b ∙ ap (next (setting_of r) f) row in
       as_step
       (ap (λ (y : Record). ask_stage y w) (k ∙ ap (λ (y : Recurrence). at_stage s (j + 1) y r) carried)
-      ∙ ap (ask_stage (at_stage s (j + 1) (next (setting_of r) j f row_of) r)) vectors
+      ∙ ap (ask_stage (at_stage s (j + 1) (next (setting_of r) f row_of) r)) vectors
       ∙ sym (ap staged (lt-ltb j s h)))
       t
 
@@ -172,15 +171,19 @@ module _ (r : Record) (v : Vectors) (d : List Float) where
 
 -- where the rows need no polynomials, of what the stages carry on theta alone moves
 pub by_theta : (t : Float) (g : Staging) (m : Setting) (r : Record) (row : Coefficients) → (facts_of (kind m)).row ≡ OrthogonalRow
-    → g.stages ≡ r.staging.stages → g.recurrence ≡ next m r.staging.stage r.staging.recurrence row
+    → g.stages ≡ r.staging.stages → g.recurrence ≡ next m r.staging.recurrence row
     → outcome_of (OnByTheta t g.stage g.recurrence.theta_previous) r ≡ outcome_of (On t g) r
-unfolding outcome_of next_of
+unfolding outcome_of next_of next_polynomials
 by_theta t g m r row orthogonal same e =
     let s = r.staging.stages in
     let c = r.staging.recurrence in
     let moving : Float → Recurrence = λ theta. record { theta_previous = theta; theta_previous_two = c.theta_previous; polynomials = c.polynomials } in
-    let on = ap (λ (y : Recurrence). moving y.theta_previous) e
-    ∙ sym (ap (λ (p : Polynomials). next_with p c row) (orthogonal_stands (kind m) r.staging.stage c.polynomials orthogonal)) ∙ sym e in
+    let in_form : RowForm → Recurrence = λ form. record {
+      theta_previous = row.theta;
+      theta_previous_two = c.theta_previous;
+      polynomials = next_polynomials form c.polynomials;
+    } in
+    let on = ap (λ (y : Recurrence). moving y.theta_previous) e ∙ sym (ap in_form orthogonal) ∙ sym e in
     ap (λ (y : Recurrence). outcome_of (On t (record { stages = s; stage = g.stage; recurrence = y })) r) on
     ∙ ap (λ (k : ℕ). outcome_of (On t (record { stages = k; stage = g.stage; recurrence = g.recurrence })) r) (sym same)
 

@@ -1,5 +1,5 @@
 -- The calls, one after another: what each answers, and what it leaves of record, counters and area. Document 01, "driver.rs: the calls" and "When a call is
--- turned away", and document 02, CR 2, CR 6 and CR 7 (the history). ⊕ ⊗ ⊘ are operations on doubles: they round.
+-- turned away", and document 02, CR 2 and CR 6 (the history). ⊕ ⊗ ⊘ are operations on doubles: they round.
 use Rattle.std.specs.Prelude.{ℕ, ◌+◌, ◌-◌, ◌*◌, ◌^◌, ◌≡◌, Bool, true, false, cond, not, ◌&&◌, ◌||◌, List, [], ◌∷◌, leb, ltb, eqb, length, replicate, Float}
 use Rattle.std.specs.Float.Ieee.{eq, lt}
 use Rattle.std.specs.Float.Ieee.Scale.{finite}
@@ -158,7 +158,7 @@ unfoldable pub ask_stage : Record → Vectors → Step
 ask_stage r v = let a = r.arguments in
     step_to (Evaluate (a.time ⊕ a.step ⊗ r.staging.recurrence.theta_previous) (number previous_one)) r v
 
--- how many stages this scaled radius takes; 11 where TSRKC2 or TSRKC3 would need more than 1000
+-- how many stages this scaled radius takes; 11 where TSRKC2 would need more than 1000
 unfoldable pub stage_need : Setting → Float → Need
 stage_need m radius = cond (exceeds (kind m) m.quotient radius) (Unmet 11) (Met (stage_count (kind m) m.quotient radius))
 
@@ -193,11 +193,11 @@ take_stage r v d = let m = setting_of r in
     let row = coefficients m s j c in
     let w = with_row m r.n r.arguments.step row v d in
     cond (ltb j s)
-    (ask_stage (at_stage s (j + 1) (next m j c row) r) (exchanged w))
+    (ask_stage (at_stage s (j + 1) (next m c row) r) (exchanged w))
     (ask_candidate r (with_candidate m r.n r.arguments.step s c row w))
 
--- What a finished attempt tells: its error norm, s, k, and r "as it was before NaN became 0" (document 02, CR 2). `stage_count` takes a NaN as 0, but in TSRKC2
--- and TSRKC3; the r that it was handed stands in the record.
+-- What a finished attempt tells: its error norm, s, k, and r "as it was before NaN became 0" (document 02, CR 2). `stage_count` takes a NaN as 0; the r that it
+-- was handed stands in the record.
 abbrev pub figures_of : Float → ℕ → ℕ → Float → Figures
 figures_of norm s k radius = record { norm = norm; stages = s; passes = k; scaled_radius = radius }
 

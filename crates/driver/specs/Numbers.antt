@@ -1,6 +1,6 @@
--- The numbers that the six calls are turned away with, sorted by what a call then leaves. Document 01, "When a call is turned away", and document 02, CR 6 and
--- CR 7. A new number comes in here and in the list of its call (`Numbers-of` in session/specs/Refusals): the statements of driver, session, lent and accounts
--- go by the lists and not by a range.
+-- The numbers that the six calls are turned away with, sorted by what a call then leaves. Document 01, "When a call is turned away", and document 02, CR 6. A
+-- new number comes in here and in the list of its call (`Numbers-of` in session/specs/Refusals): the statements of driver, session, lent and accounts go by
+-- the lists and not by a range.
 use Rattle.std.specs.Prelude.{ℕ, Bool, false, ◌||◌, List, [], ◌∷◌, ◌++◌, eqb}
 
 abbrev pub one_of : List ℕ → ℕ → Bool
@@ -11,7 +11,7 @@ one_of (i ∷ is) k = eqb k i || one_of is k
 abbrev pub standing_numbers : List ℕ
 standing_numbers = 1 ∷ 2 ∷ 3 ∷ 4 ∷ 5 ∷ 6 ∷ 7 ∷ 8 ∷ []
 
--- of a reply that ends the power iteration: its need of stages is refused, and the iteration's work is kept (11: document 02, CR 6 and CR 7)
+-- of a reply that ends the power iteration: its need of stages is refused, and the iteration's work is kept (11: document 02, CR 6)
 abbrev pub need_numbers : List ℕ
 need_numbers = 11 ∷ []
 

@@ -89,7 +89,6 @@ no_recurrence =
       second_previous = nought;
       second_previous_two = nought;
       gain = nought;
-      history_gain = nought;
     } in
     record { theta_previous = nought; theta_previous_two = nought; polynomials = p }
 

@@ -59,7 +59,7 @@ pub fn good_pass(pass: u64) -> bool
 fn permits(setting: Setting, s: u64) -> bool
     ensures { result ≡ calls.permits setting s }
 {
-    family::permitted(setting.method, s)
+    family::permitted(setting.family, s)
 }
 
 pub fn good_stage(setting: Setting, stages: u64, stage: u64) -> bool

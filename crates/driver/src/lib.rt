@@ -181,7 +181,6 @@ fn no_recurrence() -> Recurrence
             second_previous: 0.0,
             second_previous_two: 0.0,
             gain: 0.0,
-            history_gain: 0.0,
         },
     }
 }

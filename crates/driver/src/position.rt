@@ -24,7 +24,11 @@ pub fn setting_of(record: Record) -> Setting
 {
     let history = record.history;
     let quotient = quotient_of(history, record.arguments.step);
-    family::setting_for(record.family, history.present, quotient)
+    Setting {
+        family: record.family,
+        history: history.present,
+        quotient,
+    }
 }
 
 // The phases are numbered from 0 in their order.

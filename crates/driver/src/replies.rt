@@ -79,14 +79,14 @@ fn ask_stage(record: Record) -> Next
     }
 }
 
-// How many stages this scaled radius takes, or 11 where TSRKC2 or TSRKC3 would need more than 1000.
+// How many stages this scaled radius takes, or 11 where TSRKC2 would need more than 1000.
 fn stage_need(setting: Setting, scaled_radius: f64) -> Need
     ensures { result ≡ calls.stage_need setting scaled_radius }
 {
-    if family::exceeds(setting.method, setting.quotient, scaled_radius) {
+    if family::exceeds(setting.family, setting.quotient, scaled_radius) {
         return Need::Unmet(11);
     }
-    Need::Met(family::stages(setting.method, setting.quotient, scaled_radius))
+    Need::Met(family::stages(setting.family, setting.quotient, scaled_radius))
 }
 
 fn first_stage(record: Record, area: &mut [f64], scaled_radius: f64, stages: u64) -> Next
@@ -155,9 +155,9 @@ pub fn take_pass(record: Record, area: &mut [f64], derivative: &[f64]) -> Next
 // The next stage's evaluation. RKL and RKG carry polynomials that they never read, and these are not handed back.
 fn onward(setting: Setting, time: f64, staging: Staging) -> Staged
     ensures { (r : Record) (row : Coefficients) → staging.stages ≡ r.staging.stages
-        → staging.recurrence ≡ next setting r.staging.stage r.staging.recurrence row → outcome_of result r ≡ outcome_of (On time staging) r }
+        → staging.recurrence ≡ next setting r.staging.recurrence row → outcome_of result r ≡ outcome_of (On time staging) r }
 {
-    let own = family::facts_of(setting.method);
+    let own = family::facts_of(setting.family);
     let form = own.row;
     match form {
         RowForm::ChebyshevRow => Staged::On { time, staging },
@@ -211,7 +211,6 @@ pub fn take_stage(record: Record, area: &mut [f64], derivative: &[f64]) -> Stage
 
 pub fn take_candidate(record: Record, area: &mut [f64], derivative: &[f64]) -> Next
     requires record_in_bounds { 11 * «record».n ≤ length area.old }
-    requires record_in_bounds_2 { vector_count (family_of «record».family) * «record».n ≤ length area.old }
     requires derivative_len { length derivative.now ≡ «record».n }
     ensures { Steps (calls.take_candidate «record» (unpack «record».n area.old) derivative.now) result
         (unpack «record».n area.new) }
@@ -232,7 +231,6 @@ pub fn take_candidate(record: Record, area: &mut [f64], derivative: &[f64]) -> N
 // By the phase. The stages are `take_stage`'s, and a phase with no evaluation pending is turned away before.
 pub fn replied(record: Record, area: &mut [f64], derivative: &[f64]) -> Next
     requires record_in_bounds { 11 * «record».n ≤ length area.old }
-    requires record_in_bounds_2 { vector_count (family_of «record».family) * «record».n ≤ length area.old }
     requires derivative_len { length derivative.now ≡ «record».n }
     requires record_value { calls.in_range «record».phase «record» ≡ true }
     requires record_value_2 { in_stages «record».phase ≡ false }

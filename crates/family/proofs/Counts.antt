@@ -152,7 +152,7 @@ negative_below m e = is_true (ltb 0 (suc m * up e * 1 + 0 * 1 * down e))
     some a d h = omega arith
 
 -- their rules take a NaN and what is negative as 0
-pub from_zero : (g : Orthogonal) (r : Float) → radius_for (made_of g) r ≡ Whole.max r nought
+pub from_zero : (g : Orthogonal) (r : Float) → radius_for (facts_of (made_of g)).rule r ≡ Whole.max r nought
 unfolding made_of facts_of radius_for
 from_zero Legendre1 r = refl
 from_zero Legendre2 r = refl

@@ -16,8 +16,8 @@ unfolding by_rule by_division
 rule_divided (RoundedDown slope) q r = refl
 rule_divided (RoundedUp offset slope shift) q r = ap (λ (x : Float). to_unsigned 64 (ceil x)) (halved (sqrt (offset ⊕ slope ⊗ r) ⊖ shift))
 rule_divided ByThreshold q r = refl
-rule_divided (WithQuotient offset slope bend) q r = refl
+rule_divided (WithQuotient slope bend) q r = refl
 
 pub stage_count_divided : (f : Family) (q r : Float) → stage_count f q r ≡ divided_count f q r
 unfolding stage_count divided_count before_limits
-stage_count_divided f q r = ap (limited f) (rule_divided (facts_of f).rule q (radius_for f r))
+stage_count_divided f q r = let rule = (facts_of f).rule in ap (limited f) (rule_divided rule q (radius_for rule r))

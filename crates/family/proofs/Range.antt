@@ -7,8 +7,8 @@ use mathlib.Core.Bool.{Bool, true, false, not, ◌&&◌, ◌||◌}
 use lib.Dec.{T, leb, eqb, leb→le, le→leb, eqb→eq, lit≤}
 use lib.Ieee.Fits.{and_l, and_r, and_i, eq→eqb}
 use Rattle.family.specs.declared.Facts.{Facts}
-use Rattle.family.specs.Family.{Family, RKC, RKL1, RKL2, RKG1, RKG2, RKMC2, TSRKC2, TSRKC3START, TSRKC3, smallest_count, largest_count}
-use Rattle.family.specs.Family.{odd_only, permitted, facts_of, most_stages}
+use Rattle.family.specs.Family.{Family, RKC, RKL1, RKL2, RKG1, RKG2, RKMC2, TSRKC2, smallest_count, largest_count, odd_only, permitted, facts_of}
+use Rattle.family.specs.Family.{most_stages}
 use Rattle.family.specs.Family.{Orthogonal, Legendre1, Legendre2, Gegenbauer1, Gegenbauer2, made_of}
 
 pub record Permitted (f : Family) (s : ℕ) : Type 0 where
@@ -70,8 +70,6 @@ facts_sound RKG1 = tt
 facts_sound RKG2 = tt
 facts_sound RKMC2 = tt
 facts_sound TSRKC2 = tt
-facts_sound TSRKC3START = tt
-facts_sound TSRKC3 = tt
 
 record Sound (f : Family) : Type 0 where
   from_two : 2 ≤ smallest_count f
@@ -111,9 +109,6 @@ largest_reached = refl
 
 pub largest_to : (f : Family) → largest_count f ≤ most_stages
 largest_to f = (sound_says f).to_most
-
-pub smallest_to : (f : Family) → smallest_count f ≤ most_stages
-smallest_to f = le_trans (sound_says f).ordered (sound_says f).to_most
 
 pub permitted_range : (f : Family) (s : ℕ) → T (permitted f s) → (2 ≤ s) × (s ≤ most_stages)
 permitted_range f s t = let p = permitted_says f s t in let x = sound_says f in (le_trans x.from_two p.from, le_trans p.to x.to_most)

@@ -14,7 +14,7 @@ unfoldable pub by_division : StageRule → Float → Float → ℕ
 by_division (RoundedDown slope) q r = by_rule (RoundedDown slope) q r
 by_division (RoundedUp offset slope shift) q r = to_unsigned 64 (ceil ((sqrt (offset ⊕ slope ⊗ r) ⊖ shift) ⊘ two))
 by_division ByThreshold q r = by_rule ByThreshold q r
-by_division (WithQuotient offset slope bend) q r = by_rule (WithQuotient offset slope bend) q r
+by_division (WithQuotient slope bend) q r = by_rule (WithQuotient slope bend) q r
 
 unfoldable pub divided_count : Family → Float → Float → ℕ
-divided_count f q r = limited f (by_division (facts_of f).rule q (radius_for f r))
+divided_count f q r = let rule = (facts_of f).rule in limited f (by_division rule q (radius_for rule r))

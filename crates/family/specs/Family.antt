@@ -1,8 +1,8 @@
--- The families, and how many stages each runs: family.rs, and for TSRKC2 and TSRKC3 the heads of `run_tsrkc2` and `run_tsrkc3`. Document 01, "family.rs: stage
--- counts", and document 02, CR 1, CR 3, CR 5, CR 6 and CR 7.
+-- The families, and how many stages each runs: family.rs, and for TSRKC2 the head of `run_tsrkc2`. Document 01, "family.rs: stage counts", and document 02,
+-- CR 1, CR 3, CR 5 and CR 6.
 -- ⊕ ⊖ ⊗ are operations on doubles: they round.
 use Rattle.std.specs.Prelude.{ℕ, ◌+◌, ◌%◌, min, max, Bool, true, false, cond, not, ◌&&◌, ◌||◌, leb, ltb, eqb, Float}
-use Rattle.std.specs.Float.Ieee.{to_unsigned, lt, neg}
+use Rattle.std.specs.Float.Ieee.{to_unsigned}
 use Rattle.ieee.specs.Double.{◌⊕◌, ◌⊖◌, ◌⊗◌, nearest, nought, half, one, three, four, eight, nine, ten, twelve, twenty_five}
 use Rattle.ieee.specs.Sqrt.{sqrt}
 use Rattle.ieee.specs.Whole.{floor, ceil}
@@ -13,29 +13,20 @@ use Rattle.family.specs.declared.Setting.{Setting}
 use Rattle.family.specs.declared.Facts.{Facts}
 use Rattle.family.specs.declared.StageRule.{StageRule}
 use Rattle.family.specs.declared.StageRule.TheVariants.{RoundedDown, RoundedUp, ByThreshold, WithQuotient}
-use Rattle.family.specs.declared.RowForm.{RowForm}
 use Rattle.family.specs.declared.RowForm.TheVariants.{ChebyshevRow, OrthogonalRow, InitialFirstRow, PlainRow}
-use Rattle.family.specs.declared.ErrorForm.{ErrorForm}
-use Rattle.family.specs.declared.ErrorForm.TheVariants.{FirstDerivative, BothDerivatives, LastDerivative, ThirdAtStart, ThirdWithOlder}
-use Rattle.family.specs.declared.CandidateForm.{CandidateForm}
-use Rattle.family.specs.declared.CandidateForm.TheVariants.{LastStage, Combined, WithOlder, WithBothStates}
+use Rattle.family.specs.declared.ErrorForm.TheVariants.{FirstDerivative, BothDerivatives, LastDerivative}
+use Rattle.family.specs.declared.CandidateForm.TheVariants.{LastStage, Combined, WithOlder}
 
--- TSRKC3 stands here twice, since its attempts run one of two methods: its start, RKC's stages, and its own.
 pub data Family : Type 0 where
-  RKC RKL1 RKL2 RKG1 RKG2 RKMC2 TSRKC2 TSRKC3START TSRKC3 : Family
+  RKC RKL1 RKL2 RKG1 RKG2 RKMC2 TSRKC2 : Family
 
--- numbered 1 to 8, TSRKC3 as one
+-- numbered 1 to 7 in that order
 abbrev pub family_count : ℕ
-family_count = 8
+family_count = 7
 
 unfoldable pub known : ℕ → Bool
 known number = leb 1 number && leb number family_count
 
--- the two_step families, TSRKC2 and TSRKC3, whose attempts go by the step accepted before (document 02, CR 6 and CR 7)
-abbrev pub two_step : ℕ → Bool
-two_step number = eqb number 7 || eqb number 8
-
--- by the number of a family, which for TSRKC3 means its start, or of a method: 9 is TSRKC3's own
 unfoldable pub family_of : ℕ → Family
 family_of number =
     cond (eqb number 1) RKC
@@ -43,22 +34,15 @@ family_of number =
     (cond (eqb number 3) RKL2
     (cond (eqb number 4) RKG1
     (cond (eqb number 6) RKMC2
-    (cond (eqb number 7) TSRKC2
-    (cond (eqb number 8) TSRKC3START
-    (cond (eqb number 9) TSRKC3 RKG2)))))))
+    (cond (eqb number 7) TSRKC2 RKG2)))))
 
--- The method that an attempt of this family runs for the quotient q, by number: the family's own; of TSRKC3 the start "when q < 0.49", and otherwise, a NaN
--- included, 9 (document 02, CR 7).
-unfoldable pub method : ℕ → Float → ℕ
-method number q = cond (eqb number 8 && not (lt q (nearest 49 100))) 9 number
-
--- What an attempt runs under: its method, given by the family's number and q; whether there is a history, a step accepted before; and q, the last accepted step
--- over the present one, 0 without a history (document 02, CR 6 and CR 7: TSRKC2 and TSRKC3 alone read the two).
+-- What an attempt runs under: its family, given by number; whether there is a history, a step accepted before; and q, the last accepted step over the present
+-- one, 0 without a history (document 02, CR 6: TSRKC2 alone reads the two).
 abbrev pub setting : ℕ → Bool → Float → Setting
-setting number history q = record { method = method number q; history = history; quotient = q }
+setting number history q = record { family = number; history = history; quotient = q }
 
 abbrev pub kind : Setting → Family
-kind m = family_of m.method
+kind m = family_of m.family
 
 -- The four families of orthogonal.rs, by the polynomial that each is made of: those of demand 3.
 pub data Orthogonal : Type 0 where
@@ -73,7 +57,7 @@ made_of Gegenbauer2 = RKG2
 -- ---- each family's facts: its permitted counts (smallest, largest, only odd ones), its stage rule, whether a need of more than the largest count is refused
 -- where others run the largest, whether its area keeps an older state, and the forms of its rows, its error and its candidate
 
--- the largest count of any family: RKMC2's, TSRKC2's and TSRKC3's
+-- the largest count of any family, RKMC2's and TSRKC2's
 abbrev pub most_stages : ℕ
 most_stages = 1000
 
@@ -91,36 +75,18 @@ orthogonal smallest largest odd rule = record {
   candidate = LastStage;
 }
 
--- what RKC shares with TSRKC3's start, which refuses more than its largest count and keeps an older state
-abbrev pub chebyshev : ℕ → Bool → ErrorForm → Facts
-chebyshev largest two_step error = record {
+unfoldable pub facts_of : Family → Facts
+facts_of RKC = record {
   smallest = 2;
-  largest = largest;
+  largest = 200;
   odd_only = false;
   rule = RoundedDown (nearest 154 100);
-  refuses_more = two_step;
-  keeps_older = two_step;
+  refuses_more = false;
+  keeps_older = false;
   row = ChebyshevRow;
-  error = error;
+  error = BothDerivatives;
   candidate = LastStage;
 }
-
--- what TSRKC2 shares with TSRKC3 past its start
-abbrev pub with_older_state : ℕ → StageRule → RowForm → ErrorForm → CandidateForm → Facts
-with_older_state smallest rule row error candidate = record {
-  smallest = smallest;
-  largest = most_stages;
-  odd_only = false;
-  rule = rule;
-  refuses_more = true;
-  keeps_older = true;
-  row = row;
-  error = error;
-  candidate = candidate;
-}
-
-unfoldable pub facts_of : Family → Facts
-facts_of RKC = chebyshev 200 false BothDerivatives
 facts_of RKL1 = orthogonal 3 199 true (RoundedUp one four one)
 facts_of RKL2 = orthogonal 3 199 true (RoundedUp nine eight one)
 -- (RKG's slopes are half of the Rust's: CR 5)
@@ -137,13 +103,17 @@ facts_of RKMC2 = record {
   error = LastDerivative ten;
   candidate = Combined;
 }
-facts_of TSRKC2 = with_older_state 2
-    (WithQuotient one (nearest 759782816506459 1000000000000000) (neg (nearest 598626091572911 1000000000000000)))
-    PlainRow (LastDerivative three) WithOlder
-facts_of TSRKC3START = chebyshev most_stages true ThirdAtStart
-facts_of TSRKC3 = with_older_state 3
-    (WithQuotient four (nearest 1267029788142009 1000000000000000) (nearest 44256220745562963 100000000000000000))
-    ChebyshevRow ThirdWithOlder WithBothStates
+facts_of TSRKC2 = record {
+  smallest = 2;
+  largest = most_stages;
+  odd_only = false;
+  rule = WithQuotient (nearest 759782816506459 1000000000000000) (nearest 598626091572911 1000000000000000);
+  refuses_more = true;
+  keeps_older = true;
+  row = PlainRow;
+  error = LastDerivative three;
+  candidate = WithOlder;
+}
 
 -- ---- permitted counts
 
@@ -167,13 +137,12 @@ keeps_older f = (facts_of f).keeps_older
 -- ---- the stage rule
 
 -- The whole number before limits, of q and the scaled radius r; by thresholds the smallest count from 3 to 999 whose threshold is at least r, else 1000.
--- RKL and RKG multiply by 0.5 (CR 3) where document 01 divides by 2, which gives the same number: `Divided`. Of the bend, which TSRKC2 takes from q and TSRKC3
--- adds to it, the sum is the same double.
+-- RKL and RKG multiply by 0.5 (CR 3) where document 01 divides by 2, which gives the same number: `Divided`.
 unfoldable pub by_rule : StageRule → Float → Float → ℕ
 by_rule (RoundedDown slope) q r = to_unsigned 64 (floor (sqrt (slope ⊗ r ⊕ one))) + 1
 by_rule (RoundedUp offset slope shift) q r = to_unsigned 64 (ceil ((sqrt (offset ⊕ slope ⊗ r) ⊖ shift) ⊗ half))
 by_rule ByThreshold q r = smallest threshold r 997 3
-by_rule (WithQuotient offset slope bend) q r = to_unsigned 64 (floor (sqrt (offset ⊕ slope ⊗ r ⊗ (one ⊖ q ⊕ sqrt (one ⊕ q ⊗ (q ⊕ bend)))))) + 1
+by_rule (WithQuotient slope bend) q r = to_unsigned 64 (floor (sqrt (one ⊕ slope ⊗ r ⊗ (one ⊖ q ⊕ sqrt (one ⊕ q ⊗ (q ⊖ bend)))))) + 1
 
 unfoldable pub before_limits : Family → Float → Float → ℕ
 before_limits f q r = by_rule (facts_of f).rule q r
@@ -185,16 +154,19 @@ odd_step f m = cond (odd_only f && eqb (m % 2) 0) (m + 1) m
 unfoldable pub limited : Family → ℕ → ℕ
 limited f m = min (odd_step f (max m (smallest_count f))) (largest_count f)
 
--- the r that the rule takes: a NaN and a negative r count as 0, but in the two_step families, which refuse a need and take r as it is
-unfoldable pub radius_for : Family → Float → Float
-radius_for f r = cond (facts_of f).refuses_more r (Whole.max r nought)
+-- the r that a rule takes: a NaN and a negative r count as 0, but in TSRKC2, which takes r as it is
+unfoldable pub radius_for : StageRule → Float → Float
+radius_for (RoundedDown slope) r = Whole.max r nought
+radius_for (RoundedUp offset slope shift) r = Whole.max r nought
+radius_for ByThreshold r = Whole.max r nought
+radius_for (WithQuotient slope bend) r = r
 
 abbrev pub number_of_stages : Family → Float → Float → ℕ
-number_of_stages f q r = before_limits f q (radius_for f r)
+number_of_stages f q r = before_limits f q (radius_for (facts_of f).rule r)
 
 unfoldable pub stage_count : Family → Float → Float → ℕ
 stage_count f q r = limited f (number_of_stages f q r)
 
--- whether the number before limits is more than the largest count, in a family that refuses such a need: number 11 (document 02, CR 6 and CR 7)
+-- whether the number before limits is more than the largest count, in a family that refuses such a need: number 11 (document 02, CR 6)
 unfoldable pub exceeds : Family → Float → Float → Bool
 exceeds f q r = (facts_of f).refuses_more && ltb (largest_count f) (number_of_stages f q r)

@@ -60,9 +60,6 @@ twelve = fin false 3 (pos 2)
 abbrev pub thirteen : Float
 thirteen = fin false 13 (pos 0)
 
-abbrev pub fifteen : Float
-fifteen = fin false 15 (pos 0)
-
 abbrev pub twenty_five : Float
 twenty_five = fin false 25 (pos 0)
 

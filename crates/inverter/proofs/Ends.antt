@@ -133,9 +133,9 @@ module _ (k : ℕ) (r : Record) (v : Vectors) (d : List Float) where
       let less : j < s → s - (j + 1) + 2 ≤ k = λ l. omega arith in
       let one : 1 ≤ k = omega arith in
       either k (ltb j s)
-      (calls.ask_stage (calls.at_stage s (j + 1) (rows.next m j c row) r) (exchanged w))
+      (calls.ask_stage (calls.at_stage s (j + 1) (rows.next m c row) r) (exchanged w))
       (calls.ask_candidate r last)
-      (λ e. asks_stage k r s (j + 1) (rows.next m j c row) (exchanged w) (less (ltb-true j s e)))
+      (λ e. asks_stage k r s (j + 1) (rows.next m c row) (exchanged w) (less (ltb-true j s e)))
       (λ e. asks_candidate k r last one)
 
   replied_goes : (p : Phase) → calls.pending p ≡ true → calls.in_range p r ≡ true → calls_left p r ≤ suc k → Goes k (calls.replied p r v d)

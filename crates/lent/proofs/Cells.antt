@@ -86,8 +86,7 @@ module _ (t : Float) (g : Staging) where
       let after_one = set (set (set x 2 p.value_previous) 4 p.first_previous) 6 p.second_previous in
       let after_two = set (set (set after_one 8 p.value_previous_two) 10 p.first_previous_two) 12 p.second_previous_two in
       let after_three = set (set (set after_two 13 p.b_previous) 14 p.omega_one) 15 c.theta_previous in
-      let after_four = set (set (set after_three 16 p.b_previous_two) 17 c.theta_previous_two) 18 p.omega_zero in
-      set (set after_four 19 p.gain) 21 p.history_gain
+      set (set (set (set after_three 16 p.b_previous_two) 17 c.theta_previous_two) 18 p.omega_zero) 19 p.gain
 
   abbrev Placed : List ℕ → List Float → Type 0
   Placed w x = left_with (asked 4 t) (wholes_on w) (doubles_on x) ≡ staged_outcome (lent w x) (On t g)

@@ -1,24 +1,23 @@
 -- The record as it is lent: its whole numbers w, in the order of the record's fields, and its doubles x. Of these a value and its predecessor (`b_previous` and
 -- `b_previous_two`, ..) do not stand side by side. The compiler would read such two at once, and that read waits until the reply before has stored them one by
--- one, which the next coefficients of all families but RKL's and RKG's wait for.
+-- one, which the next coefficients of RKC, RKMC2 and TSRKC2 wait for.
 use Rattle.std.specs.Prelude.{ℕ, List, get_or, Float}
 use Rattle.std.specs.Float.{nan}
 use Rattle.coefficients.specs.declared.Polynomials.{Polynomials}
 use Rattle.coefficients.specs.declared.Recurrence.{Recurrence}
-use Rattle.workspace.specs.declared.Arguments.{Arguments as Brought}
 use Rattle.driver.specs.declared.Iteration.{Iteration}
 use Rattle.driver.specs.declared.Staging.{Staging}
 use Rattle.driver.specs.declared.Staged.{Staged}
 use Rattle.driver.specs.declared.Record.{Record as Kept}
 use Rattle.driver.specs.Promises.{outcome_of, new_record, no_recurrence}
 use Rattle.lent.specs.declared.Answer.{Answer}
-use Rattle.lent.specs.Numbers.{Arguments, History, Record, Answered, phase_of, as_remembered, meaning, in_numbers, handed_back}
+use Rattle.lent.specs.Numbers.{Arguments, History, Record, Answered, phase_of, meaning, in_numbers, handed_back}
 
 abbrev pub wholes_long : ℕ
 wholes_long = 8
 
 abbrev pub doubles_long : ℕ
-doubles_long = 22
+doubles_long = 21
 
 abbrev pub arguments_in : List ℕ → List Float → Arguments
 arguments_in w x = record {
@@ -45,7 +44,6 @@ polynomials_in x = record {
   second_previous = get_or x 6 nan;
   second_previous_two = get_or x 12 nan;
   gain = get_or x 19 nan;
-  history_gain = get_or x 21 nan;
 }
 
 abbrev pub staging_in : List ℕ → List Float → Staging
@@ -67,26 +65,18 @@ lent w x = record {
   history = history_in w x;
 }
 
--- of the record that it means, what `stage_taken` asks for, the step and the history among it, since they decide which s are permitted; all else is 0
-abbrev pub place_of : List ℕ → List Float → Kept
-place_of w x =
+-- of the record that it means, what `stage_taken` asks for; all else is 0
+abbrev pub place_of : List ℕ → Kept
+place_of w =
     let g : Staging = record { stages = get_or w 5 0; stage = get_or w 6 0; recurrence = no_recurrence } in
-    let none = new_record.arguments in
-    let a : Brought = record {
-      time = none.time;
-      step = get_or x 1 nan;
-      absolute_tolerance = none.absolute_tolerance;
-      relative_tolerance = none.relative_tolerance;
-      adaptive = none.adaptive;
-    } in
     record {
       family = get_or w 0 0;
       n = get_or w 1 0;
       phase = phase_of (get_or w 2 0);
-      arguments = a;
+      arguments = new_record.arguments;
       iteration = new_record.iteration;
       staging = g;
-      history = as_remembered (history_in w x);
+      history = new_record.history;
     }
 
 -- what a call answers, and what it leaves of the record

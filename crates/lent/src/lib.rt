@@ -13,7 +13,7 @@ use workspace::Arguments;
 // How many whole numbers and how many doubles the record is lent as.
 pub const WHOLES: usize = 8;
 
-pub const DOUBLES: usize = 22;
+pub const DOUBLES: usize = 21;
 
 // Evaluate (code 1) vector `number` at `time`; finished (2) with `norm`, `stages`, `passes` and `scaled_radius`; ready (3);
 // refused (4) with `number`; empty (5). What an answer does not carry is 0.
@@ -147,7 +147,6 @@ fn read_polynomials(doubles: &[f64; DOUBLES]) -> Polynomials
         second_previous: doubles[6],
         second_previous_two: doubles[12],
         gain: doubles[19],
-        history_gain: doubles[21],
     }
 }
 
@@ -198,16 +197,15 @@ pub fn read(wholes: &[u64; WHOLES], doubles: &[f64; DOUBLES]) -> Record
 
 // What `stage_taken` asks of the record. The rest is read after that test, by the stage's reply and by any other each for
 // itself, so that neither waits for what only the other needs.
-pub fn place(wholes: &[u64; WHOLES], doubles: &[f64; DOUBLES]) -> Record
-    ensures { result ≡ place_of wholes.now doubles.now }
+pub fn place(wholes: &[u64; WHOLES]) -> Record
+    ensures { result ≡ place_of wholes.now }
 {
     let phase = phase_of(wholes[2]);
     let none = driver::new_record();
-    let mut arguments = none.arguments;
-    arguments.step = doubles[1];
+    let arguments = none.arguments;
     let iteration = none.iteration;
     let recurrence = none.staging.recurrence;
-    let history = read_history(wholes, doubles);
+    let history = none.history;
     Record {
         family: wholes[0],
         n: wholes[1] as usize,
@@ -280,7 +278,6 @@ fn write(wholes: &mut [u64; WHOLES], doubles: &mut [f64; DOUBLES], adaptive: u64
         p.omega_zero,
         p.gain,
         r.history.previous_accepted_step,
-        p.history_gain,
     ];
 }
 
@@ -339,7 +336,6 @@ fn ask_stage(wholes: &mut [u64], doubles: &mut [f64], time: f64, staging: Stagin
     doubles[17] = c.theta_previous_two;
     doubles[18] = p.omega_zero;
     doubles[19] = p.gain;
-    doubles[21] = p.history_gain;
     answer
 }
 

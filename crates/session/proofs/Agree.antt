@@ -12,13 +12,13 @@ use Rattle.family.specs.declared.Setting.{Setting}
 use Rattle.family.specs.declared.RowForm.{RowForm}
 use Rattle.family.specs.declared.RowForm.TheVariants.{ChebyshevRow, OrthogonalRow, InitialFirstRow, PlainRow}
 use Rattle.family.specs.declared.ErrorForm.{ErrorForm}
-use Rattle.family.specs.declared.ErrorForm.TheVariants.{FirstDerivative, BothDerivatives, LastDerivative, ThirdAtStart, ThirdWithOlder}
+use Rattle.family.specs.declared.ErrorForm.TheVariants.{FirstDerivative, BothDerivatives, LastDerivative}
 use Rattle.family.specs.declared.CandidateForm.{CandidateForm}
-use Rattle.family.specs.declared.CandidateForm.TheVariants.{LastStage, Combined, WithOlder, WithBothStates}
+use Rattle.family.specs.declared.CandidateForm.TheVariants.{LastStage, Combined, WithOlder}
 use Rattle.family.specs.Family.{facts_of, kind}
 use Rattle.coefficients.specs.declared.Recurrence.{Recurrence}
 use Rattle.coefficients.specs.declared.Coefficients.{Coefficients}
-use Rattle.coefficients.specs.Rows.{candidate_weights, tsrkc3_weights}
+use Rattle.coefficients.specs.Rows.{candidate_weights}
 use Rattle.workspace.specs.declared.Arguments.{Arguments}
 use Rattle.workspace.specs.Vectors.{Vector, Vectors, ◌with◌≔◌, number, each, vector_norm, first_derivative, last_derivative, derivative, previous_two}
 use Rattle.workspace.specs.Vectors.{previous_one, next_stage, eigenvector, perturbed_state, perturbed_derivative, state, candidate, older_state}
@@ -26,7 +26,7 @@ use Rattle.workspace.specs.Kernel.{with_direction, perturbed_by, perturbed, turn
 use Rattle.workspace.specs.Kernel.{initial_first_entry, plain_entry, older_of, entry_in, with_row_in, exchanged, with_candidate, candidate_in, with_last}
 use Rattle.workspace.specs.Kernel.{error, error_in}
 use Rattle.workspace.specs.Kernel.{scaled_error, scaled_error_norm, error_norm}
-use Rattle.workspace.proofs.Candidate.{combined_same, mixed_same, weighed_same}
+use Rattle.workspace.proofs.Candidate.{combined_same, mixed_same}
 use Rattle.session.specs.Attempt.{iteration_work, all_but_last}
 use Rattle.session.specs.Alike.{compared, SameVectors}
 
@@ -142,7 +142,6 @@ module _ (history : Bool) where
         go LastStage = p next_stage refl
         go Combined = combined_same n h (candidate_weights s c) v w (p state refl) (p next_stage refl) (p previous_two refl) (p first_derivative refl)
         go WithOlder = mixed_same n (older_of m) c.polynomials.gain v w (older m.history refl) (p next_stage refl)
-        go WithBothStates = weighed_same n (older_of m) (tsrkc3_weights s c) v w (p state refl) (older m.history refl) (p next_stage refl)
 
     -- what the iteration reads and writes
     pub five_same : (v w : Vectors) → Agree five v w → iteration_work v ≡ iteration_work w
@@ -164,19 +163,15 @@ module _ (history : Bool) where
           p candidate refl,
         ) refl
 
-    error_same : (f : ErrorForm) (q : Float) (b : Vector) (h : Float) (v w : Vectors) → v b ≡ w b → Agree eleven v w
-        → each n v (error_in f q b h) ≡ each n w (error_in f q b h)
+    error_same : (f : ErrorForm) (h : Float) (v w : Vectors) → Agree eleven v w → each n v (error_in f h) ≡ each n w (error_in f h)
     unfolding each error_in
-    error_same BothDerivatives q b h v w o p = rw (p state refl, p first_derivative refl, p candidate refl, p last_derivative refl)
-    error_same FirstDerivative q b h v w o p = rw (p state refl, p first_derivative refl, p candidate refl)
-    error_same (LastDerivative over) q b h v w o p = rw (p state refl, p candidate refl, p last_derivative refl)
-    error_same ThirdAtStart q b h v w o p = rw (p state refl, p first_derivative refl, p candidate refl, p last_derivative refl)
-    error_same ThirdWithOlder q b h v w o p = rw (o, p state refl, p candidate refl, p last_derivative refl)
+    error_same BothDerivatives h v w p = rw (p state refl, p first_derivative refl, p candidate refl, p last_derivative refl)
+    error_same FirstDerivative h v w p = rw (p state refl, p first_derivative refl, p candidate refl)
+    error_same (LastDerivative over) h v w p = rw (p state refl, p candidate refl, p last_derivative refl)
 
-    last_agrees : (m : Setting) (a : Arguments) (d : List Float) (v w : Vectors) → m.history ≡ history → Agree ten v w
-        → Agree eleven (with_last m n a v d) (with_last m n a w d)
+    last_agrees : (m : Setting) (a : Arguments) (d : List Float) (v w : Vectors) → Agree ten v w → Agree eleven (with_last m n a v d) (with_last m n a w d)
     unfolding with_last
-    last_agrees m a d v w own p = go a.adaptive
+    last_agrees m a d v w p = go a.adaptive
       where
         x : Vectors
         x = v with last_derivative ≔ d
@@ -187,21 +182,15 @@ module _ (history : Bool) where
         q : Agree eleven x y
         q = agree_with ten last_derivative v w d d p refl
 
-        -- what is read of the older state: without a history it is the state
-        older : (t : Bool) → m.history ≡ t → x (cond t older_state state) ≡ y (cond t older_state state)
-        older true e = q older_state (sym own ∙ e)
-        older false e = q state refl
-
         go : (t : Bool) → Agree eleven (cond t (x with derivative ≔ each n x (error m a.step)) x)
             (cond t (y with derivative ≔ each n y (error m a.step)) y)
-        go true = drop_one eleven derivative _ _ (agree_with eleven derivative x y _ _ q
-            (error_same (facts_of (kind m)).error m.quotient (older_of m) a.step x y (older m.history refl) q))
+        go true = drop_one eleven derivative _ _ (agree_with eleven derivative x y _ _ q (error_same (facts_of (kind m)).error a.step x y q))
         go false = q
 
     -- and these are all that are compared
-    pub last_same : (m : Setting) (a : Arguments) (d : List Float) (v w : Vectors) → m.history ≡ history → Agree ten v w
+    pub last_same : (m : Setting) (a : Arguments) (d : List Float) (v w : Vectors) → Agree ten v w
         → SameVectors history (with_last m n a v d) (with_last m n a w d)
-    last_same m a d v w own p b e = last_agrees m a d v w own p b (every b e)
+    last_same m a d v w p b e = last_agrees m a d v w p b (every b e)
       where
         every : (b : Vector) → compared history b ≡ true → eleven b ≡ true
         every first_derivative e = refl

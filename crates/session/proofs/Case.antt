@@ -12,9 +12,9 @@ use lib.Ieee.{Float, binary64, to_bits, add, sub, mul, div, neg, le, lt, eq, of_
 use Rattle.ieee.specs.Double.{double, nearest, square, min_positive, root_epsilon, nought, one}
 use Rattle.ieee.specs.Sqrt.{root_below, root, halves, root_units, sqrt}
 use Rattle.ieee.specs.Whole.{abs, max, floor, ceil}
-use Rattle.family.specs.Family.{known, family_of, method, keeps_older, smallest_count, largest_count, odd_only, permitted, before_limits, odd_step, limited}
+use Rattle.family.specs.Family.{known, family_of, keeps_older, smallest_count, largest_count, odd_only, permitted, before_limits, odd_step, limited}
 use Rattle.family.specs.Family.{stage_count, exceeds, by_rule, radius_for, facts_of}
-use Rattle.coefficients.specs.Rows.{omega_zero, orthogonal_omega, omega_one_of, b_first, first_mu_tilde, first_polynomials, first_polynomials_of}
+use Rattle.coefficients.specs.Rows.{omega_zero, orthogonal_omega, omega_one_of, b_first, first_mu_tilde, first_polynomials, first_polynomials_in}
 use Rattle.coefficients.specs.Rows.{recurrence_of, with_theta}
 use Rattle.coefficients.specs.Rows.{legendre_one, coefficients_of, next_polynomials, next_of}
 use Rattle.workspace.specs.declared.Arguments.{Arguments}
@@ -42,7 +42,7 @@ doubles = tt
 
 unfoldable pub attempts : Unit {0}
 unfolding smallest_count largest_count odd_only before_limits odd_step limited stage_count omega_zero omega_one_of b_first first_mu_tilde first_polynomials
-    first_polynomials_of recurrence_of with_theta legendre_one coefficients_of next_polynomials next_of each sum_of_squares overflows lowered raised root_over
+    first_polynomials_in recurrence_of with_theta legendre_one coefficients_of next_polynomials next_of each sum_of_squares overflows lowered raised root_over
     root_of_squares vector_norm all_finite with_direction perturbation_of perturbed_by perturbed turned radius_of ended scaled first_stage orthogonal_entry
     entry_in with_row_in exchanged with_candidate candidate_in error_in with_last divisor_in scaled_error scaled_error_norm error_norm stage_need ◌>>=◌
     evaluate stages_for iterate spectral_radius stage_row stage_loop run_recurrence finished_attempt close attempt_step closes by_rule radius_for exceeds
@@ -50,7 +50,7 @@ unfolding smallest_count largest_count odd_only before_limits odd_step limited s
 attempts = tt
 
 unfoldable pub sessions : Unit {0}
-unfolding known family_of method permitted keeps_older vector_count sized as_long good_times good_tolerance good_tolerances room vectors_of initialize tries
+unfolding known family_of permitted keeps_older vector_count sized as_long good_times good_tolerance good_tolerances room vectors_of initialize tries
     accept_step at_rest after_attempt waiting finished_by counts_on doing_now replied_with session_after doing_shown session_seen rests has_tried waits
     waits_with_room takes session fresh facts_of previous_of is_some quotient step_after
     state_after

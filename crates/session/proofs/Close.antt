@@ -6,8 +6,7 @@ use Prim.Native.Nat.{ℕ, ◌≤◌}
 use lib.Dec.{T, leb}
 use borrow.Author.Tests.{leb-true}
 use Rattle.ieee.specs.Close.{Close}
-use Rattle.family.specs.Family.{Family, Orthogonal, made_of, family_of, permitted, kind}
-use Rattle.family.proofs.Numbers.{orthogonal_runs}
+use Rattle.family.specs.Family.{Family, Orthogonal, made_of, family_of, permitted}
 use Rattle.coefficients.specs.declared.Recurrence.{Recurrence}
 use Rattle.coefficients.specs.Paper as Paper
 use Rattle.coefficients.specs.Rows.{recurrence, coefficients, coefficients_of, recurrence_of}
@@ -36,28 +35,23 @@ pub stage_close : (r : Record) → awaiting r ≡ true → r.phase ≡ P.Stage �
 stage_close r e p g is =
     let s = r.staging.stages in
     let j = r.staging.stage in
-    let F = kind (setting_of r) in
-    let own = orthogonal_runs r.family (setting_of r).quotient g is in
     let good = in_stage r e p in
-    let range = and_right (permitted F s) (leb 2 j && leb j s) good in
-    subst (λ (f : Family). CloseRow g s j (coefficients_of f s j r.staging.recurrence)) (sym own)
-    (close_row g s j (subst (λ (f : Family). T (permitted f s)) own (yes (and_left (permitted F s) (leb 2 j && leb j s) good)))
+    let range = and_right (permitted (family_of r.family) s) (leb 2 j && leb j s) good in
+    subst (λ (f : Family). CloseRow g s j (coefficients_of f s j r.staging.recurrence)) (sym is)
+    (close_row g s j (subst (λ (f : Family). T (permitted f s)) is (yes (and_left (permitted (family_of r.family) s) (leb 2 j && leb j s) good)))
     (leb-true 2 j (and_left (leb 2 j) (leb j s) range)) (leb-true j s (and_right (leb 2 j) (leb j s) range)) r.staging.recurrence)
 
 -- ---- a finished attempt
 
 module _ (h : Held) (a : Arguments) (o : FinishedAttempt) (replies : ℕ) (x : Called) (f : Finishes h a o replies x) (g : Orthogonal)
     (is : family_of h.kept.family ≡ made_of g) where
-  own : kind (setting_for h.kept a) ≡ made_of g
-  own = orthogonal_runs h.kept.family (setting_for h.kept a).quotient g is
-
   may_run : T (permitted (made_of g) o.stages)
-  may_run = subst (λ (f : Family). T (permitted f o.stages)) own (yes f.stages_permitted)
+  may_run = subst (λ (f : Family). T (permitted f o.stages)) is (yes f.stages_permitted)
 
   -- what `by_need` hands to `first_stage`
   pub first_close : Close 48 (recurrence (setting_for h.kept a) o.stages).theta_previous (Paper.first_mu_tilde g o.stages)
   first_close = let q = (setting_for h.kept a).quotient in
-      subst (λ (f : Family). Close 48 (recurrence_of f q o.stages).theta_previous (Paper.first_mu_tilde g o.stages)) (sym own)
+      subst (λ (f : Family). Close 48 (recurrence_of f q o.stages).theta_previous (Paper.first_mu_tilde g o.stages)) (sym is)
       (close_first g q o.stages may_run)
 
   pub rows_close : (j : ℕ) → 2 ≤ j → j ≤ o.stages → (c : Recurrence) → CloseRow g o.stages j (coefficients_of (made_of g) o.stages j c)

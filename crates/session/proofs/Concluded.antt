@@ -12,19 +12,17 @@ use lib.ListN.{length}
 use lib.Ieee.{Float, le, lt}
 use Rattle.ieee.specs.Double.{nought, one}
 use Rattle.ieee.specs.Close.{Close}
-use Rattle.family.specs.Family.{Family, RKC, RKMC2, TSRKC2, TSRKC3START, TSRKC3, Orthogonal, made_of, family_of, method, kind, permitted, stage_count}
+use Rattle.family.specs.Family.{Family, RKC, RKMC2, TSRKC2, Orthogonal, made_of, family_of, permitted, stage_count}
 use Rattle.family.specs.Reach.{Serves}
-use Rattle.family.proofs.Range.{rkc_between, rkmc2_between, permitted_range}
-use Rattle.family.proofs.Numbers.{method_same, orthogonal_runs}
+use Rattle.family.proofs.Range.{rkc_between, rkmc2_between}
 use Rattle.family.proofs.Counts.{stage_count_permitted, serves}
 use Rattle.family.proofs.Special.{infinite_count}
 use Rattle.coefficients.specs.declared.Recurrence.{Recurrence}
 use Rattle.coefficients.specs.declared.Polynomials.{Polynomials}
 use Rattle.coefficients.specs.Rows.{recurrence, carried, carried_of, recurrence_of}
-use Rattle.rkc_omega_one.specs.Chebyshev as Chebyshev
+use Rattle.coefficients.specs.Chebyshev as Chebyshev
+use Rattle.coefficients.proofs.CloseTable.{zero_taken, entry_taken, close_taken}
 use Rattle.coefficients.proofs.Carried.{rkmc2_zero_taken, rkmc2_one_taken, zero_from_one, one_above_zero, tsrkc2_zero_taken, tsrkc2_one_taken, gain_taken}
-use Rattle.coefficients.proofs.Carried.{zero_taken, entry_taken, close_taken, start_zero_taken, start_entry_taken, start_close_taken, start_close_beyond}
-use Rattle.coefficients.proofs.Carried.{tsrkc3_zero_taken, tsrkc3_one_taken, tsrkc3_gain_taken, history_gain_taken}
 use Rattle.coefficients.proofs.CloseRows.{close_row, close_first}
 use Rattle.coefficients.proofs.Stable.{stable}
 use Rattle.workspace.specs.Vectors.{unpack}
@@ -93,12 +91,11 @@ unfolding cases_at
 concludes h calls x s t z =
     let m = length t.replies in
     let g = found t.attempt in
-    let f = s.latest.family in
+    let f = family_of s.latest.family in
     let r = scaled_radius_of x.held in
     let p : InStages g m 0 1 x.held = subst (Position g m x.held) z.phase_is t.underway.position in
     let q = (setting_of x.held.kept).quotient in
-    let stages : stages_of x.held ≡ stage_count (family_of (method f q)) q r =
-    p.suits.stages_are ∙ ap (λ (i : ℕ). stage_count (family_of (method i q)) q r) s.family_is in record {
+    let stages : stages_of x.held ≡ stage_count f q r = p.suits.stages_are ∙ ap (λ (i : ℕ). stage_count (family_of i) q r) s.family_is in record {
       start = s.latest;
       family_is = s.family_is;
       n_is = s.n_is;
@@ -115,10 +112,8 @@ concludes h calls x s t z =
       suits = p.suits;
       evaluations_are = (let e = t.underway.evaluations_are in let e' = p.replies_are in omega arith);
       attempts_are = p.attempts_are;
-      largest_at_infinity = λ other e. stages ∙ ap (λ (i : ℕ). stage_count (family_of i) q r) (method_same f q other) ∙ ap (stage_count (family_of f) q) e
-          ∙ infinite_count (family_of f) q other;
-      demand_three = λ g is. demanded g q r (stages_of x.held) p.suits.not_negative
-          (stages ∙ ap (λ (f : Family). stage_count f q r) (orthogonal_runs f q g is));
+      largest_at_infinity = λ other e. stages ∙ ap (stage_count f q) e ∙ infinite_count f q other;
+      demand_three = λ g is. demanded g q r (stages_of x.held) p.suits.not_negative (stages ∙ ap (λ (f : Family). stage_count f q r) is);
       record_holds = record { stages_held = refl; passes_held = refl; radius_held = refl };
     }
 
@@ -168,7 +163,7 @@ carries h f n y t cs q e =
     let i = x.kept.staging.stage - 2 in
     let trail = (holds h f n y t cs q).trail (ap active e) in
     let p = subst (Position (found trail.attempt) (length trail.replies) x) e trail.underway.position in
-    let F = kind (setting_of x.kept) in
+    let F = family_of x.kept.family in
     let q₀ = (setting_of x.kept).quotient in
     let permits : T (permitted F s) =
     subst (λ (k : ℕ). T (permitted F k)) (sym p.suits.stages_are) (stage_count_permitted F q₀ (scaled_radius_of x)) in
@@ -179,8 +174,7 @@ carries h f n y t cs q e =
     let one_of : (f : Family) → F ≡ f → x.kept.staging.recurrence.polynomials.omega_one ≡ (carried_of f q₀ s i).polynomials.omega_one = λ f is.
     ap (λ (p : Polynomials). p.omega_one) (own f is) in
     let chebyshev : F ≡ RKC → (2 ≤ s) × (s ≤ 200) = λ is. rkc_between s (subst (λ (f : Family). T (permitted f s)) is permits) in
-    let combined : F ≡ RKMC2 → (3 ≤ s) × (s ≤ 1000) = λ is. rkmc2_between s (subst (λ (f : Family). T (permitted f s)) is permits) in
-    let range = permitted_range F s permits in record {
+    let combined : F ≡ RKMC2 → (3 ≤ s) × (s ≤ 1000) = λ is. rkmc2_between s (subst (λ (f : Family). T (permitted f s)) is permits) in record {
       stages_permitted = permits;
       from_two = p.from_two;
       to_last = p.to_last;
@@ -189,12 +183,6 @@ carries h f n y t cs q e =
       entry_read = λ is. one_of RKC is ∙ entry_taken q₀ s i;
       entry_close = λ is. let r = chebyshev is in
           subst (λ (w : Float). Close 36 w (Chebyshev.omega_one s)) (sym (one_of RKC is)) (close_taken q₀ s i r.0 r.1);
-      start_zero_kept = λ is. zero_of TSRKC3START is ∙ start_zero_taken q₀ s i;
-      start_entry_read = λ is. one_of TSRKC3START is ∙ start_entry_taken q₀ s i;
-      start_entry_close = λ is to. subst (λ (w : Float). Close 36 w (Chebyshev.omega_one s)) (sym (one_of TSRKC3START is))
-          (start_close_taken q₀ s i range.0 to);
-      start_entry_beyond = λ is from. subst (λ (w : Float). Close 34 w (Chebyshev.omega_one s)) (sym (one_of TSRKC3START is))
-          (start_close_beyond q₀ s i from range.1);
       rkmc2_zero_read = λ is. zero_of RKMC2 is ∙ rkmc2_zero_taken q₀ s i;
       rkmc2_one_read = λ is. one_of RKMC2 is ∙ rkmc2_one_taken q₀ s i;
       rkmc2_zero_from_one = λ is. let r = combined is in subst (λ (w : Float). T (le one w)) (sym (zero_of RKMC2 is)) (zero_from_one q₀ s i r.0 r.1);
@@ -202,8 +190,4 @@ carries h f n y t cs q e =
       tsrkc2_zero_read = λ is. zero_of TSRKC2 is ∙ tsrkc2_zero_taken q₀ s i;
       tsrkc2_one_read = λ is. one_of TSRKC2 is ∙ tsrkc2_one_taken q₀ s i;
       gain_read = λ is. ap (λ (p : Polynomials). p.gain) (own TSRKC2 is) ∙ gain_taken q₀ s i;
-      tsrkc3_zero_read = λ is. zero_of TSRKC3 is ∙ tsrkc3_zero_taken q₀ s i;
-      tsrkc3_one_read = λ is. one_of TSRKC3 is ∙ tsrkc3_one_taken q₀ s i;
-      tsrkc3_gain_read = λ is. ap (λ (p : Polynomials). p.gain) (own TSRKC3 is) ∙ tsrkc3_gain_taken q₀ s i;
-      history_gain_read = λ is. ap (λ (p : Polynomials). p.history_gain) (own TSRKC3 is) ∙ history_gain_taken q₀ s i;
     }

@@ -106,7 +106,7 @@ module _ (history : Bool) (under : Setting) (own : under.history ≡ history) (n
       (λ v w q. candidate_agrees history n under a.step s c (coefficients under s j c) v w own q)
   rows_alike s (suc k) j c v w p =
       bind_alike (Agree (nine history)) (Agree (ten history)) _ _ (stage_row under n a s j c v) (stage_row under n a s j c w) (row_alike s j c v w p)
-      (λ v w q. rows_alike s k (j + 1) (next under j c (coefficients under s j c)) (exchanged v) (exchanged w)
+      (λ v w q. rows_alike s k (j + 1) (next under c (coefficients under s j c)) (exchanged v) (exchanged w)
       (nine_seven history (exchanged v) (exchanged w) (exchanged_agrees history n v w q)))
 
   recurrence_alike : (s : ℕ) (v w : Vectors) → Agree (five history) v w
@@ -139,7 +139,7 @@ module _ (history : Bool) (under : Setting) (own : under.history ≡ history) (n
 
       go : (t : Bool) → Alike (SameAttempt history) (closed t v) (closed t w)
       go true = evaluate_alike (SameAttempt history) _ _ _ v w (a.time ⊕ a.step) (v candidate) (w candidate) (q candidate refl)
-          (λ d. finished (with_last under n a v d) (with_last under n a w d) (last_same history n under a d v w own q))
+          (λ d. finished (with_last under n a v d) (with_last under n a w d) (last_same history n under a d v w q))
       go false = record { number_same = refl; vectors_same = ten_same history n v w q }
 
   from_need : Need → ℕ → Float → Vectors → Asking FinishedAttempt

@@ -9,7 +9,7 @@ use Prim.Native.Nat.{ℕ}
 use borrow.Author.Tests.{not-true, leb-true}
 use lib.Dec.{leb}
 use Rattle.ieee.proofs.Logic.{yes, and_left, and_right}
-use Rattle.family.specs.Family.{kind, permitted}
+use Rattle.family.specs.Family.{family_of, permitted}
 use Rattle.workspace.specs.Vectors.{unpack}
 use Rattle.driver.specs.declared.Phase.TheVariants as P
 use Rattle.driver.specs.declared.Iteration.{Iteration}
@@ -18,7 +18,7 @@ use Rattle.driver.specs.declared.Record.{Record}
 use Rattle.driver.specs.declared.Figures.{Figures}
 use Rattle.driver.specs.declared.Answer.TheVariants.{Finished, Refused}
 use Rattle.driver.specs.Answers.{case_number}
-use Rattle.driver.specs.Calls.{Held, in_phase, setting_of, figures_after, figures_in, HoldsFigures, good_pass, Call, made, is_attempt, taken}
+use Rattle.driver.specs.Calls.{Held, in_phase, figures_after, figures_in, HoldsFigures, good_pass, Call, made, is_attempt, taken}
 use Rattle.driver.specs.Numbers.{standing_numbers, ending_numbers}
 use Rattle.driver.proofs.Ladder.{same_answer}
 use Rattle.driver.proofs.Kept.{between, Stands, position_stands}
@@ -83,7 +83,7 @@ told_in_range h c told e =
     let k = passes_of x.held in
     let z = leaves_finished h c x (outcome h c) (ap case_number e) in
     let is : figures_after x.held.kept (unpack x.held.kept.n x.held.area) ≡ told = ap figures_in (sym z.figures_are ∙ e) in
-    let permits = permitted (kind (setting_of x.held.kept)) (stages_of x.held) in
+    let permits = permitted (family_of x.held.kept.family) (stages_of x.held) in
     let pass = and_left (good_pass k) permits z.told_in_range in
     subst (λ (f : Figures). ToldInRange f x.held) is (record {
       one_pass = leb-true 1 k (and_left (leb 1 k) (leb k 12) pass);

@@ -137,7 +137,7 @@ replied_high P.Stage r v d =
     let c = r.staging.recurrence in
     let row = coefficients m s j c in
     let w = with_row m r.n r.arguments.step row v d in
-    stage_high (ltb j s) r (at_stage s (j + 1) (next m j c row) r) v (exchanged w) (with_candidate m r.n r.arguments.step s c row w) (refl, refl)
+    stage_high (ltb j s) r (at_stage s (j + 1) (next m c row) r) v (exchanged w) (with_candidate m r.n r.arguments.step s c row w) (refl, refl)
 replied_high P.Candidate r v d = on r v _ refl
 replied_high P.Finished r v d = on r v _ refl
 replied_high P.Callback r v d = on r v _ refl

@@ -91,7 +91,7 @@ replied_long P.Stage r v d lv hd =
     let row = coefficients m s j c in
     let w = with_row m n h row v d in
     let lw = long_row (its_family r) n (facts_of (kind m)).row h row v d lv hd in
-    stage_long (ltb j s) r (at_stage s (j + 1) (next m j c row) r) w (with_candidate m n h s c row w) lw (long_candidate (its_family r) n m h s c row w lw)
+    stage_long (ltb j s) r (at_stage s (j + 1) (next m c row) r) w (with_candidate m n h s c row w) lw (long_candidate (its_family r) n m h s c row w lw)
 replied_long P.Candidate r v d lv hd = long_last (its_family r) r.n (setting_of r) r.arguments v d lv hd
 replied_long P.Finished r v d lv hd = long_with (its_family r) r.n v first_derivative d lv hd
 replied_long P.Callback r v d lv hd =

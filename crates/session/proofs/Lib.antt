@@ -1,8 +1,8 @@
 -- The theorems over the calls, in reading order, each with its sentence; the statements are in specs/.
 
 -- An attempt that is taken, and replies of n doubles each for which the counters have room, give the evaluations of the attempt in one piece and its end:
--- `run`. Where that is finished it is so after s + k replies, and the candidate is the last stage, in RKMC2, TSRKC2 and past TSRKC3's start a combination
--- (`finished`); k is from 1 to 12, and each reply but the last is answered by a further evaluation (`took`).
+-- `run`. Where that is finished it is so after s + k replies, and the candidate is the last stage, in RKMC2 and TSRKC2 their combination (`finished`); k is
+-- from 1 to 12, and each reply but the last is answered by a further evaluation (`took`).
 pub mod Theorem
 -- Where the counters lack room the attempt is the same up to the reply that is turned away with 8, and stays there: `evaluations_lack`, `attempts_lack`.
 pub mod Room
@@ -35,10 +35,6 @@ pub mod Served
 -- Families 2 to 5: demand 3 of the rows of the stages that are run, and of a finished attempt's multiplier: `stage_close`, `first_close`, `rows_close`,
 -- `finished_stable`.
 pub mod Close
--- In family 8 a record's s of 2 is turned away with 4 where q is not below 0.49: `reply_refused`, `abandon_refused`.
-pub mod TwoStages
--- The Rust's `InvalidMultistepHistory` cannot arise: `never_stops`; an attempt that runs TSRKC3 past its start has a history: `third_has_history`.
-pub mod Together
 -- Document 01's case, by computation: `case_of_calls`; an attempt from a hot state: `hot_told`; and one whose r is a NaN, told as one: `nan_told`.
 pub mod Case
 -- Two cases of the Rust in RKMC2, by computation: `rkmc2_of_calls`.

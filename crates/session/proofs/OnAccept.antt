@@ -9,8 +9,8 @@ use lib.ListN.{length, length-replicate, replicate}
 use lib.Ieee.{Float}
 use lib.Ieee.Scale.{finite}
 use Rattle.ieee.specs.Double.{nought}
-use Rattle.family.specs.Family.{Family, two_step, keeps_older}
-use Rattle.family.proofs.Numbers.{kept_by_number}
+use Rattle.family.specs.Family.{Family, family_of, keeps_older, facts_of}
+use Rattle.family.proofs.Numbers.{seven_alone}
 use Rattle.workspace.specs.Vectors.{Vector, Vectors, ◌with◌≔◌, unpack, pack, all_finite, first_derivative, last_derivative, eigenvector, state, candidate}
 use Rattle.workspace.specs.Vectors.{number, derivative, previous_two, previous_one, next_stage, perturbed_state, perturbed_derivative, older_state}
 use Rattle.workspace.proofs.Areas.{unpack_pack, long_with}
@@ -111,6 +111,15 @@ module _ (h : Held) (q : taken (accept h).answer ≡ true) where
       long_with F h.kept.n (v with first_derivative ≔ v last_derivative) state (v candidate)
       (long_with F h.kept.n v first_derivative (v last_derivative) long_v (long_v last_derivative)) (long_v candidate)
 
+  -- the family that keeps an older state is the seventh
+  kept_by : (k : ℕ) → keeps_older (family_of k) ≡ eqb k 7
+  unfolding keeps_older facts_of
+  kept_by k = seven_alone keeps_older refl refl refl refl refl refl k ∙ go (eqb k 7)
+    where
+      go : (t : Bool) → t && true ≡ t
+      go true = refl
+      go false = refl
+
   -- the history after it, where the session had the history x and the attempt this step: that of the attempt, or as it was
   record TakenOn (x : PreviousStep) (step : Float) (o : FinishedAttempt) (t u : Bool) : Type 0 where
     remembered : Remembers (cond t (record { present = true; previous_accepted_step = h.kept.arguments.step }) h.kept.history)
@@ -177,9 +186,8 @@ module _ (h : Held) (q : taken (accept h).answer ≡ true) where
             );
           })
         where
-          on : TakenOn x step o (keeps_older (its_family h.kept)) (two_step h.kept.family)
-          on = taken_on x step o rem same_step same (keeps_older (its_family h.kept)) (two_step h.kept.family)
-              (kept_by_number h.kept.family at.family_known)
+          on : TakenOn x step o (keeps_older (its_family h.kept)) (eqb h.kept.family 7)
+          on = taken_on x step o rem same_step same (keeps_older (its_family h.kept)) (eqb h.kept.family 7) (kept_by h.kept.family)
 
           after_accept : ℕ → Session
           after_accept f = record { family = f; n = σ.n; doing = within (accept_step f x step o.vectors); counts = σ.counts }

@@ -11,7 +11,7 @@ use lib.ListN.{length, replicate}
 use lib.Ieee.{Float, le}
 use Rattle.family.specs.declared.Setting.{Setting}
 use Rattle.ieee.specs.Double.{◌⊕◌, min_positive, nought, one}
-use Rattle.family.specs.Family.{facts_of, kind, stage_count, exceeds}
+use Rattle.family.specs.Family.{family_of, facts_of, kind, stage_count, exceeds}
 use Rattle.coefficients.specs.declared.Coefficients.{Coefficients}
 use Rattle.coefficients.specs.declared.Recurrence.{Recurrence}
 use Rattle.coefficients.specs.Rows.{recurrence, coefficients, next}
@@ -50,18 +50,18 @@ abbrev pub radius_after : Record → Vectors → Float
 radius_after r w = scaled r.arguments.step (radius_of r.iteration.perturbation w)
 
 abbrev pub count_after : Record → Vectors → ℕ
-count_after r w = stage_count (kind (setting_of r)) (setting_of r).quotient (radius_after r w)
+count_after r w = stage_count (family_of r.family) (setting_of r).quotient (radius_after r w)
 
 -- what is carried into stage 2, and on from stage j
 abbrev pub first_after : Record → Vectors → Recurrence
 first_after r w = recurrence (setting_of r) (count_after r w)
 
 abbrev pub carried_on : Setting → ℕ → ℕ → Recurrence → Recurrence
-carried_on m s j c = next m j c (coefficients m s j c)
+carried_on m s j c = next m c (coefficients m s j c)
 
 -- more stages than the largest count would be needed
 abbrev pub exceeds_after : Record → Vectors → Bool
-exceeds_after r w = exceeds (kind (setting_of r)) (setting_of r).quotient (radius_after r w)
+exceeds_after r w = exceeds (family_of r.family) (setting_of r).quotient (radius_after r w)
 
 -- state and eigenvector are as they were
 pub record BothStay (v w : Vectors) : Type 0 where
@@ -201,7 +201,7 @@ module _ (h : Held) where
         last = with_candidate m r.n r.arguments.step s r.staging.recurrence row w
 
         on : Record
-        on = at_stage s (j + 1) (next m j r.staging.recurrence row) r
+        on = at_stage s (j + 1) (next m r.staging.recurrence row) r
 
         go : (t : Bool) → ltb j s ≡ t → Comes (settled c (cond t (ask_stage on (exchanged w)) (ask_candidate r last)))
         go true e = goes_on _ _ _ p (ltb-true j s e)

@@ -9,8 +9,8 @@ use native.Mathlib.Omega.{arith}
 use lib.Dec.{ltb, eqb}
 use borrow.Author.Tests.{le-ltb, ltb-false}
 use lib.Ieee.{Float}
-use Rattle.family.specs.Family.{known, kind, stage_count, exceeds}
-use Rattle.family.proofs.Special.{exceeds_by_number}
+use Rattle.family.specs.Family.{Family, family_of, stage_count, exceeds, largest_count, facts_of}
+use Rattle.family.proofs.Numbers.{seven_alone}
 use Rattle.coefficients.specs.Rows.{coefficients, next}
 use Rattle.workspace.specs.declared.Arguments.{Arguments}
 use Rattle.workspace.specs.Vectors.{Vectors, unpack, all_finite, candidate, next_stage}
@@ -24,8 +24,7 @@ use Rattle.driver.specs.declared.Answer.{Answer}
 use Rattle.driver.specs.declared.Answer.TheVariants.{Evaluate, Finished, Ready, Refused, Empty}
 use Rattle.driver.specs.Answers.{case_number, case_values, Values, SameAnswer}
 use Rattle.driver.specs.Numbers.{one_of, need_numbers, after_nine, refusal_numbers}
-use Rattle.driver.specs.Calls.{Held, Called, Verdict, admitted, refused_with, Test, ◌∶◌, first_failing, decide, guarded, cause_of, finishes, room, has_room}
-use Rattle.driver.specs.Calls.{setting_of}
+use Rattle.driver.specs.Calls.{Held, Called, Verdict, admitted, refused_with, Test, ◌∶◌, first_failing, cause_of, finishes, room, has_room, setting_of}
 use Rattle.driver.specs.Calls.{start_tests, attempt_tests, reply_tests, accept_tests, callback_tests, abandon_tests}
 use Rattle.driver.specs.Calls.{at_pass, at_stage, take_first, take_callback, ask_pass, ask_stage, stage_need, by_need, begin_stages, take_pass, ask_candidate}
 use Rattle.driver.specs.Calls.{take_stage, take_candidate, replied, going_on, spoiled, settled, attempted, accepted, called_back}
@@ -69,31 +68,31 @@ candidate_verdict true r v e = rw e
 candidate_verdict false r v e = rw e
 
 -- the engine's need exceeds exactly where the document's words say so
-exceeds_is : (r : Record) (radius : Float) → known r.family ≡ true → exceeds (kind (setting_of r)) (setting_of r).quotient radius ≡ too_many r radius
-unfolding too_many
-exceeds_is r radius h = exceeds_by_number r.family (setting_of r).quotient radius h
+exceeds_is : (r : Record) (radius : Float) → exceeds (family_of r.family) (setting_of r).quotient radius ≡ too_many r radius
+unfolding too_many exceeds largest_count facts_of
+exceeds_is r radius = seven_alone (λ f. exceeds f (setting_of r).quotient radius) refl refl refl refl refl refl r.family
 
-need_verdict : (r : Record) (v : Vectors) (radius : Float) → known r.family ≡ true
+need_verdict : (r : Record) (v : Vectors) (radius : Float)
     → verdict_of (begin_stages r v radius).answer ≡ first_failing (11 ∶ not (too_many r radius) ∷ [])
 unfolding begin_stages stage_need by_need ask_stage first_failing
-need_verdict r v radius h = go (exceeds (kind (setting_of r)) q radius) (too_many r radius) (exceeds_is r radius h)
+need_verdict r v radius = go (exceeds (family_of r.family) q radius) (too_many r radius) (exceeds_is r radius)
   where
     q : Float
     q = (setting_of r).quotient
 
     go : (t u : Bool) → t ≡ u
-        → verdict_of (by_need (cond t (Unmet 11) (Met (stage_count (kind (setting_of r)) q radius))) r v radius).answer
+        → verdict_of (by_need (cond t (Unmet 11) (Met (stage_count (family_of r.family) q radius))) r v radius).answer
         ≡ cond (not u) admitted (refused_with 11)
     go true true e = refl
     go true false e = absurd (true≢false e)
     go false true e = absurd (true≢false (sym e))
     go false false e = refl
 
-pass_verdict : (t : Bool) (r r' : Record) (v v' : Vectors) (radius : Float) → known r.family ≡ true
+pass_verdict : (t : Bool) (r r' : Record) (v v' : Vectors) (radius : Float)
     → verdict_of (cond t (begin_stages r v radius) (ask_pass r' v')).answer ≡ first_failing (cond t (11 ∶ not (too_many r radius) ∷ []) [])
 unfolding ask_pass first_failing
-pass_verdict true r r' v v' radius h = need_verdict r v radius h
-pass_verdict false r r' v v' radius h = refl
+pass_verdict true r r' v v' radius = need_verdict r v radius
+pass_verdict false r r' v v' radius = refl
 
 stage_verdict : (t : Bool) (r r' : Record) (v v' : Vectors) → verdict_of (cond t (ask_stage r v) (ask_candidate r' v')).answer
     ≡ first_failing (cond t [] (10 ∶ all_finite (v' candidate) ∷ []))
@@ -101,56 +100,41 @@ unfolding ask_stage first_failing
 stage_verdict true r r' v v' = refl
 stage_verdict false r r' v v' = candidate_verdict (all_finite (v' candidate)) r' v' refl
 
-pub replied_verdict : (φ : Phase) (r : Record) (v : Vectors) (d : List Float) → known r.family ≡ true
-    → verdict_of (replied φ r v d).answer ≡ first_failing (replied_tests φ r v d)
+pub replied_verdict : (φ : Phase) (r : Record) (v : Vectors) (d : List Float) → verdict_of (replied φ r v d).answer ≡ first_failing (replied_tests φ r v d)
 unfolding replied take_first take_callback take_pass take_stage take_candidate replied_tests pass_tests stage_tests first_failing
-replied_verdict P.Empty r v d h = refl
-replied_verdict P.First r v d h = refl
-replied_verdict P.Ready r v d h = refl
-replied_verdict P.Pass r v d h = let w = turned r.n v d in let i = r.iteration in let radius = radius_of i.perturbation w in
+replied_verdict P.Empty r v d = refl
+replied_verdict P.First r v d = refl
+replied_verdict P.Ready r v d = refl
+replied_verdict P.Pass r v d = let w = turned r.n v d in let i = r.iteration in let radius = radius_of i.perturbation w in
     pass_verdict (ended i.pass i.previous_radius radius || eqb i.pass 12) r (at_pass r.arguments (i.pass + 1) i.perturbation radius r) w w
-    (scaled r.arguments.step radius) h
-replied_verdict P.Stage r v d h =
+    (scaled r.arguments.step radius)
+replied_verdict P.Stage r v d =
     let m = setting_of r in
     let s = r.staging.stages in
     let j = r.staging.stage in
     let c = r.staging.recurrence in
     let row = coefficients m s j c in
     let w = with_row m r.n r.arguments.step row v d in
-    stage_verdict (ltb j s) (at_stage s (j + 1) (next m j c row) r) r (exchanged w) (with_candidate m r.n r.arguments.step s c row w)
-replied_verdict P.Candidate r v d h = refl
-replied_verdict P.Finished r v d h = refl
-replied_verdict P.Callback r v d h = refl
+    stage_verdict (ltb j s) (at_stage s (j + 1) (next m c row) r) r (exchanged w) (with_candidate m r.n r.arguments.step s c row w)
+replied_verdict P.Candidate r v d = refl
+replied_verdict P.Finished r v d = refl
+replied_verdict P.Callback r v d = refl
 
 -- past its own tests, 9 and those of the phase
 abbrev beyond_eight : Held → List Float → List Test
 beyond_eight h d = 9 ∶ all_finite d ∷ replied_tests h.kept.phase h.kept (unpack h.kept.n h.area) d
 
--- a family that is not known is the first cause, and the others do not matter
-unknown_decided : (h : Held) (d : List Float) → known h.kept.family ≡ false
-    → DecidedBy (reply_tests h.kept h.counters h.area d ++ beyond_eight h d) (reply h d)
-unfolding reply guarded decide first_failing reply_tests
-unknown_decided h d e = record { verdict_is = rw e }
-
-known_decided : (h : Held) (d : List Float) → known h.kept.family ≡ true
-    → DecidedBy (reply_tests h.kept h.counters h.area d ++ beyond_eight h d) (reply h d)
+reply_decided : (h : Held) (d : List Float) → DecidedBy (reply_tests h.kept h.counters h.area d ++ beyond_eight h d) (reply h d)
 unfolding reply settled going_on spoiled first_failing
-known_decided h d e = record { verdict_is = verdict_then h _ (beyond_eight h d) _ (go (all_finite d)) }
+reply_decided h d = record { verdict_is = verdict_then h _ (beyond_eight h d) _ (go (all_finite d)) }
   where
     v : Vectors
     v = unpack h.kept.n h.area
 
     go : (t : Bool) → verdict_of (cond t (settled h.counters (replied h.kept.phase h.kept v d)) (spoiled h)).answer
         ≡ cond t (first_failing (replied_tests h.kept.phase h.kept v d)) (refused_with 9)
-    go true = replied_verdict h.kept.phase h.kept v d e
+    go true = replied_verdict h.kept.phase h.kept v d
     go false = refl
-
-reply_decided : (h : Held) (d : List Float) → DecidedBy (reply_tests h.kept h.counters h.area d ++ beyond_eight h d) (reply h d)
-reply_decided h d = go (known h.kept.family) refl
-  where
-    go : (t : Bool) → known h.kept.family ≡ t → DecidedBy (reply_tests h.kept h.counters h.area d ++ beyond_eight h d) (reply h d)
-    go true e = known_decided h d e
-    go false e = unknown_decided h d e
 
 -- ---- every call
 

@@ -11,16 +11,16 @@ use lib.ListN.{length}
 use lib.Ieee.{Float, lt}
 use Rattle.ieee.specs.Double.{◌⊕◌, ◌⊗◌, nought}
 use Rattle.family.specs.declared.Setting.{Setting}
-use Rattle.family.specs.Family.{RKMC2, TSRKC2, TSRKC3, known, family_of, facts_of, kind}
+use Rattle.family.specs.Family.{RKMC2, TSRKC2, known, facts_of, kind}
 use Rattle.coefficients.specs.declared.Recurrence.{Recurrence}
-use Rattle.coefficients.specs.Rows.{coefficients, next, carried, candidate_weights, tsrkc3_weights}
+use Rattle.coefficients.specs.Rows.{coefficients, next, carried, candidate_weights}
 use Rattle.coefficients.proofs.Carried.{carried_next}
 use Rattle.workspace.specs.declared.Arguments.{Arguments}
 use Rattle.workspace.specs.Vectors.{Vector, Vectors, ◌with◌≔◌, number, each, all_finite, first_derivative, last_derivative}
 use Rattle.workspace.specs.Vectors.{derivative, previous_two, previous_one, next_stage, state, candidate, older_state}
-use Rattle.workspace.specs.Kernel.{with_row, exchanged, combined_entry, mixed_entry, weighed_entry, older_of, with_candidate, with_last, error}
+use Rattle.workspace.specs.Kernel.{with_row, exchanged, combined_entry, mixed_entry, older_of, with_candidate, with_last, error}
 use Rattle.workspace.proofs.Areas.{long_last}
-use Rattle.workspace.proofs.Candidate.{candidate_last, candidate_combined, candidate_mixed, candidate_weighed, combined_same, mixed_same, weighed_same}
+use Rattle.workspace.proofs.Candidate.{candidate_last, candidate_combined, candidate_mixed, combined_same, mixed_same}
 use Rattle.driver.specs.declared.Phase.TheVariants as P
 use Rattle.driver.specs.declared.Iteration.{Iteration}
 use Rattle.driver.specs.declared.Staging.{Staging}
@@ -56,21 +56,17 @@ module _ (h : Held) (a : Arguments) (hk : known h.kept.family ≡ true) (hs : si
     ended_well : good_end F k s ≡ true
     ended_well = rw (le-leb 1 k 1≤k, le-leb k 12 k≤) hs'
 
-    -- how RKMC2's candidate is made of the vectors, TSRKC2's, and TSRKC3's past its start
+    -- how RKMC2's candidate is made of the vectors, and TSRKC2's
     abbrev combination : Recurrence → Vectors → List Float
     combination rc w = each h.kept.n w (combined_entry a.step (candidate_weights s rc))
 
     abbrev mixture : Recurrence → Vectors → List Float
     mixture rc w = each h.kept.n w (mixed_entry (older_of F) rc.polynomials.gain)
 
-    abbrev weighing : Recurrence → Vectors → List Float
-    weighing rc w = each h.kept.n w (weighed_entry (older_of F) (tsrkc3_weights s rc))
-
     record Made (w : Vectors) : Type 0 where
-      last : (kind F ≡ RKMC2 → ⊥) → (kind F ≡ TSRKC2 → ⊥) → (kind F ≡ TSRKC3 → ⊥) → w candidate ≡ w next_stage
+      last : (kind F ≡ RKMC2 → ⊥) → (kind F ≡ TSRKC2 → ⊥) → w candidate ≡ w next_stage
       combined : kind F ≡ RKMC2 → w candidate ≡ combination (carried F s (s - 2)) w
       mixed : kind F ≡ TSRKC2 → w candidate ≡ mixture (carried F s (s - 2)) w
-      weighed : kind F ≡ TSRKC3 → w candidate ≡ weighing (carried F s (s - 2)) w
 
     candidate_follows : (j : ℕ) (rc : Recurrence) (v w : Vectors) (c : Counters) (e : ℕ) → Made w → Intact h w → Counted h e c
         → e + 2 ≡ k + s
@@ -117,22 +113,18 @@ module _ (h : Held) (a : Arguments) (hk : known h.kept.family ≡ true) (hs : si
             (λ d hd fin. record {
               answer_is = refl;
               area_is = refl;
-              vectors_long = long_last (family_of h.kept.family) h.kept.n F a w d hw.long hd;
+              vectors_long = long_last (kind F) h.kept.n F a w d hw.long hd;
               state_stands = last_stands d state refl refl ∙ hw.state_is;
               first_stands = last_stands d first_derivative refl refl ∙ hw.first_is;
               older_stands = last_stands d older_state refl refl ∙ hw.older_is;
               candidate_finite = ap all_finite (last_stands d candidate refl refl) ∙ finite;
-              candidate_last = λ not-rkmc2 not-tsrkc2 not-tsrkc3. last_stands d candidate refl refl ∙ made.last not-rkmc2 not-tsrkc2 not-tsrkc3
-                  ∙ sym (last_stands d next_stage refl refl);
+              candidate_last = λ other another. last_stands d candidate refl refl ∙ made.last other another ∙ sym (last_stands d next_stage refl refl);
               candidate_combined = λ own. last_stands d candidate refl refl ∙ made.combined own ∙ combined_same h.kept.n a.step
                   (candidate_weights s (carried F s (s - 2))) w (with_last F h.kept.n a w d) (sym (last_stands d state refl refl))
                   (sym (last_stands d next_stage refl refl)) (sym (last_stands d previous_two refl refl)) (sym (last_stands d first_derivative refl refl));
               candidate_mixed = λ own. last_stands d candidate refl refl ∙ made.mixed own
                   ∙ mixed_same h.kept.n (older_of F) (carried F s (s - 2)).polynomials.gain w (with_last F h.kept.n a w d)
                   (older_stays d F.history) (sym (last_stands d next_stage refl refl));
-              candidate_weighed = λ own. last_stands d candidate refl refl ∙ made.weighed own
-                  ∙ weighed_same h.kept.n (older_of F) (tsrkc3_weights s (carried F s (s - 2))) w (with_last F h.kept.n a w d)
-                  (sym (last_stands d state refl refl)) (older_stays d F.history) (sym (last_stands d next_stage refl refl));
               last_finite = ap all_finite (last_taken d) ∙ fin;
               phase_is = refl;
               family_is = refl;
@@ -187,13 +179,11 @@ module _ (h : Held) (a : Arguments) (hk : known h.kept.family ≡ true) (hs : si
               ∙ ap (λ (y : Recurrence). combination y (last j rc v d)) (rc≡ ∙ ap (λ (i : ℕ). carried F s (i - 2)) j≡);
           mixed = λ own. candidate_mixed F h.kept.n a.step s rc row (taken j rc v d) own
               ∙ ap (λ (y : Recurrence). mixture y (last j rc v d)) (rc≡ ∙ ap (λ (i : ℕ). carried F s (i - 2)) j≡);
-          weighed = λ own. candidate_weighed F h.kept.n a.step s rc row (taken j rc v d) own
-              ∙ ap (λ (y : Recurrence). weighing y (last j rc v d)) (rc≡ ∙ ap (λ (i : ℕ). carried F s (i - 2)) j≡);
         }
 
     -- what a stage's derivative is taken to, in the attempt in one piece: before stage s, and at it
     abbrev on_from : ℕ → ℕ → Recurrence → Vectors → Asking Vectors
-    on_from m j rc w = stage_loop F h.kept.n a s m (j + 1) (next F j rc (coefficients F s j rc)) (exchanged w)
+    on_from m j rc w = stage_loop F h.kept.n a s m (j + 1) (next F rc (coefficients F s j rc)) (exchanged w)
 
     abbrev at_last : ℕ → Recurrence → Vectors → Asking Vectors
     at_last j rc w = done (with_candidate F h.kept.n a.step s rc (coefficients F s j rc) w)
@@ -220,6 +210,6 @@ module _ (h : Held) (a : Arguments) (hk : known h.kept.family ≡ true) (hs : si
         hv hc (both hs' (both (le-leb 2 j 2≤j) (le-leb j s (omega arith)))) refl
         refl (λ c. absurd (differ c))
         (λ d hd fin. rw (lt-ltb j s (omega arith))
-        (stages_follow m (j + 1) (next F j rc (coefficients F s j rc)) (exchanged (taken j rc v d)) (one_more h c) (suc e)
+        (stages_follow m (j + 1) (next F rc (coefficients F s j rc)) (exchanged (taken j rc v d)) (one_more h c) (suc e)
         (pending_at h a hk hs P.Stage I (staging_at s j rc) v c) (omega arith) (omega arith) (omega arith)
         (carried_next F s j rc 2≤j rc≡) (intact_exchanged h (taken j rc v d) (whole j rc v d hv hd)) (counted_on h hc)))

@@ -12,8 +12,7 @@ use lib.ListN.{length}
 use lib.Ieee.{Float, binary64, of_bits}
 use Rattle.ieee.specs.Double.{nought}
 use Rattle.tsrkc2_omega_zero_minus_one.specs.Table.{omega_zero_minus_one}
-use Rattle.coefficients.specs.Rows.{tsrkc2_omega_zero, squared_minus_one, derivative_at, second_derivative_at, omega_one_from, tsrkc2_derivative}
-use Rattle.coefficients.specs.Rows.{tsrkc2_omega_one, tsrkc2_gain}
+use Rattle.coefficients.specs.Rows.{tsrkc2_omega_zero, omega_zero_squared_minus_one, derivative_t_star, second_derivative_t_star, tsrkc2_omega_one, tsrkc2_gain}
 use Rattle.coefficients.specs.Rows.{tsrkc2_first_polynomials, value_of, tsrkc2_row, tsrkc2_polynomials_on}
 use Rattle.workspace.specs.declared.Arguments.{Arguments}
 use Rattle.workspace.specs.Vectors.{all_finite}
@@ -123,8 +122,7 @@ abbrev pub two_step_calls : List Call
 two_step_calls = Start 7 2 start_state nought ∷ after_start
 
 unfoldable tsrkc2 : Unit {0}
-unfolding of_bits omega_zero_minus_one tsrkc2_omega_zero squared_minus_one derivative_at second_derivative_at omega_one_from tsrkc2_derivative
-    tsrkc2_omega_one tsrkc2_gain
+unfolding of_bits omega_zero_minus_one tsrkc2_omega_zero omega_zero_squared_minus_one derivative_t_star second_derivative_t_star tsrkc2_omega_one tsrkc2_gain
     tsrkc2_first_polynomials value_of tsrkc2_row tsrkc2_polynomials_on plain_entry mixed_entry all_of_bits arguments_of one_after_another start_state after_start
 tsrkc2 = tt
 

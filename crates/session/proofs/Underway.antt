@@ -9,7 +9,7 @@ use native.Mathlib.Omega.{arith}
 use lib.Ieee.{Float}
 use Rattle.ieee.specs.Double.{◌⊗◌, ◌⊘◌, root_epsilon, nought, one}
 use Rattle.ieee.specs.Whole.{max}
-use Rattle.family.specs.Family.{Family, kind, stage_count}
+use Rattle.family.specs.Family.{family_of, stage_count}
 use Rattle.family.proofs.Range.{permitted_range}
 use Rattle.family.proofs.Counts.{stage_count_permitted}
 use Rattle.coefficients.specs.Rows.{carried, carried_of}
@@ -110,8 +110,8 @@ found_same r w v e f =
     ∙ ap (λ (y : List Float). scaled r.arguments.step (vector_norm y ⊘ perturbation_of v)) (sym f)
 
 -- every count is at least 2
-least_count : (f : Family) (q r : Float) → 2 ≤ stage_count f q r
-least_count f q r = (permitted_range f (stage_count f q r) (stage_count_permitted f q r)).0
+least_count : (f : ℕ) (q r : Float) → 2 ≤ stage_count (family_of f) q r
+least_count f q r = (permitted_range (family_of f) (stage_count (family_of f) q r) (stage_count_permitted (family_of f) q r)).0
 
 -- a call leaves it so, and answers so
 pub record Goes (g : Held) (a : Arguments) (m : ℕ) (x : Called) : Type 0 where
@@ -184,7 +184,7 @@ module _ (g : Held) (a : Arguments) (m : ℕ) (x : Held) (u : Underway g a m x) 
             };
             replies_are = omega arith;
             from_two = omega arith;
-            to_last = least_count (kind (setting_of r)) (setting_of r).quotient (radius_after r w);
+            to_last = least_count r.family (setting_of r).quotient (radius_after r w);
             recurrence_is = refl;
             attempts_are = omega arith;
           };

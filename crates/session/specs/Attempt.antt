@@ -1,8 +1,8 @@
--- An attempt in one piece, as the Rust has it: `attempt_step`, `spectral_radius`, `run_orthogonal_polynomial`, `run_rkc`, `run_rkmc2`, `run_tsrkc2` and
--- `run_tsrkc3`, with `?` where the Rust has `?`. Document 01, "driver.rs: the calls", and document 02, CR 1, CR 6 and CR 7. Where the port differs, as
--- docs/DIFFERENCES.md lists, so does this: `evaluate`, `close`, every norm (document 02, CR 4), and what `stage_need` (RKC's 200 where the Rust's count
--- overflows, RKG's counts by document 02, CR 5, RKMC2's thresholds, 11 where TSRKC2 or TSRKC3 would need more than 1000 stages) and `recurrence` (the tables of
--- RKC, RKMC2, TSRKC2 and TSRKC3) take from the layers below. The Rust's `InvalidMultistepHistory` is left out, since it cannot arise (proofs/Together.antt).
+-- An attempt in one piece, as the Rust has it: `attempt_step`, `spectral_radius`, `run_orthogonal_polynomial`, `run_rkc`, `run_rkmc2` and `run_tsrkc2`, with
+-- `?` where the Rust has `?`. Document 01, "driver.rs: the calls", and document 02, CR 1 and CR 6. Where the port differs, as docs/DIFFERENCES.md lists, so
+-- does this: `evaluate`, `close`, every norm (document 02, CR 4), and what `stage_need` (RKC's 200 where the Rust's count overflows, RKG's counts by document
+-- 02, CR 5, RKMC2's thresholds, 11 where TSRKC2 would need more than 1000 stages) and `recurrence` (the tables of RKC, RKMC2 and TSRKC2) take from the layers
+-- below.
 -- The right-hand side is whoever answers `ask`. The vectors, which the Rust changes in place, go from line to line. ⊕ ⊗ are operations on doubles: they round.
 use Rattle.std.specs.Prelude.{ℕ, zero, suc, ◌+◌, ◌-◌, Bool, true, false, cond, ◌||◌, List, [], ◌∷◌, eqb, Float}
 use Rattle.ieee.specs.Double.{◌⊕◌, ◌⊗◌, nought}
@@ -47,7 +47,7 @@ ask why t p k >>= f = ask why t p (λ d. k d >>= f)
 unfoldable pub evaluate : Purpose → Vectors → Float → List Float → Asking (List Float)
 evaluate why v t p = ask why t p (λ d. cond (all_finite d) (done d) (stopped 9 v))
 
--- a need that is refused stops it too (document 02, CR 6 and CR 7)
+-- a need that is refused stops it too (document 02, CR 6)
 unfoldable pub stages_for : Need → Vectors → Asking ℕ
 stages_for (Met s) v = done s
 stages_for (Unmet i) v = stopped i v
@@ -97,7 +97,7 @@ module _ (under : Setting) (n : ℕ) (a : Arguments) where
     done (with_candidate under n a.step s c (coefficients under s j c) v)
   stage_loop s (suc m) j c v = do
     v ← stage_row s j c v
-    stage_loop s m (j + 1) (next under j c (coefficients under s j c)) (exchanged v)
+    stage_loop s m (j + 1) (next under c (coefficients under s j c)) (exchanged v)
 
   unfoldable pub run_recurrence : ℕ → Vectors → Asking Vectors
   run_recurrence s v = let c = recurrence under s in

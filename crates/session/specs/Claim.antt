@@ -3,12 +3,12 @@
 use Rattle.std.specs.Prelude.{◌≡◌, Bool, true, false, List, [], ◌∷◌, ◌++◌, ℕ, zero, suc, ◌+◌, ◌-◌, ◌≤◌, ◌<◌, ◌^◌, length, take, Float}
 use Rattle.std.specs.Float.Ieee.{lt}
 use Rattle.ieee.specs.Double.{nought}
-use Rattle.family.specs.Family.{RKMC2, TSRKC2, TSRKC3, known, family_of, kind, stage_count}
-use Rattle.coefficients.specs.Rows.{candidate_weights, tsrkc3_weights, carried}
+use Rattle.family.specs.Family.{RKMC2, TSRKC2, known, family_of, kind, stage_count}
+use Rattle.coefficients.specs.Rows.{candidate_weights, carried}
 use Rattle.workspace.specs.declared.Arguments.{Arguments}
 use Rattle.workspace.specs.Vectors.{Vector, Vectors, width, named, unpack, pack, each, all_finite, next_stage, state, candidate, older_state, first_derivative}
 use Rattle.workspace.specs.Vectors.{last_derivative}
-use Rattle.workspace.specs.Kernel.{combined_entry, mixed_entry, weighed_entry, older_of}
+use Rattle.workspace.specs.Kernel.{combined_entry, mixed_entry, older_of}
 use Rattle.driver.specs.declared.Phase.TheVariants as P
 use Rattle.driver.specs.declared.Need.TheVariants.{Met}
 use Rattle.driver.specs.declared.Figures.{Figures}
@@ -83,8 +83,8 @@ pub record Waits (h : Held) (replies : ℕ) (x : Called) : Type 0 where
   pub evaluations_are : x.held.counters.evaluations ≡ h.counters.evaluations + replies
   pub attempts_are : x.held.counters.finished_attempts ≡ h.counters.finished_attempts
 
--- finished after this many replies, from h with the arguments a; the candidate is the last stage, and RKMC2's, TSRKC2's and TSRKC3's past its start a
--- combination of the vectors that are left
+-- finished after this many replies, from h with the arguments a; the candidate is the last stage, and RKMC2's and TSRKC2's a combination of the vectors that
+-- are left
 pub record Finishes (h : Held) (a : Arguments) (o : FinishedAttempt) (replies : ℕ) (x : Called) : Type 0 where
   pub answer_is : x.answer ≡ Finished (figures_told o)
   pub area_is : x.held.area ≡ pack o.vectors
@@ -93,14 +93,11 @@ pub record Finishes (h : Held) (a : Arguments) (o : FinishedAttempt) (replies : 
   pub first_stands : o.vectors first_derivative ≡ unpack h.kept.n h.area first_derivative
   pub older_stands : o.vectors older_state ≡ unpack h.kept.n h.area older_state
   pub candidate_finite : all_finite (o.vectors candidate) ≡ true
-  pub candidate_last : (kind (setting_for h.kept a) ≡ RKMC2 → ⊥) → (kind (setting_for h.kept a) ≡ TSRKC2 → ⊥)
-      → (kind (setting_for h.kept a) ≡ TSRKC3 → ⊥) → o.vectors candidate ≡ o.vectors next_stage
-  pub candidate_combined : kind (setting_for h.kept a) ≡ RKMC2 → o.vectors candidate ≡ each h.kept.n o.vectors
+  pub candidate_last : (family_of h.kept.family ≡ RKMC2 → ⊥) → (family_of h.kept.family ≡ TSRKC2 → ⊥) → o.vectors candidate ≡ o.vectors next_stage
+  pub candidate_combined : family_of h.kept.family ≡ RKMC2 → o.vectors candidate ≡ each h.kept.n o.vectors
       (combined_entry a.step (candidate_weights o.stages (carried (setting_for h.kept a) o.stages (o.stages - 2))))
-  pub candidate_mixed : kind (setting_for h.kept a) ≡ TSRKC2 → o.vectors candidate ≡ each h.kept.n o.vectors
+  pub candidate_mixed : family_of h.kept.family ≡ TSRKC2 → o.vectors candidate ≡ each h.kept.n o.vectors
       (mixed_entry (older_of (setting_for h.kept a)) (carried (setting_for h.kept a) o.stages (o.stages - 2)).polynomials.gain)
-  pub candidate_weighed : kind (setting_for h.kept a) ≡ TSRKC3 → o.vectors candidate ≡ each h.kept.n o.vectors
-      (weighed_entry (older_of (setting_for h.kept a)) (tsrkc3_weights o.stages (carried (setting_for h.kept a) o.stages (o.stages - 2))))
   pub last_finite : all_finite (o.vectors last_derivative) ≡ true
   pub phase_is : x.held.kept.phase ≡ P.Finished
   pub family_is : x.held.kept.family ≡ h.kept.family
@@ -164,7 +161,7 @@ pub record Took (h : Held) (a : Arguments) (d : ℕ → List Float) (o : Finishe
   pub replies_are : replies_to h a d ≡ o.stages + o.passes
   pub one_pass : 1 ≤ o.passes
   pub twelve_passes : o.passes ≤ 12
-  pub stages_are : o.stages ≡ stage_count (kind (setting_for h.kept a)) (setting_for h.kept a).quotient o.scaled_radius
+  pub stages_are : o.stages ≡ stage_count (family_of h.kept.family) (setting_for h.kept a).quotient o.scaled_radius
   pub each_evaluates : (j : ℕ) → j < o.stages + o.passes → case_number (after j d 0 (attempt h a)).answer ≡ 1
   pub answer_is : SameAnswer x.answer (Finished (figures_told o))
   pub evaluations_are : x.held.counters.evaluations ≡ h.counters.evaluations + (o.stages + o.passes)

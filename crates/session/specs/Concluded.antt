@@ -4,23 +4,20 @@
 -- "The evaluations of one finished attempt are s + k, with k from 1 to 12, each one reply"; demand 3 "holds also of the s that a finished attempt ran, for
 -- its own r where that is finite". Document 02, CR 2: the finished answer carries "s, k and the scaled radius beside the norm, and the record keeps them until
 -- the next attempt"; "Evaluations of the attempt still equal s + k, now over the written values".
-use Rattle.std.specs.Prelude.{ℕ, ◌+◌, ◌-◌, ◌≤◌, ◌<◌, ◌≡◌, Bool, true, false, cond, not, ◌&&◌, List, [], ◌∷◌, ◌++◌, map, T, length, replicate, Float}
+use Rattle.std.specs.Prelude.{ℕ, ◌+◌, ◌-◌, ◌≤◌, ◌≡◌, Bool, true, false, cond, not, ◌&&◌, List, [], ◌∷◌, ◌++◌, map, T, length, replicate, Float}
 use Rattle.std.specs.Float.{inf}
 use Rattle.std.specs.Float.Ieee.{le, lt}
 use Rattle.std.specs.Float.Ieee.Scale.{finite}
 use Rattle.ieee.specs.Double.{nought, one}
 use Rattle.ieee.specs.Close.{Close}
-use Rattle.family.specs.Family.{Family, RKC, RKMC2, TSRKC2, TSRKC3START, TSRKC3, Orthogonal, made_of, family_of, kind, keeps_older, permitted}
-use Rattle.family.specs.Family.{largest_count, stage_count, exceeds}
+use Rattle.family.specs.Family.{RKC, RKMC2, TSRKC2, Orthogonal, made_of, family_of, kind, permitted, largest_count, stage_count, exceeds}
 use Rattle.family.specs.declared.Setting.{Setting}
 use Rattle.family.specs.Reach.{Serves}
 use Rattle.coefficients.specs.declared.Recurrence.{Recurrence}
-use Rattle.coefficients.specs.declared.Polynomials.{Polynomials}
 use Rattle.coefficients.specs.Paper as Paper
 use Rattle.coefficients.specs.Rows.{omega_zero, recurrence_of, coefficients_of, carried, tsrkc2_omega_zero, tsrkc2_omega_one, tsrkc2_gain}
-use Rattle.coefficients.specs.Rows.{tsrkc3_omega_zero, tsrkc3_omega_one, tsrkc3_gain, tsrkc3_history_gain}
-use Rattle.rkc_omega_one.specs.Table as Table
-use Rattle.rkc_omega_one.specs.Chebyshev as Chebyshev
+use Rattle.coefficients.specs.Table as Table
+use Rattle.coefficients.specs.Chebyshev as Chebyshev
 use Rattle.rkmc2_omega_zero.specs.Table as rkmc2-zero
 use Rattle.rkmc2_omega_one.specs.Table as rkmc2-one
 use Rattle.coefficients.specs.Closeness.{CloseRow}
@@ -125,16 +122,16 @@ pub record Concluded (h : Held) (calls : List Call) (told : Figures) (x : Held) 
   pub suits : Suits (setting_of x.kept) told.passes told.stages told.scaled_radius
   pub evaluations_are : x.counters.evaluations ≡ (found attempt).counters.evaluations + (told.stages + told.passes)
   pub attempts_are : x.counters.finished_attempts ≡ (found attempt).counters.finished_attempts + 1
-  pub largest_at_infinity : keeps_older (family_of start.family) ≡ false → told.scaled_radius ≡ inf false
+  pub largest_at_infinity : (family_of start.family ≡ TSRKC2 → ⊥) → told.scaled_radius ≡ inf false
       → told.stages ≡ largest_count (family_of start.family)
   pub demand_three : (g : Orthogonal) → family_of start.family ≡ made_of g → DemandThree g told.scaled_radius told.stages
   pub record_holds : HoldsFigures told x.kept
 
--- whatever record was handed in: k is from 1 to 12, and s permitted to the record's family, to TSRKC3 by its q
+-- whatever record was handed in: k is from 1 to 12, and s permitted to the record's family
 pub record ToldInRange (told : Figures) (x : Held) : Type 0 where
   pub one_pass : 1 ≤ told.passes
   pub twelve_passes : told.passes ≤ 12
-  pub stages_permitted : T (permitted (kind (setting_of x.kept)) told.stages)
+  pub stages_permitted : T (permitted (family_of x.kept.family) told.stages)
 
 -- ---- until the next attempt
 
@@ -165,39 +162,23 @@ pub record UnderWay (x : Held) : Type 0 where
 -- ---- a stage that awaits its derivative, in a sequence
 
 -- What the record carries into the stage is what the recurrence comes to there, from family, q and s alone; in RKC `omega_zero` is that of s, and `omega_one`
--- the table's entry for s, within 2 ^ -36 of the paper's fraction; in TSRKC3's start so up to s = 200, and beyond within 2 ^ -34; in RKMC2 both are the tables'
--- entries for s, at least 1 and above 0; in TSRKC2 and past TSRKC3's start they and the gains are those of q and s.
-abbrev polynomials_of : Held → Polynomials
-polynomials_of x = x.kept.staging.recurrence.polynomials
-
--- the family by its method, and q
-abbrev runs : Held → Family
-runs x = kind (setting_of x.kept)
-
-abbrev q_of : Held → Float
-q_of x = (setting_of x.kept).quotient
-
+-- the table's entry for s, within 2 ^ -36 of the paper's fraction; in RKMC2 both are the tables' entries for s, at least 1 and above 0; in TSRKC2 they and the
+-- gain are those of q and s.
 pub record Carries (x : Held) : Type 0 where
-  pub stages_permitted : T (permitted (runs x) (stages_of x))
+  pub stages_permitted : T (permitted (family_of x.kept.family) (stages_of x))
   pub from_two : 2 ≤ x.kept.staging.stage
   pub to_last : x.kept.staging.stage ≤ stages_of x
   pub recurrence_is : x.kept.staging.recurrence ≡ carried (setting_of x.kept) (stages_of x) (x.kept.staging.stage - 2)
-  pub zero_kept : runs x ≡ RKC → (polynomials_of x).omega_zero ≡ omega_zero (stages_of x)
-  pub entry_read : runs x ≡ RKC → (polynomials_of x).omega_one ≡ Table.omega (stages_of x)
-  pub entry_close : runs x ≡ RKC → Close 36 (polynomials_of x).omega_one (Chebyshev.omega_one (stages_of x))
-  pub start_zero_kept : runs x ≡ TSRKC3START → (polynomials_of x).omega_zero ≡ omega_zero (stages_of x)
-  pub start_entry_read : runs x ≡ TSRKC3START → (polynomials_of x).omega_one ≡ Table.extended (stages_of x)
-  pub start_entry_close : runs x ≡ TSRKC3START → stages_of x ≤ 200 → Close 36 (polynomials_of x).omega_one (Chebyshev.omega_one (stages_of x))
-  pub start_entry_beyond : runs x ≡ TSRKC3START → 200 < stages_of x → Close 34 (polynomials_of x).omega_one (Chebyshev.omega_one (stages_of x))
-  pub rkmc2_zero_read : runs x ≡ RKMC2 → (polynomials_of x).omega_zero ≡ rkmc2-zero.omega_zero (stages_of x)
-  pub rkmc2_one_read : runs x ≡ RKMC2 → (polynomials_of x).omega_one ≡ rkmc2-one.omega_one (stages_of x)
-  pub rkmc2_zero_from_one : runs x ≡ RKMC2 → T (le one (polynomials_of x).omega_zero)
-  pub rkmc2_one_above_zero : runs x ≡ RKMC2 → T (lt nought (polynomials_of x).omega_one)
-  pub tsrkc2_zero_read : runs x ≡ TSRKC2 → (polynomials_of x).omega_zero ≡ tsrkc2_omega_zero (stages_of x)
-  pub tsrkc2_one_read : runs x ≡ TSRKC2 → (polynomials_of x).omega_one ≡ tsrkc2_omega_one (q_of x) (stages_of x)
-  pub gain_read : runs x ≡ TSRKC2 → (polynomials_of x).gain ≡ tsrkc2_gain (q_of x) (tsrkc2_omega_one (q_of x) (stages_of x)) (stages_of x)
-  pub tsrkc3_zero_read : runs x ≡ TSRKC3 → (polynomials_of x).omega_zero ≡ tsrkc3_omega_zero (stages_of x)
-  pub tsrkc3_one_read : runs x ≡ TSRKC3 → (polynomials_of x).omega_one ≡ tsrkc3_omega_one (q_of x) (stages_of x)
-  pub tsrkc3_gain_read : runs x ≡ TSRKC3 → (polynomials_of x).gain ≡ tsrkc3_gain (q_of x) (tsrkc3_omega_one (q_of x) (stages_of x)) (stages_of x)
-  pub history_gain_read : runs x ≡ TSRKC3
-      → (polynomials_of x).history_gain ≡ tsrkc3_history_gain (q_of x) (tsrkc3_omega_one (q_of x) (stages_of x)) (stages_of x)
+  pub zero_kept : family_of x.kept.family ≡ RKC → x.kept.staging.recurrence.polynomials.omega_zero ≡ omega_zero (stages_of x)
+  pub entry_read : family_of x.kept.family ≡ RKC → x.kept.staging.recurrence.polynomials.omega_one ≡ Table.omega (stages_of x)
+  pub entry_close : family_of x.kept.family ≡ RKC → Close 36 x.kept.staging.recurrence.polynomials.omega_one (Chebyshev.omega_one (stages_of x))
+  pub rkmc2_zero_read : family_of x.kept.family ≡ RKMC2 → x.kept.staging.recurrence.polynomials.omega_zero ≡ rkmc2-zero.omega_zero (stages_of x)
+  pub rkmc2_one_read : family_of x.kept.family ≡ RKMC2 → x.kept.staging.recurrence.polynomials.omega_one ≡ rkmc2-one.omega_one (stages_of x)
+  pub rkmc2_zero_from_one : family_of x.kept.family ≡ RKMC2 → T (le one x.kept.staging.recurrence.polynomials.omega_zero)
+  pub rkmc2_one_above_zero : family_of x.kept.family ≡ RKMC2 → T (lt nought x.kept.staging.recurrence.polynomials.omega_one)
+  pub tsrkc2_zero_read : family_of x.kept.family ≡ TSRKC2 → x.kept.staging.recurrence.polynomials.omega_zero ≡ tsrkc2_omega_zero (stages_of x)
+  pub tsrkc2_one_read : family_of x.kept.family ≡ TSRKC2
+      → x.kept.staging.recurrence.polynomials.omega_one ≡ tsrkc2_omega_one (setting_of x.kept).quotient (stages_of x)
+  pub gain_read : family_of x.kept.family ≡ TSRKC2
+      → x.kept.staging.recurrence.polynomials.gain
+      ≡ tsrkc2_gain (setting_of x.kept).quotient (tsrkc2_omega_one (setting_of x.kept).quotient (stages_of x)) (stages_of x)

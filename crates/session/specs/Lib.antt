@@ -3,5 +3,4 @@ pub mod Claim
 pub mod Refusals
 pub mod Alike
 pub mod Session
-pub mod Multistep
 pub mod Concluded

@@ -2,7 +2,7 @@
 -- CR 6.
 use Rattle.std.specs.Prelude.{ℕ, ◌+◌, ◌≡◌, ◌⊎◌, Bool, false, cond, not, ◌&&◌, ◌||◌, List, [], ◌∷◌, ltb, eqb, Float}
 use Rattle.std.specs.Float.Ieee.Scale.{finite}
-use Rattle.family.specs.Family.{known, two_step, kind, number_of_stages}
+use Rattle.family.specs.Family.{TSRKC2, known, number_of_stages}
 use Rattle.coefficients.specs.Rows.{coefficients}
 use Rattle.workspace.specs.Vectors.{Vector, Vectors, number, unpack, all_finite, last_derivative, eigenvector, perturbed_derivative, candidate, older_state}
 use Rattle.workspace.specs.Kernel.{turned, radius_of, ended, scaled, with_row, with_candidate}
@@ -23,10 +23,9 @@ verdict_of Ready = admitted
 verdict_of (Refused i) = refused_with i
 verdict_of Empty = admitted
 
--- "11, when family 7 would need more than 1000 stages" (document 02, CR 6), and family 8 (CR 7): the number of the formula that its q calls for, for that q
--- and the scaled radius
+-- "11, when family 7 would need more than 1000 stages" (document 02, CR 6): family 7, and the formula's number, for its q and the scaled radius
 unfoldable pub too_many : Record → Float → Bool
-too_many r radius = let m = setting_of r in two_step r.family && ltb 1000 (number_of_stages (kind m) m.quotient radius)
+too_many r radius = eqb r.family 7 && ltb 1000 (number_of_stages TSRKC2 (setting_of r).quotient radius)
 
 -- "found by the reply that ends the power iteration after tests 1 to 9"
 unfoldable pub pass_tests : Record → Vectors → List Float → List Test
@@ -66,7 +65,7 @@ one_to_three f n lengths more = 1 ∶ known f ∷ 2 ∶ sized n ∷ 3 ∶ length
 abbrev pub one_to_four : Record → Bool → Bool → List Test → List Test
 one_to_four r lengths phase_allows more = one_to_three r.family r.n lengths (4 ∶ phase_allows ∷ more)
 
--- "area not 11 × n", of families 7 and 8 12 × n (document 02, CR 6 and CR 7); "or vector not n long"
+-- "area not 11 × n", of family 7 12 × n (document 02, CR 6); "or vector not n long"
 abbrev pub area_good : Held → Bool
 area_good h = whole_area h.kept.family h.kept.n h.area
 

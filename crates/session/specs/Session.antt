@@ -5,7 +5,7 @@ use Rattle.std.specs.Prelude.{ℕ, zero, suc, ◌+◌, ◌*◌, Bool, true, fals
 use Rattle.std.specs.Float.Ieee.Scale.{finite}
 use Rattle.ieee.specs.Double.{◌⊘◌, nought}
 use Rattle.family.specs.declared.Setting.{Setting}
-use Rattle.family.specs.Family.{known, two_step, family_of, setting}
+use Rattle.family.specs.Family.{known, family_of, setting}
 use Rattle.workspace.specs.declared.Arguments.{Arguments}
 use Rattle.workspace.specs.Vectors.{Vectors, ◌with◌≔◌, named, vector_count, unpack, all_finite, first_derivative, last_derivative, eigenvector, state}
 use Rattle.workspace.specs.Vectors.{candidate, older_state}
@@ -116,12 +116,12 @@ tries f n a x v = do
   o ← attempt_step (kernel_setting f x a.step) n a v
   done (tried x a.step o)
 
--- `previous_accepted_step` and `previous_accepted_state` of an attempt of this step that is accepted, in the two_step families, TSRKC2 and TSRKC3
+-- `previous_accepted_step` and `previous_accepted_state` of an attempt of this step that is accepted, in the two-step family, TSRKC2
 unfoldable pub step_after : ℕ → Float → PreviousStep → PreviousStep
-step_after f step x = cond (two_step f) (some_step step) x
+step_after f step x = cond (eqb f 7) (some_step step) x
 
 unfoldable pub state_after : ℕ → Vectors → Vectors
-state_after f v = cond (two_step f) (v with older_state ≔ v state) v
+state_after f v = cond (eqb f 7) (v with older_state ≔ v state) v
 
 -- `accept_step`, without a callback and with one
 unfoldable pub accept_step : ℕ → PreviousStep → Float → Vectors → Asking Resting

@@ -1,11 +1,11 @@
 -- The vectors and the area are got back from each other, and every step of the kernel keeps the vectors' length.
-use mathlib.Core.Path.{◌≡◌, refl, sym, ap, ◌∙◌, subst, fun_ext}
+use mathlib.Core.Path.{◌≡◌, refl, sym, ap, ◌∙◌, fun_ext}
 use mathlib.Core.Bool.{Bool, true, false, cond}
 use mathlib.Core.List.{List, [], ◌∷◌, ◌++◌, append-nil}
 use Prim.Native.Nat.{ℕ, zero, suc, ◌+◌, ◌-◌, ◌*◌, ◌≤◌, ◌<◌}
 use native.Mathlib.Nat.{mul-le-mul_right, suc-mul, zero-mul, not-suc-le-zero, le_of_suc-le-suc}
 use native.Mathlib.Omega.{arith}
-use lib.Dec.{T, eqb}
+use lib.Dec.{eqb}
 use borrow.Author.Tests.{eqb-true}
 use lib.ListN.{length, take, drop, get_or, replicate, length-append, length-take, length-drop, length-replicate}
 use lib.Seq.{take-append_seam, drop-append-add, drop-drop, take-add, take_all, length-take-le}
@@ -14,21 +14,17 @@ use Rattle.ieee.specs.Double.{one, min_positive}
 use Rattle.family.specs.declared.Setting.{Setting}
 use Rattle.family.specs.declared.RowForm.{RowForm}
 use Rattle.family.specs.declared.CandidateForm.{CandidateForm}
-use Rattle.family.specs.declared.CandidateForm.TheVariants.{LastStage, Combined, WithOlder, WithBothStates}
-use Rattle.family.specs.declared.ErrorForm.{ErrorForm}
-use Rattle.family.specs.declared.ErrorForm.TheVariants.{FirstDerivative, BothDerivatives, LastDerivative, ThirdAtStart, ThirdWithOlder}
-use Rattle.family.specs.Family.{Family, RKC, RKL1, RKL2, RKG1, RKG2, RKMC2, TSRKC2, TSRKC3START, TSRKC3, family_of, method, keeps_older}
-use Rattle.family.specs.Family.{known, two_step, facts_of, kind}
-use Rattle.family.proofs.Numbers.{method_keeps, kept_by_number}
+use Rattle.family.specs.declared.CandidateForm.TheVariants.{LastStage, Combined, WithOlder}
+use Rattle.family.specs.Family.{Family, RKC, RKL1, RKL2, RKG1, RKG2, RKMC2, TSRKC2, keeps_older, facts_of, kind}
 use Rattle.coefficients.specs.declared.Recurrence.{Recurrence}
 use Rattle.coefficients.specs.declared.Coefficients.{Coefficients}
-use Rattle.coefficients.specs.Rows.{candidate_weights, tsrkc3_weights}
+use Rattle.coefficients.specs.Rows.{candidate_weights}
 use Rattle.workspace.specs.declared.Arguments.{Arguments}
 use Rattle.workspace.specs.Vectors.{Vector, Vectors, ◌with◌≔◌, number, named, vector_count, width, unpack, Becomes, pack, join, in_order, tabulate, each}
 use Rattle.workspace.specs.Vectors.{vector_norm, first_derivative, last_derivative, derivative, previous_two, previous_one, next_stage, eigenvector}
 use Rattle.workspace.specs.Vectors.{perturbed_state, perturbed_derivative, state, candidate, older_state}
 use Rattle.workspace.specs.Kernel.{with_direction, perturbed_by, perturbed, turned, first_stage, with_row_in, entry_in, exchanged, candidate_in}
-use Rattle.workspace.specs.Kernel.{combined_entry, older_of, mixed_entry, weighed_entry, with_candidate, with_last, error}
+use Rattle.workspace.specs.Kernel.{combined_entry, older_of, mixed_entry, with_candidate, with_last, error}
 
 -- every vector is as long as it is in the family's area
 abbrev pub Long : Family → ℕ → Vectors → Type 0
@@ -109,69 +105,40 @@ at_most_twelve f {k} n e = go (keeps_older f) e
     go true e = rw e (omega arith)
     go false e = rw e (omega arith)
 
--- twelve where an older state is kept, eleven elsewhere
-pub kept_twelve : (f : Family) → keeps_older f ≡ true → vector_count f ≡ 12
-unfolding vector_count
-kept_twelve f h = rw h
+-- twelve where the candidate takes the older state, and only there
+taken_by : CandidateForm → ℕ
+taken_by LastStage = 11
+taken_by Combined = 11
+taken_by WithOlder = 12
 
-pub others_eleven : (f : Family) → keeps_older f ≡ false → vector_count f ≡ 11
-unfolding vector_count
-others_eleven f h = rw h
+counted : (f : Family) → vector_count f ≡ taken_by (facts_of f).candidate
+unfolding vector_count keeps_older facts_of taken_by
+counted RKC = refl
+counted RKL1 = refl
+counted RKL2 = refl
+counted RKG1 = refl
+counted RKG2 = refl
+counted RKMC2 = refl
+counted TSRKC2 = refl
 
--- by the number of the family: twelve of 7 and 8, eleven of 1 to 6
-pub count_by_number : (k : ℕ) → known k ≡ true → vector_count (family_of k) ≡ cond (two_step k) 12 11
-unfolding vector_count
-count_by_number k h = ap (λ (t : Bool). cond t 12 11) (kept_by_number k h)
+-- TSRKC2's area has twelve vectors, every other family's eleven
+pub tsrkc2_twelve : vector_count TSRKC2 ≡ 12
+unfolding vector_count keeps_older facts_of
+tsrkc2_twelve = refl
 
--- a method of the same family counts the same
-pub method_count : (k : ℕ) (q : Float) → vector_count (family_of (method k q)) ≡ vector_count (family_of k)
-unfolding vector_count
-method_count k q = ap (λ (t : Bool). cond t 12 11) (method_keeps k q)
+pub others_eleven : (f : Family) → (f ≡ TSRKC2 → ⊥) → vector_count f ≡ 11
+unfolding vector_count keeps_older facts_of
+others_eleven RKC h = refl
+others_eleven RKL1 h = refl
+others_eleven RKL2 h = refl
+others_eleven RKG1 h = refl
+others_eleven RKG2 h = refl
+others_eleven RKMC2 h = refl
+others_eleven TSRKC2 h = absurd (h refl)
 
--- it is kept where the candidate or the error takes it
-unfoldable pub candidate_takes : CandidateForm → Bool
-candidate_takes LastStage = false
-candidate_takes Combined = false
-candidate_takes WithOlder = true
-candidate_takes WithBothStates = true
-
-candidate_kept : (f : Family) → candidate_takes (facts_of f).candidate ≡ true → keeps_older f ≡ true
-unfolding keeps_older facts_of candidate_takes
-candidate_kept RKC h = absurd (subst T (sym h) tt)
-candidate_kept RKL1 h = absurd (subst T (sym h) tt)
-candidate_kept RKL2 h = absurd (subst T (sym h) tt)
-candidate_kept RKG1 h = absurd (subst T (sym h) tt)
-candidate_kept RKG2 h = absurd (subst T (sym h) tt)
-candidate_kept RKMC2 h = absurd (subst T (sym h) tt)
-candidate_kept TSRKC2 h = refl
-candidate_kept TSRKC3START h = refl
-candidate_kept TSRKC3 h = refl
-
-unfoldable error_takes : ErrorForm → Bool
-error_takes FirstDerivative = false
-error_takes BothDerivatives = false
-error_takes (LastDerivative over) = false
-error_takes ThirdAtStart = false
-error_takes ThirdWithOlder = true
-
-error_kept : (f : Family) → error_takes (facts_of f).error ≡ true → keeps_older f ≡ true
-unfolding keeps_older facts_of error_takes
-error_kept RKC h = absurd (subst T (sym h) tt)
-error_kept RKL1 h = absurd (subst T (sym h) tt)
-error_kept RKL2 h = absurd (subst T (sym h) tt)
-error_kept RKG1 h = absurd (subst T (sym h) tt)
-error_kept RKG2 h = absurd (subst T (sym h) tt)
-error_kept RKMC2 h = absurd (subst T (sym h) tt)
-error_kept TSRKC2 h = refl
-error_kept TSRKC3START h = refl
-error_kept TSRKC3 h = refl
-
-pub twelve_for_candidate : (f : Family) (form : CandidateForm) → (facts_of f).candidate ≡ form → candidate_takes form ≡ true → vector_count f ≡ 12
-twelve_for_candidate f form e h = kept_twelve f (candidate_kept f (ap candidate_takes e ∙ h))
-
-pub twelve_for_error : (f : Family) → (facts_of f).error ≡ ThirdWithOlder → vector_count f ≡ 12
-unfolding error_takes
-twelve_for_error f e = kept_twelve f (error_kept f (ap error_takes e))
+pub twelve : (f : Family) → (facts_of f).candidate ≡ WithOlder → vector_count f ≡ 12
+unfolding taken_by
+twelve f e = counted f ∙ ap taken_by e
 
 -- each vector as long as it is there
 pub long_unpack : (f : Family) (n : ℕ) (area : List Float) → length area ≡ vector_count f * n → Long f n (unpack n area)
@@ -372,7 +339,6 @@ module _ (f : Family) (n : ℕ) where
       go LastStage = h next_stage
       go Combined = length_each n v (combined_entry step (candidate_weights s c))
       go WithOlder = length_each n v (mixed_entry (older_of m) c.polynomials.gain)
-      go WithBothStates = length_each n v (weighed_entry (older_of m) (tsrkc3_weights s c))
 
   pub long_last : (m : Setting) (a : Arguments) (v : Vectors) (d : List Float) → Long f n v → length d ≡ n → Long f n (with_last m n a v d)
   unfolding with_last

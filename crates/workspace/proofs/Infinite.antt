@@ -23,7 +23,7 @@ use Rattle.norm.specs.Infinite.{Doubles, LastProductOverflows}
 use Rattle.norm.proofs.Infinite.{FiniteDouble, quotient_finite, product_finite, finite_or_overflows, infinite_only_if}
 use Rattle.family.specs.declared.Setting.{Setting}
 use Rattle.family.specs.declared.ErrorForm.{ErrorForm}
-use Rattle.family.specs.declared.ErrorForm.TheVariants.{FirstDerivative, BothDerivatives, LastDerivative, ThirdAtStart, ThirdWithOlder}
+use Rattle.family.specs.declared.ErrorForm.TheVariants.{FirstDerivative, BothDerivatives, LastDerivative}
 use Rattle.family.specs.Family.{facts_of, kind}
 use Rattle.workspace.specs.declared.Arguments.{Arguments}
 use Rattle.workspace.specs.Vectors.{Vectors, tabulate, each, state}
@@ -84,8 +84,6 @@ unfolding divisor_in le lt
 divisor_from_one BothDerivatives s h = tt
 divisor_from_one FirstDerivative s h = double_from_one s h
 divisor_from_one (LastDerivative over) s h = tt
-divisor_from_one ThirdAtStart s h = tt
-divisor_from_one ThirdWithOlder s h = tt
 
 pub error_infinite_only_if : (m : Setting) (n s : ℕ) (a : Arguments) (v : Vectors) → 1 ≤ n → n < 2 ^ 16 → 1 ≤ s → error_norm m n s a v ≡ inf false
     → (all_finite (each n v (scaled_error a)) ≡ false) ⊎ LastProductOverflows (double n) (each n v (scaled_error a))

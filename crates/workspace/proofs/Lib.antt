@@ -1,6 +1,5 @@
 pub mod Areas
 pub mod Candidate
-pub mod ThirdErrors
 pub mod Lists
 pub mod Parts
 pub mod Front

@@ -1,24 +1,23 @@
 -- What the kernel does to its vectors between two evaluations: the loops over the entries in workspace.rs, orthogonal.rs, chebyshev.rs and driver.rs.
--- Document 01, "workspace.rs: norms and the power iteration" and "driver.rs: the calls", and document 02, CR 1, CR 6 and CR 7; every norm is one of
--- norm/specs/Norm (CR 4).
+-- Document 01, "workspace.rs: norms and the power iteration" and "driver.rs: the calls", and document 02, CR 1 and CR 6; every norm is one of norm/specs/Norm
+-- (CR 4).
 -- ⊕ ⊖ ⊗ ⊘ are operations on doubles: they round.
 use Rattle.std.specs.Prelude.{ℕ, Bool, cond, ◌&&◌, ◌||◌, List, ltb, replicate, Float}
 use Rattle.std.specs.Float.Ieee.{le, eq}
-use Rattle.ieee.specs.Double.{◌⊕◌, ◌⊖◌, ◌⊗◌, ◌⊘◌, double, nearest, square, min_positive, root_epsilon, nought, one, two, three}
-use Rattle.ieee.specs.Double.{four, five}
+use Rattle.ieee.specs.Double.{◌⊕◌, ◌⊖◌, ◌⊗◌, ◌⊘◌, double, nearest, min_positive, root_epsilon, nought, one, two, four, five}
 use Rattle.ieee.specs.Whole.{abs, max}
 use Rattle.family.specs.declared.Setting.{Setting}
 use Rattle.family.specs.declared.RowForm.{RowForm}
 use Rattle.family.specs.declared.RowForm.TheVariants.{ChebyshevRow, OrthogonalRow, InitialFirstRow, PlainRow}
 use Rattle.family.specs.declared.ErrorForm.{ErrorForm}
-use Rattle.family.specs.declared.ErrorForm.TheVariants.{FirstDerivative, BothDerivatives, LastDerivative, ThirdAtStart, ThirdWithOlder}
+use Rattle.family.specs.declared.ErrorForm.TheVariants.{FirstDerivative, BothDerivatives, LastDerivative}
 use Rattle.family.specs.declared.CandidateForm.{CandidateForm}
-use Rattle.family.specs.declared.CandidateForm.TheVariants.{LastStage, Combined, WithOlder, WithBothStates}
+use Rattle.family.specs.declared.CandidateForm.TheVariants.{LastStage, Combined, WithOlder}
 use Rattle.family.specs.Family.{facts_of, kind}
 use Rattle.coefficients.specs.declared.Coefficients.{Coefficients}
 use Rattle.coefficients.specs.declared.Recurrence.{Recurrence}
 use Rattle.coefficients.specs.declared.Weights.{Weights}
-use Rattle.coefficients.specs.Rows.{candidate_weights, tsrkc3_weights}
+use Rattle.coefficients.specs.Rows.{candidate_weights}
 use Rattle.workspace.specs.declared.Arguments.{Arguments}
 use Rattle.workspace.specs.Vectors.{Vector, Vectors, ◌with◌≔◌, each, root_of_squares, vector_norm, first_derivative, last_derivative, derivative}
 use Rattle.workspace.specs.Vectors.{previous_two, previous_one, next_stage, eigenvector, perturbed_state, perturbed_derivative, state, candidate}
@@ -61,7 +60,7 @@ ended pass previous radius =
 unfoldable pub scaled : Float → Float → Float
 scaled step radius = abs step ⊗ (nearest 12 10 ⊗ radius)
 
--- ---- the stages: `run_orthogonal_polynomial`, `run_rkc`, `run_rkmc2`, `run_tsrkc2` and `run_tsrkc3`
+-- ---- the stages: `run_orthogonal_polynomial`, `run_rkc`, `run_rkmc2` and `run_tsrkc2`
 
 -- stages 0 and 1
 unfoldable pub first_stage : ℕ → Float → Float → Vectors → Vectors
@@ -113,41 +112,32 @@ exchanged v = v
 unfoldable pub combined_entry : Float → Weights → (Vector → Float) → Float
 combined_entry h w x = w.initial ⊗ x state ⊕ w.last ⊗ x next_stage ⊕ w.older ⊗ x previous_two ⊕ h ⊗ w.slope ⊗ x first_derivative
 
--- TSRKC2's: the last stage and the older state, which without a history is the state itself; TSRKC3's: the state too
+-- TSRKC2's: the last stage and the older state, which without a history is the state itself
 abbrev pub older_of : Setting → Vector
 older_of m = cond m.history older_state state
 
 unfoldable pub mixed_entry : Vector → Float → (Vector → Float) → Float
 mixed_entry older gain x = (one ⊖ gain) ⊗ x older ⊕ gain ⊗ x next_stage
 
-unfoldable pub weighed_entry : Vector → Weights → (Vector → Float) → Float
-weighed_entry older w x = w.initial ⊗ x state ⊕ w.older ⊗ x older ⊕ w.last ⊗ x next_stage
-
--- the candidate after stage s, into which c was carried: the last stage itself, RKMC2's combination, TSRKC2's or TSRKC3's (none reads the row of stage s)
+-- the candidate after stage s, into which c was carried: the last stage itself, RKMC2's combination, or TSRKC2's (none reads the row of stage s)
 unfoldable pub candidate_in : CandidateForm → Setting → ℕ → Float → ℕ → Recurrence → Coefficients → Vectors → List Float
 candidate_in LastStage m n step s c row v = v next_stage
 candidate_in Combined m n step s c row v = each n v (combined_entry step (candidate_weights s c))
 candidate_in WithOlder m n step s c row v = each n v (mixed_entry (older_of m) c.polynomials.gain)
-candidate_in WithBothStates m n step s c row v = each n v (weighed_entry (older_of m) (tsrkc3_weights s c))
 
 unfoldable pub with_candidate : Setting → ℕ → Float → ℕ → Recurrence → Coefficients → Vectors → Vectors
 with_candidate m n step s c row v = v with candidate ≔ candidate_in (facts_of (kind m)).candidate m n step s c row v
 
 -- ---- the error: the end of `attempt_step`
 
--- (q and the older state are read by TSRKC3 alone, past its start)
-unfoldable pub error_in : ErrorForm → Float → Vector → Float → (Vector → Float) → Float
-error_in BothDerivatives q older h x =
+unfoldable pub error_in : ErrorForm → Float → (Vector → Float) → Float
+error_in BothDerivatives h x =
     (four ⊗ (x state ⊖ x candidate) ⊕ two ⊗ h ⊗ (x first_derivative ⊕ x last_derivative)) ⊘ five
-error_in FirstDerivative q older h x = x candidate ⊖ (x state ⊕ h ⊗ x first_derivative)
-error_in (LastDerivative over) q older h x = (x state ⊖ x candidate ⊕ h ⊗ x last_derivative) ⊘ over
-error_in ThirdAtStart q older h x =
-    three ⊘ five ⊗ (two ⊗ (x state ⊖ x candidate) ⊕ h ⊗ (x first_derivative ⊕ x last_derivative))
-error_in ThirdWithOlder q older h x =
-    three ⊘ five ⊗ (x state ⊘ q ⊖ x older ⊘ (q ⊗ square (one ⊕ q)) ⊖ x candidate ⊗ (two ⊕ q) ⊘ square (one ⊕ q) ⊕ h ⊗ x last_derivative ⊘ (one ⊕ q))
+error_in FirstDerivative h x = x candidate ⊖ (x state ⊕ h ⊗ x first_derivative)
+error_in (LastDerivative over) h x = (x state ⊖ x candidate ⊕ h ⊗ x last_derivative) ⊘ over
 
 abbrev pub error : Setting → Float → (Vector → Float) → Float
-error m = error_in (facts_of (kind m)).error m.quotient (older_of m)
+error m h x = error_in (facts_of (kind m)).error h x
 
 -- the last derivative d taken; with `adaptive` the error goes where the derivative stood
 unfoldable pub with_last : Setting → ℕ → Arguments → Vectors → List Float → Vectors
@@ -158,8 +148,6 @@ unfoldable pub divisor_in : ErrorForm → ℕ → Float
 divisor_in BothDerivatives s = one
 divisor_in FirstDerivative s = double s
 divisor_in (LastDerivative over) s = one
-divisor_in ThirdAtStart s = one
-divisor_in ThirdWithOlder s = one
 
 abbrev pub divisor : Setting → ℕ → Float
 divisor m s = divisor_in (facts_of (kind m)).error s

@@ -1,18 +1,14 @@
--- What the private functions of the rows and of the error promise of single columns and of four at a time. No public contract cites this. ⊕ ⊖ ⊗ are operations
--- on doubles: they round.
+-- What the private functions of the rows promise of single columns and of four at a time. No public contract cites this. ⊕ ⊖ ⊗ are operations on doubles: they
+-- round.
 use Rattle.std.specs.Prelude.{◌≡◌, ◌⊎◌, Bool, true, false, cond, List, ℕ, zero, suc, ◌+◌, ◌≤◌, ◌<◌, eqb, length, get_or, Float}
 use Rattle.std.specs.Float.{nan}
 use Rattle.ieee.specs.Double.{◌⊕◌, ◌⊖◌, ◌⊗◌, one}
-use Rattle.family.specs.declared.Setting.{Setting}
 use Rattle.family.specs.declared.RowForm.{RowForm}
 use Rattle.family.specs.declared.RowForm.TheVariants.{ChebyshevRow, OrthogonalRow, InitialFirstRow, PlainRow}
-use Rattle.family.specs.declared.ErrorForm.{ErrorForm}
-use Rattle.family.specs.declared.ErrorForm.TheVariants.{FirstDerivative, BothDerivatives, LastDerivative, ThirdAtStart, ThirdWithOlder}
 use Rattle.coefficients.specs.declared.Coefficients.{Coefficients}
 use Rattle.workspace.specs.declared.stages.Entries.{Entries}
 use Rattle.workspace.specs.declared.stages.Four.{Four}
 use Rattle.workspace.specs.Vectors.{Vector, number, column, first_derivative, derivative, previous_two, previous_one, next_stage, state}
-use Rattle.workspace.specs.Kernel.{older_of}
 
 -- a column with this element of the derivative, which the row takes in as it goes
 abbrev pub taking : Float → (Vector → Float) → Vector → Float
@@ -89,13 +85,3 @@ picked one two initial slope first u = record {
   slope = element slope u;
   first = element first u;
 }
-
--- ---- the error
-
--- the vector that stands for the older state: any that is there will do where it is not read
-unfoldable pub older_read : ErrorForm → Setting → Vector
-older_read BothDerivatives m = state
-older_read FirstDerivative m = state
-older_read (LastDerivative over) m = state
-older_read ThirdAtStart m = state
-older_read ThirdWithOlder m = older_of m

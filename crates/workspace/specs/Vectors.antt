@@ -1,5 +1,5 @@
 -- The area's vectors by name: workspace.rs's nine in its order, then a copy of the state, then the candidate. Document 01, "one lent area". Last, where the
--- family keeps it (TSRKC2 and TSRKC3: document 02, CR 6 and CR 7), the older state, accepted before the present one.
+-- family keeps it (TSRKC2: document 02, CR 6), the older state, accepted before the present one.
 use Rattle.std.specs.Prelude.{◌≡◌, ℕ, zero, suc, ◌+◌, ◌*◌, cond, List, [], ◌∷◌, ◌++◌, eqb, take, drop, get_or, Float}
 use Rattle.std.specs.Float.{nan}
 use Rattle.family.specs.Family.{Family, keeps_older}

@@ -1,31 +1,20 @@
 // The end of `attempt_step`: the error vector of each family and its norm.
-ghost use Rattle.std.specs.Prelude.{◌≡◌, ◌+◌, ◌*◌, ◌≤◌, ◌<◌, map, length};
+ghost use Rattle.std.specs.Prelude.{◌≡◌, ◌*◌, ◌≤◌, ◌<◌, map, length};
 ghost use Rattle.family.specs.Family.{facts_of, kind};
 ghost use Rattle.norm.specs.Norm.{sum_of_squares, all_finite, lowered};
-ghost use Rattle.workspace.specs.Vectors.{Vector, number, vector_count, column, unpack, Becomes, ◌with◌≔◌, each, derivative};
-ghost use Rattle.workspace.specs.Reads.{older_read};
+ghost use Rattle.workspace.specs.Vectors.{column, unpack, Becomes, ◌with◌≔◌, each, derivative};
 ghost use Rattle.workspace.specs.Kernel as kernel;
 ghost use Rattle.workspace.specs.Kernel.{with_last, scaled_error, scaled_error_norm, error_norm};
 
 use crate::area::put_vector;
-use crate::stages::older_of;
 use crate::{Arguments, CANDIDATE, DERIVATIVE, FIRST_DERIVATIVE, LAST_DERIVATIVE, STATE};
 use family::{ErrorForm, Setting};
 
-// An element of the error, from its column. TSRKC3 takes q and the vector of this number, the older state.
-fn error_at(
-    area: &[f64],
-    n: usize,
-    i: usize,
-    form: ErrorForm,
-    q: f64,
-    older: usize,
-    step: f64,
-) -> f64
+// An element of the error, from its column.
+fn error_at(area: &[f64], n: usize, i: usize, form: ErrorForm, step: f64) -> f64
     requires n_in_bounds { 11 * n ≤ length area.now }
-    requires n_in_bounds_2 { (older + 1) * n ≤ length area.now }
     requires i_lt_n { i < n }
-    ensures { (b : Vector) → number b ≡ older → result ≡ kernel.error_in form q b step (column n area.now i) }
+    ensures { result ≡ kernel.error_in form step (column n area.now i) }
 {
     let initial = area[STATE * n + i];
     let final_state = area[CANDIDATE * n + i];
@@ -37,44 +26,19 @@ fn error_at(
         }
         ErrorForm::FirstDerivative => final_state - (initial + step * first),
         ErrorForm::LastDerivative { over } => (initial - final_state + step * last) / over,
-        ErrorForm::ThirdAtStart => {
-            3.0 / 5.0 * (2.0 * (initial - final_state) + step * (first + last))
-        }
-        ErrorForm::ThirdWithOlder => {
-            let before = area[older * n + i];
-            let p = 1.0 + q;
-            3.0 / 5.0
-                * (initial / q - before / (q * (p * p)) - final_state * (2.0 + q) / (p * p)
-                    + step * last / p)
-        }
     }
 }
 
 // The error goes where the derivative stood.
-fn put_error(area: &mut [f64], n: usize, form: ErrorForm, q: f64, older: usize, step: f64)
-    requires n_in_bounds { 11 * n ≤ length area.old }
-    requires n_in_bounds_2 { (older + 1) * n ≤ length area.old }
-    ensures { (b : Vector) → number b ≡ older
-        → Becomes n area.old area.new (λ w. w with derivative ≔ each n w (kernel.error_in form q b step)) }
+fn put_error(area: &mut [f64], n: usize, form: ErrorForm, step: f64)
+    requires { 11 * n ≤ length area.old }
+    ensures { Becomes n area.old area.new (λ w. w with derivative ≔ each n w (kernel.error_in form step)) }
 {
     let mut i = 0;
     while i < n {
-        let x = error_at(area, n, i, form, q, older, step);
+        let x = error_at(area, n, i, form, step);
         area[DERIVATIVE * n + i] = x;
         i += 1;
-    }
-}
-
-// The number of the vector that the error reads as the older state: one that is there where it reads none.
-fn older_in(form: ErrorForm, setting: Setting) -> usize
-    ensures { result ≡ number (older_read form setting) }
-{
-    match form {
-        ErrorForm::BothDerivatives => STATE,
-        ErrorForm::FirstDerivative => STATE,
-        ErrorForm::LastDerivative { over } => STATE,
-        ErrorForm::ThirdAtStart => STATE,
-        ErrorForm::ThirdWithOlder => older_of(setting),
     }
 }
 
@@ -82,21 +46,20 @@ fn older_in(form: ErrorForm, setting: Setting) -> usize
 fn error_form(setting: Setting) -> ErrorForm
     ensures { result ≡ (facts_of (kind setting)).error }
 {
-    let own = family::facts_of(setting.method);
+    let own = family::facts_of(setting.family);
     own.error
 }
 
 // The last derivative taken, and the error with `adaptive`.
 pub fn last(area: &mut [f64], n: usize, setting: Setting, arguments: Arguments, derivative: &[f64])
-    requires n_in_bounds { vector_count (kind setting) * n ≤ length area.old }
+    requires n_in_bounds { 11 * n ≤ length area.old }
     requires derivative_len { length derivative.now ≡ n }
     ensures { Becomes n area.old area.new (λ w. with_last setting n arguments w derivative.now) }
 {
     put_vector(area, n, LAST_DERIVATIVE, derivative);
     if arguments.adaptive {
         let form = error_form(setting);
-        let older = older_in(form, setting);
-        put_error(area, n, form, setting.quotient, older, arguments.step);
+        put_error(area, n, form, arguments.step);
     }
 }
 
@@ -180,8 +143,6 @@ fn divisor(form: ErrorForm, stages: u64) -> f64
         ErrorForm::BothDerivatives => 1.0,
         ErrorForm::FirstDerivative => ieee::double_of(stages),
         ErrorForm::LastDerivative { over } => 1.0,
-        ErrorForm::ThirdAtStart => 1.0,
-        ErrorForm::ThirdWithOlder => 1.0,
     }
 }
 

@@ -3,8 +3,7 @@
 ghost use Rattle.std.specs.Prelude.{◌≡◌, ℕ, ◌+◌, ◌-◌, ◌*◌, ◌≤◌, ◌<◌, length, Float};
 ghost use Rattle.family.specs.Family.{facts_of, kind};
 ghost use Rattle.workspace.specs.Vectors.{Vector, column, number, vector_count, unpack, Becomes, ◌with◌≔◌, each, candidate};
-ghost use Rattle.workspace.specs.Kernel.{first_stage, entry_in, with_row_in, with_row, exchanged, combined_entry, mixed_entry, weighed_entry, older_of};
-ghost use Rattle.workspace.specs.Kernel.{with_candidate};
+ghost use Rattle.workspace.specs.Kernel.{first_stage, entry_in, with_row_in, with_row, exchanged, combined_entry, mixed_entry, older_of, with_candidate};
 ghost use Rattle.workspace.specs.Reads.{taking, Reads, plain, state_first, two_products, weighted_in, Moved, element, Holds, Put, picked};
 
 use crate::area::copy_vector;
@@ -356,7 +355,7 @@ fn row_and_exchange_in(
 fn row_form(setting: Setting) -> RowForm
     ensures { result ≡ (facts_of (kind setting)).row }
 {
-    let own = family::facts_of(setting.method);
+    let own = family::facts_of(setting.family);
     own.row
 }
 
@@ -417,7 +416,7 @@ fn combine(area: &mut [f64], n: usize, step: f64, w: Weights)
 }
 
 // Where the older state stands: without a history it is the state itself.
-pub fn older_of(setting: Setting) -> usize
+fn older_of(setting: Setting) -> usize
     ensures { result ≡ number (older_of setting) }
 {
     if setting.history { OLDER_STATE } else { STATE }
@@ -441,24 +440,6 @@ fn mix(area: &mut [f64], n: usize, older: usize, gain: f64)
     }
 }
 
-// TSRKC3's candidate, by these weights, with the older state in the vector of this number.
-fn weigh(area: &mut [f64], n: usize, older: usize, w: Weights)
-    requires n_in_bounds { 11 * n ≤ length area.old }
-    requires n_in_bounds_2 { (older + 1) * n ≤ length area.old }
-    ensures { (b : Vector) → number b ≡ older
-        → Becomes n area.old area.new (λ v. v with candidate ≔ each n v (weighed_entry b w)) }
-{
-    let from = older * n;
-    let mut i = 0;
-    while i < n {
-        let initial = area[STATE * n + i];
-        let before = area[from + i];
-        let final_stage = area[NEXT_STAGE * n + i];
-        area[CANDIDATE * n + i] = w.initial * initial + w.older * before + w.last * final_stage;
-        i += 1;
-    }
-}
-
 // The candidate after stage s, into which c was carried.
 pub fn keep_candidate(
     area: &mut [f64],
@@ -472,7 +453,7 @@ pub fn keep_candidate(
     requires { vector_count (kind setting) * n ≤ length area.old }
     ensures { Becomes n area.old area.new (with_candidate setting n step s c row) }
 {
-    let own = family::facts_of(setting.method);
+    let own = family::facts_of(setting.family);
     let form = own.candidate;
     match form {
         CandidateForm::LastStage => copy_vector(area, n, NEXT_STAGE, CANDIDATE),
@@ -482,10 +463,6 @@ pub fn keep_candidate(
         CandidateForm::WithOlder => {
             let older = older_of(setting);
             mix(area, n, older, c.polynomials.gain)
-        }
-        CandidateForm::WithBothStates => {
-            let older = older_of(setting);
-            weigh(area, n, older, coefficients::tsrkc3::weights(s, c))
         }
     }
 }

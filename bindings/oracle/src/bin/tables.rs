@@ -1,10 +1,9 @@
-//! tables CRATES: writes RKMC2's three tables, TSRKC2's one, TSRKC3's three and RKC's from s = 201 on, from the Rust, into their
-//! crates below the folder CRATES: code, definition, and the proofs that the code reads the definition and that the rule of the
-//! table holds throughout. RKC's is a module of its crate, which says more of it than a rule.
+//! tables CRATES: writes RKMC2's three tables and TSRKC2's one, from the Rust, into their crates below the folder CRATES: code,
+//! definition, and the proofs that the code reads the definition and that the rule of the table holds throughout.
 //!
 //! The doubles are those of the build that the program is run on; docs/VECTORS.md names the one that is stored.
 use oracle::thresholds::{COUNTS, thresholds};
-use oracle::{RKC, RKMC2, Rows, THIRD_ORDER_LEAST, TSRKC2, TSRKC3, ThirdOrder};
+use oracle::{RKMC2, Rows, TSRKC2};
 use std::fs;
 use std::path::{Path, PathBuf};
 
@@ -20,15 +19,7 @@ struct Table {
     request: &'static str,
     first: usize,
     doubles: Vec<f64>,
-    held: Held,
-}
-
-/// What a table is of its crate.
-enum Held {
-    /// All of it, with the proof of a rule.
-    Whole(Rule),
-    /// A module: the crate's other files stand apart.
-    Module(&'static str),
+    rule: Rule,
 }
 
 /// What one computed test proves of every count, and the file that holds it.
@@ -48,8 +39,6 @@ fn main() {
 fn tables() -> Vec<Table> {
     let mut all = rkmc2_tables();
     all.push(tsrkc2_table());
-    all.extend(tsrkc3_tables());
-    all.push(rkc_table());
     all
 }
 
@@ -70,7 +59,7 @@ fn rkmc2_tables() -> Vec<Table> {
         request: "CR 1",
         first,
         doubles,
-        held: Held::Whole(rule),
+        rule,
     };
     vec![
         table(
@@ -107,120 +96,29 @@ fn tsrkc2_table() -> Table {
         request: "CR 6",
         first,
         doubles: recorded(TSRKC2).iter().map(entry).collect(),
-        held: Held::Whole(ABOVE_ZERO),
-    }
-}
-
-/// What TSRKC3 works out with for each count of its own stages. None of the three depends on q: it has them at q = 1.
-fn third_order() -> Vec<ThirdOrder> {
-    let (_, largest) = oracle::ends(TSRKC3);
-    let q = Some(1.0);
-    let entry = |count| {
-        let rows = oracle::third_order_rows(oracle::third_order_radius_for(count, q), q);
-        assert_eq!(rows.stages, count);
-        rows.third_order.expect("TSRKC3's locals")
-    };
-    (THIRD_ORDER_LEAST..=largest).map(entry).collect()
-}
-
-fn tsrkc3_tables() -> [Table; 3] {
-    let entries = third_order();
-    let table = |name, title, entry: fn(&ThirdOrder) -> f64| Table {
-        family: "tsrkc3",
-        name,
-        title,
-        request: "CR 7",
-        first: THIRD_ORDER_LEAST,
-        doubles: entries.iter().map(entry).collect(),
-        held: Held::Whole(ABOVE_ZERO),
-    };
-    [
-        table(
-            "omega_zero_minus_one",
-            "TSRKC3's omega_zero_minus_one",
-            |entry| entry.omega_zero_minus_one,
-        ),
-        table(
-            "sinh_degree_minus_two",
-            "TSRKC3's sinh of (s - 2) acosh(1.25) / s",
-            |entry| entry.sinh_degree_minus_two,
-        ),
-        table(
-            "sinh_degree_minus_one",
-            "TSRKC3's sinh of (s - 1) acosh(1.25) / s",
-            |entry| entry.sinh_degree_minus_one,
-        ),
-    ]
-}
-
-/// From the first count that RKC does not have by itself: TSRKC3 starts with its stages. A count here is s - 200.
-fn rkc_table() -> Table {
-    let (_, own) = oracle::ends(RKC);
-    let beyond = recorded(TSRKC3).into_iter().filter(|row| row.stages > own);
-    Table {
-        family: "rkc",
-        name: "omega_one",
-        title: "RKC's omega_one for s = 200 + the count",
-        request: "CR 7",
-        first: 1,
-        doubles: beyond.map(|row| row.omega_one).collect(),
-        held: Held::Module("beyond"),
+        rule: ABOVE_ZERO,
     }
 }
 
 impl Table {
     fn write(&self, crates: &Path) {
-        let folder = crates.join(self.folder());
+        let folder = crates.join(format!("{}_{}", self.family, self.name));
         let put = |path: PathBuf, text: &str| {
             let path = folder.join(path);
             fs::create_dir_all(path.parent().unwrap()).unwrap();
             fs::write(&path, text).unwrap_or_else(|error| panic!("{}: {error}", path.display()));
         };
-        let code = match self.held {
-            Held::Whole(_) => "src/lib.rt".into(),
-            Held::Module(module) => Path::new("src").join(module).with_extension("rt"),
-        };
-        let specs = Path::new("specs").join(self.definition());
-        let proof = Path::new("proofs").join(self.path("/")).join("Proof.antt");
-        put(code, &self.filled(CODE));
-        put(specs.with_extension("antt"), &self.filled(SPECS));
+        let declared = |name: &str| format!("pub mod {name}\n");
+        let proof = Path::new("proofs").join(self.name).join("Proof.antt");
+        let rule = Path::new("proofs")
+            .join(self.rule.file)
+            .with_extension("antt");
+        put("src/lib.rt".into(), &self.filled(CODE));
+        put("specs/Lib.antt".into(), &declared("Table"));
+        put("specs/Table.antt".into(), &self.filled(SPECS));
+        put("proofs/Lib.antt".into(), &declared(self.rule.file));
         put(proof, &self.filled(PROOF));
-        if let Held::Whole(rule) = &self.held {
-            let declared = |name: &str| format!("pub mod {name}\n");
-            let proof = Path::new("proofs").join(rule.file);
-            put("specs/Lib.antt".into(), &declared(&self.definition()));
-            put("proofs/Lib.antt".into(), &declared(rule.file));
-            put(proof.with_extension("antt"), &self.filled(rule.text));
-        }
-    }
-
-    /// The file of the definition: a module's has its name, with a capital.
-    fn definition(&self) -> String {
-        match self.held {
-            Held::Whole(_) => "Table".to_string(),
-            Held::Module(module) => module[..1].to_uppercase() + &module[1..],
-        }
-    }
-
-    /// The crate.
-    fn folder(&self) -> String {
-        format!("{}_{}", self.family, self.name)
-    }
-
-    /// The function that reads the table: a module's has its name at the end.
-    fn function(&self) -> String {
-        match self.held {
-            Held::Whole(_) => self.name.to_string(),
-            Held::Module(module) => format!("{}_{module}", self.name),
-        }
-    }
-
-    /// The function after the module it stands in.
-    fn path(&self, between: &str) -> String {
-        match self.held {
-            Held::Whole(_) => self.function(),
-            Held::Module(module) => [module, &self.function()].join(between),
-        }
+        put(rule, &self.filled(self.rule.text));
     }
 
     fn last(&self) -> usize {
@@ -249,13 +147,12 @@ impl Table {
             ("<rows>", self.rows().len()),
         ];
         let named = text
-            .replace("<crate>", &self.folder())
-            .replace("<definition>", &self.definition())
-            .replace("<path>", &self.path("."))
+            .replace("<crate>", "<family>_<name>")
+            .replace("<family>", self.family)
             .replace("<title>", self.title)
             .replace("<request>", self.request)
-            .replace("<name>", &self.function())
-            .replace("<spec>", &self.function().replace('_', "-"))
+            .replace("<name>", self.name)
+            .replace("<spec>", &self.name.replace('_', "-"))
             .replace("<arms>", &self.arms())
             .replace("<bits>", &self.bits());
         numbers.into_iter().fold(named, |text, (place, number)| {
@@ -301,7 +198,7 @@ const CODE: &str = "\
 ghost use mathlib.Core.Path.{_≡_};
 ghost use Prim.Native.Nat.{_<_};
 ghost use Rattle·table.specs.Rows.{row};
-ghost use Rattle·<crate>·specs.specs.<definition> as spec;
+ghost use Rattle·<crate>·specs.specs.Table as spec;
 
 // The counts <width> k to <width> k + <width-1>. No number below <rows> is left for the last arm.
 fn row_of(k: u64) -> [f64; <width>]
@@ -342,9 +239,9 @@ unfoldable pub <spec> : ℕ → Float
 const PROOF: &str = "\
 -- `<name>` meets its contract: the row is that of the count, and so is the place in it. Assumes nothing.
 use borrow.Author.Needs.{needs}
-use Rattle·<crate>·specs.specs.<definition>.{<spec>}
-use Rattle·<crate>·proofs.proofs.<path>.Statement.{statement}
-use Rattle·<crate>·proofs.proofs.<path>.Tie as tie
+use Rattle·<crate>·specs.specs.Table.{<spec>}
+use Rattle·<crate>·proofs.proofs.<name>.Statement.{statement}
+use Rattle·<crate>·proofs.proofs.<name>.Tie as tie
 
 capped-requires : tie.Need-capped-requires
 capped-requires c κs = search needs

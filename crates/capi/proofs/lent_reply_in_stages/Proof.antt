@@ -23,8 +23,7 @@ add-evaluations : tie.Need-overflow-add-evaluations
 add-evaluations c =
     let t = c.before.before.before.before.before.before.before.before.before.before.before in
     let a = t.args in
-    let at = place_of a.wholes.now a.doubles.now in
-    omega (arith, has_one at (counting a.evaluations.now a.finished-attempts) a.area.now a.derivative.now t.requires)
+    omega (arith, has_one (place_of a.wholes.now) (counting a.evaluations.now a.finished-attempts) a.area.now a.derivative.now t.requires)
 
 leave-staged-requires : tie.Need-leave-staged-requires
 leave-staged-requires c κs = search rules

@@ -14,8 +14,8 @@ stage-taken-requires c κs = search rules
 lent-reply-in-stages-requires : tie.Need-lent-reply-in-stages-requires
 lent-reply-in-stages-requires c κs =
     let t = c.before.before.before.before in
-    let a = t.before.before.before.before.before.before.before.before.before.before.args in
-    as_tested a.wholes.now a.doubles.now (counting a.evaluations.now a.finished-attempts.now) a.area.now a.derivative.now
+    let a = t.before.before.before.before.before.before.before.before.before.args in
+    as_tested a.wholes.now (counting a.evaluations.now a.finished-attempts.now) a.area.now a.derivative.now
     t.before.before.before.place.ensures t.before.stage_taken.ensures t.if1.true
 
 same_length : tie.Need-same-length
@@ -27,8 +27,8 @@ returns c = c.before.before.lent-reply-in-stages.ensures
 lent-reply-elsewhere-requires : tie.Need-lent-reply-elsewhere-requires
 lent-reply-elsewhere-requires c κs =
     let t = c.before.before.before.before.before in
-    let a = t.before.before.before.before.before.before.before.before.before.before.args in
-    as_tested a.wholes.now a.doubles.now (counting a.evaluations.now a.finished-attempts.now) a.area.now a.derivative.now
+    let a = t.before.before.before.before.before.before.before.before.before.args in
+    as_tested a.wholes.now (counting a.evaluations.now a.finished-attempts.now) a.area.now a.derivative.now
     t.before.before.before.place.ensures t.before.stage_taken.ensures t.if1.false
 
 same-length-2 : tie.Need-same-length-2

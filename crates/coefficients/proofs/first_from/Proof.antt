@@ -16,12 +16,6 @@ first-b-requires-2 c κs = search rules
 omega-zero-requires : tie.Need-omega-zero-requires
 omega-zero-requires c κs = search rules
 
-first-b-requires-3 : tie.Need-first-b-requires-3
-first-b-requires-3 c κs = search rules
-
-first-b-requires-4 : tie.Need-first-b-requires-4
-first-b-requires-4 c κs = search rules
-
 returns : tie.Need-returns
 unfolding first_mu_tilde family_of
 returns c = rw (c.first-b.ensures, c.before.before.requires, c.before.match.keys1)
@@ -47,32 +41,10 @@ unfolding first_mu_tilde family_of
 returns-6 c = rw (c.omega_zero.ensures, c.before.before.requires, c.before.match.keys6)
 
 returns-7 : tie.Need-returns-7
-unfolding first_mu_tilde family_of
-returns-7 c = rw (c.first-b3.ensures, c.before.before.requires, c.before.match.keys7)
-
-returns-8 : tie.Need-returns-8
-unfolding first_mu_tilde family_of
-returns-8 c = rw (c.first-b4.ensures, c.before.before.requires, c.before.match.keys8)
-
-returns-9 : tie.Need-returns-9
 unfolding first_mu_tilde of_bits
-returns-9 c = rw (c.before.requires, last_family _ c.match.rest)
+returns-7 c = let r = c.match.rest in
+    rw (c.before.requires, last_family _ r.0.0.0.0.0.1 r.0.0.0.0.1 r.0.0.0.1 r.0.0.1 r.0.1 r.1)
 
 pub first-from-spec : {M : Type 1} → statement M
 first-from-spec =
-    tie.close
-    (tie.spec
-    first-b-requires
-    first-b-requires-2
-    omega-zero-requires
-    first-b-requires-3
-    first-b-requires-4
-    returns
-    returns-2
-    returns-3
-    returns-4
-    returns-5
-    returns-6
-    returns-7
-    returns-8
-    returns-9)
+    tie.close (tie.spec first-b-requires first-b-requires-2 omega-zero-requires returns returns-2 returns-3 returns-4 returns-5 returns-6 returns-7)

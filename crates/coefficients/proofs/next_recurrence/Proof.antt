@@ -1,15 +1,20 @@
--- `next_recurrence` meets its contract, from the polynomials.
+-- `next_recurrence` meets its contract, call by call.
+use mathlib.Core.Path.{ap}
+use Rattle.family.specs.declared.Facts.{Facts}
 use Rattle.coefficients.specs.Rows.{next_of}
 use borrow.Author.Rules.{rules}
 use Rattle.coefficients.proofs.next_recurrence.Statement.{statement}
 use Rattle.coefficients.proofs.next_recurrence.Tie as tie
+
+facts-of-requires : tie.Need-facts-of-requires
+facts-of-requires c κs = search rules
 
 next-polynomials-requires : tie.Need-next-polynomials-requires
 next-polynomials-requires c κs = search rules
 
 returns : tie.Need-returns
 unfolding next_of
-returns c = rw c.next_polynomials.ensures
+returns c = rw (c.next_polynomials.ensures, ap (λ (x : Facts). x.row) c.before.before.facts_of.ensures)
 
 pub next-recurrence-spec : {M : Type 1} → statement M
-next-recurrence-spec = tie.close (tie.spec next-polynomials-requires returns)
+next-recurrence-spec = tie.close (tie.spec facts-of-requires next-polynomials-requires returns)

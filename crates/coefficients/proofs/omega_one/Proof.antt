@@ -24,12 +24,6 @@ omega-one-requires-2 c κs = search rules
 omega-one-requires-3 : tie.Need-omega-one-requires-3
 omega-one-requires-3 c κs = search rules
 
-extended-requires : tie.Need-extended-requires
-extended-requires c κs = search rules
-
-omega-one-requires-4 : tie.Need-omega-one-requires-4
-omega-one-requires-4 c κs = search rules
-
 gegenbauer-two-omega-requires : tie.Need-gegenbauer-two-omega-requires
 gegenbauer-two-omega-requires c κs = search rules
 
@@ -58,16 +52,9 @@ unfolding omega_one_of family_of
 returns-6 c = rw (c.omega-one3.ensures, c.before.match.keys6)
 
 returns-7 : tie.Need-returns-7
-unfolding omega_one_of family_of
-returns-7 c = rw (c.extended.ensures, c.before.match.keys7)
-
-returns-8 : tie.Need-returns-8
-unfolding omega_one_of family_of
-returns-8 c = rw (c.omega-one4.ensures, c.before.match.keys8)
-
-returns-9 : tie.Need-returns-9
 unfolding omega_one_of
-returns-9 c = rw (c.gegenbauer-two-omega.ensures, last_family _ c.before.match.rest)
+returns-7 c = let r = c.before.match.rest in
+    rw (c.gegenbauer-two-omega.ensures, last_family _ r.0.0.0.0.0.1 r.0.0.0.0.1 r.0.0.0.1 r.0.0.1 r.0.1 r.1)
 
 pub omega-one-spec : {M : Type 1} → statement M
 omega-one-spec =
@@ -79,8 +66,6 @@ omega-one-spec =
     gegenbauer-one-omega-requires
     omega-one-requires-2
     omega-one-requires-3
-    extended-requires
-    omega-one-requires-4
     gegenbauer-two-omega-requires
     returns
     returns-2
@@ -88,6 +73,4 @@ omega-one-spec =
     returns-4
     returns-5
     returns-6
-    returns-7
-    returns-8
-    returns-9)
+    returns-7)

@@ -33,12 +33,6 @@ row-requires-2 c κs = search rules
 row-requires-3 : tie.Need-row-requires-3
 row-requires-3 c κs = search rules
 
-row-requires-4 : tie.Need-row-requires-4
-row-requires-4 c κs = search rules
-
-row-requires-5 : tie.Need-row-requires-5
-row-requires-5 c κs = search rules
-
 gegenbauer-two-omega-requires : tie.Need-gegenbauer-two-omega-requires
 gegenbauer-two-omega-requires c κs = search rules
 
@@ -70,16 +64,12 @@ unfolding coefficients_of family_of
 returns-6 c = rw (c.row3.ensures, c.before.match.keys6)
 
 returns-7 : tie.Need-returns-7
-unfolding coefficients_of family_of
-returns-7 c = rw (c.row4.ensures, c.before.match.keys7)
-
-returns-8 : tie.Need-returns-8
-unfolding coefficients_of family_of
-returns-8 c = rw (c.row5.ensures, c.before.match.keys8)
-
-returns-9 : tie.Need-returns-9
 unfolding coefficients_of
-returns-9 c = rw (c.gegenbauer_two.ensures, c.before.gegenbauer-two-omega.ensures, last_family _ c.before.before.match.rest)
+returns-7 c = let r = c.before.before.match.rest in rw (
+  c.gegenbauer_two.ensures,
+  c.before.gegenbauer-two-omega.ensures,
+  last_family _ r.0.0.0.0.0.1 r.0.0.0.0.1 r.0.0.0.1 r.0.0.1 r.0.1 r.1,
+)
 
 pub row-coefficients-spec : {M : Type 1} → statement M
 row-coefficients-spec =
@@ -94,8 +84,6 @@ row-coefficients-spec =
     gegenbauer-one-requires
     row-requires-2
     row-requires-3
-    row-requires-4
-    row-requires-5
     gegenbauer-two-omega-requires
     gegenbauer-two-requires
     returns
@@ -104,6 +92,4 @@ row-coefficients-spec =
     returns-4
     returns-5
     returns-6
-    returns-7
-    returns-8
-    returns-9)
+    returns-7)

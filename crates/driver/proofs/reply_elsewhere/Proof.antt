@@ -1,7 +1,6 @@
 -- `reply_elsewhere` meets its contract: turned away with the number of its cause (Ladder); without one (Clear), the derivative is spoiled or taken, and
 -- counted.
 use mathlib.Core.Path.{refl, sym, ◌∙◌}
-use native.Mathlib.Nat.{le_of_eq}
 use borrow.Author.Rules.{rules}
 use Rattle.family.specs.Family.{family_of}
 use Rattle.workspace.proofs.Areas.{whole}
@@ -63,7 +62,7 @@ replied-requires c κs =
     let in_range = (both (pending r.phase) (in_range r.phase r) p.1.1.1.0).1 in
     let finite = passes c.before.before.all_finite.ensures c.before.if2.false in
     let no = elsewhere r a.counters a.area.now a.derivative.now t.before.before.before.before.before.requires p finite in
-    (whole (family_of r.family) r.n a.area.now l.long, (le_of_eq (sym l.long), (l.brought, (in_range, no))))
+    (whole (family_of r.family) r.n a.area.now l.long, (l.brought, (in_range, no)))
 
 counted-requires : tie.Need-counted-requires
 unfolding reply_tests

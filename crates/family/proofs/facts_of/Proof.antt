@@ -6,8 +6,8 @@ use borrow.Author.Rules.{rules}
 use Rattle.family.proofs.facts_of.Statement.{statement}
 use Rattle.family.proofs.facts_of.Tie as tie
 
-chebyshev-requires : tie.Need-chebyshev-requires
-chebyshev-requires c κs = search rules
+rkc-requires : tie.Need-rkc-requires
+rkc-requires c κs = search rules
 
 rounded-up-requires : tie.Need-rounded-up-requires
 rounded-up-requires c κs = search rules
@@ -33,12 +33,6 @@ rkmc2-requires c κs = search rules
 tsrkc2-requires : tie.Need-tsrkc2-requires
 tsrkc2-requires c κs = search rules
 
-chebyshev-requires-2 : tie.Need-chebyshev-requires-2
-chebyshev-requires-2 c κs = search rules
-
-tsrkc3-requires : tie.Need-tsrkc3-requires
-tsrkc3-requires c κs = search rules
-
 rounded-up-requires-4 : tie.Need-rounded-up-requires-4
 rounded-up-requires-4 c κs = search rules
 
@@ -46,8 +40,8 @@ orthogonal-requires-4 : tie.Need-orthogonal-requires-4
 orthogonal-requires-4 c κs = search rules
 
 returns : tie.Need-returns
-unfolding facts_of family_of
-returns c = rw (c.chebyshev.ensures, c.before.match.keys1)
+unfolding family_of
+returns c = rw (c.rkc.ensures, c.before.match.keys1)
 
 returns-2 : tie.Need-returns-2
 unfolding facts_of family_of of_bits
@@ -70,23 +64,19 @@ unfolding family_of
 returns-6 c = rw (c.tsrkc2.ensures, c.before.match.keys6)
 
 returns-7 : tie.Need-returns-7
-unfolding facts_of family_of
-returns-7 c = rw (c.chebyshev2.ensures, c.before.match.keys7)
-
-returns-8 : tie.Need-returns-8
-unfolding family_of
-returns-8 c = rw (c.tsrkc3.ensures, c.before.match.keys8)
-
-returns-9 : tie.Need-returns-9
 unfolding facts_of of_bits
-returns-9 c = let r = c.before.before.match.rest in
-    rw (c.orthogonal4.ensures, c.before.rounded-up4.ensures, last_family _ r)
+returns-7 c = let r = c.before.before.match.rest in
+    rw (
+      c.orthogonal4.ensures,
+      c.before.rounded-up4.ensures,
+      last_family _ r.0.0.0.0.0.1 r.0.0.0.0.1 r.0.0.0.1 r.0.0.1 r.0.1 r.1,
+    )
 
 pub facts-of-spec : {M : Type 1} → statement M
 facts-of-spec =
     tie.close
     (tie.spec
-    chebyshev-requires
+    rkc-requires
     rounded-up-requires
     orthogonal-requires
     rounded-up-requires-2
@@ -95,8 +85,6 @@ facts-of-spec =
     orthogonal-requires-3
     rkmc2-requires
     tsrkc2-requires
-    chebyshev-requires-2
-    tsrkc3-requires
     rounded-up-requires-4
     orthogonal-requires-4
     returns
@@ -105,6 +93,4 @@ facts-of-spec =
     returns-4
     returns-5
     returns-6
-    returns-7
-    returns-8
-    returns-9)
+    returns-7)

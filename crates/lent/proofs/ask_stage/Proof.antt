@@ -57,9 +57,6 @@ slice-write-doubles-12 c = simp length-set (omega arith)
 slice-write-doubles-13 : tie.Need-slice-write-doubles-13
 slice-write-doubles-13 c = simp length-set (omega arith)
 
-slice-write-doubles-14 : tie.Need-slice-write-doubles-14
-slice-write-doubles-14 c = simp length-set (omega arith)
-
 same_length : tie.Need-same-length
 same_length c = search rules
 
@@ -93,7 +90,6 @@ ask-stage-spec =
     slice-write-doubles-11
     slice-write-doubles-12
     slice-write-doubles-13
-    slice-write-doubles-14
     same_length
     same-length-2
     returns)

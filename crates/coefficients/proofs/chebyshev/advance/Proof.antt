@@ -1,7 +1,9 @@
--- `advance` meets its contract, from the polynomials of its stage.
-use mathlib.Core.Path.{ap, ◌∙◌}
+-- `advance` meets its contract, from the polynomials of its stage and the row.
+use mathlib.Core.Path.{ap}
+use Rattle.family.specs.Family.{facts_of}
 use Rattle.coefficients.specs.declared.Polynomials.{Polynomials}
-use Rattle.coefficients.specs.Rows.{polynomials_on, chebyshev, next_with}
+use Rattle.coefficients.specs.declared.Recurrence.{Recurrence}
+use Rattle.coefficients.specs.Rows.{polynomials_on, next_polynomials, next_of}
 use borrow.Author.Rules.{rules}
 use Rattle.coefficients.proofs.chebyshev.advance.Statement.{statement}
 use Rattle.coefficients.proofs.chebyshev.advance.Tie as tie
@@ -9,18 +11,22 @@ use Rattle.coefficients.proofs.chebyshev.advance.Tie as tie
 next-polynomials-requires : tie.Need-next-polynomials-requires
 next-polynomials-requires c κs = search rules
 
-advance-to-requires : tie.Need-advance-to-requires
-advance-to-requires c κs = search rules
+row-from-requires : tie.Need-row-from-requires
+unfolding polynomials_on
+row-from-requires c κs = ap (λ (q : Polynomials). q.b_previous) c.next_polynomials.ensures
 
 returns : tie.Need-returns
-unfolding polynomials_on
+unfolding next_polynomials next_of facts_of
 returns c =
     let a = c.before.before.before.args in
-    let x = c.advance-to in
-    let on = c.before.next_polynomials.ensures in (
-      x.ensures.0 ∙ ap (λ (p : Polynomials). chebyshev p.b_previous a.c) on,
-      x.ensures.1 ∙ ap (λ (p : Polynomials). next_with p a.c x.result.row) on,
-    )
+    let row = c.row_from in
+    let carried : Polynomials → Recurrence = λ q. record {
+      theta_previous = row.result.theta;
+      theta_previous_two = a.c.theta_previous;
+      polynomials = q;
+    } in
+    (row.ensures, ap carried c.before.next_polynomials.ensures)
 
 pub advance-spec : {M : Type 1} → statement M
-advance-spec = tie.close (tie.spec next-polynomials-requires advance-to-requires returns)
+advance-spec =
+    tie.close (tie.spec next-polynomials-requires row-from-requires returns)

@@ -1,8 +1,9 @@
 -- `advance` meets its contract, from the polynomials of its stage and the row.
 use mathlib.Core.Path.{ap}
+use Rattle.family.specs.Family.{facts_of}
 use Rattle.coefficients.specs.declared.Polynomials.{Polynomials}
 use Rattle.coefficients.specs.declared.Recurrence.{Recurrence}
-use Rattle.coefficients.specs.Rows.{rkmc2_polynomials_on}
+use Rattle.coefficients.specs.Rows.{rkmc2_polynomials_on, next_polynomials, next_of}
 use borrow.Author.Rules.{rules}
 use Rattle.coefficients.proofs.rkmc2.advance.Statement.{statement}
 use Rattle.coefficients.proofs.rkmc2.advance.Tie as tie
@@ -15,6 +16,7 @@ unfolding rkmc2_polynomials_on
 row-from-requires c κs = ap (λ (q : Polynomials). q.b_previous) c.next_polynomials.ensures
 
 returns : tie.Need-returns
+unfolding next_polynomials next_of facts_of
 returns c =
     let a = c.before.before.before.args in
     let row = c.row_from in

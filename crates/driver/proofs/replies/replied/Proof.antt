@@ -18,8 +18,8 @@ enum_told c = search rules
 take-pass-requires : tie.Need-take-pass-requires
 take-pass-requires c κs =
     let s = pass_in _ (ap (λ (p : Phase). in_range p c.before.before.before.before.before.args.«record») (sym c.before.enum_told.given.1)
-    ∙ c.before.before.before.before.before.requires.1.1.1.0) in
-    (c.before.before.before.before.before.requires.0, (c.before.before.before.before.before.requires.1.1.0, s))
+    ∙ c.before.before.before.before.before.requires.1.1.0) in
+    (c.before.before.before.before.before.requires.0, (c.before.before.before.before.before.requires.1.0, s))
 
 enum-told-2 : tie.Need-enum-told-2
 enum-told-2 c = search rules
@@ -77,7 +77,7 @@ returns-4 c =
     let a = c.before.before.before.before.before.before.before.args in
     let r = a.«record» in
     as_step (ap (λ (take : Record → Vectors → List Float → Step). take r (unpack r.n a.area.now) a.derivative.now)
-    (alike r.phase c.before.before.before.before.before.before.before.requires.1.1.1.1 c.before.before.before.before.match.keys4))
+    (alike r.phase c.before.before.before.before.before.before.before.requires.1.1.1 c.before.before.before.before.match.keys4))
     c.before.before.take_first.ensures
 
 pub replied-spec : {M : Type 1} → statement M

@@ -4,7 +4,6 @@ use lib.Ieee.{Float}
 use borrow.Author.Rules.{rules}
 use Rattle.family.specs.declared.Setting.{Setting}
 use Rattle.workspace.specs.Vectors.{Vectors, unpack}
-use Rattle.workspace.proofs.Areas.{method_count}
 use Rattle.workspace.specs.Kernel.{with_last, error_norm}
 use Rattle.driver.specs.declared.Record.{Record}
 use Rattle.driver.specs.declared.Answer.TheVariants.{Finished}
@@ -25,8 +24,7 @@ setting-of-requires : tie.Need-setting-of-requires
 setting-of-requires c κs = search rules
 
 last-requires : tie.Need-last-requires
-last-requires c κs = let b = c.before.before in
-    (rw (b.setting_of.ensures, method_count) b.before.before.before.requires.1.0, b.before.before.before.requires.1.1)
+last-requires c κs = search rules
 
 error-norm-requires : tie.Need-error-norm-requires
 error-norm-requires c κs = search rules

@@ -2,7 +2,6 @@
 use mathlib.Core.Path.{refl}
 use borrow.Author.Rules.{rules}
 use Rattle.workspace.specs.Vectors.{unpack}
-use Rattle.workspace.proofs.Areas.{method_count}
 use Rattle.driver.specs.Calls.{at_stage, ask_stage}
 use Rattle.driver.specs.Promises.{outcome_of}
 use Rattle.driver.proofs.Ladder.{same_answer}
@@ -48,7 +47,7 @@ keep-candidate-requires : tie.Need-keep-candidate-requires
 keep-candidate-requires c κs =
     let b = c.before.before.before.before.before.before.before.before.before in
     let long = b.before.before.before.requires.1.0 in
-    rw (b.setting_of.ensures, method_count, c.before.before.area2.given) long
+    rw (b.setting_of.ensures, c.before.before.area2.given) long
 
 finite-vector-requires : tie.Need-finite-vector-requires
 finite-vector-requires c κs = search rules

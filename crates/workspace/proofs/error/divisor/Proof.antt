@@ -17,12 +17,6 @@ double-of-requires c κs = search rules
 enum-known-form : tie.Need-enum-known-form
 enum-known-form c = search rules
 
-enum-told-3 : tie.Need-enum-told-3
-enum-told-3 c = search rules
-
-enum-told-4 : tie.Need-enum-told-4
-enum-told-4 c = search rules
-
 returns : tie.Need-returns
 unfolding divisor_in of_bits
 returns c = rw c.enum_told.given.1
@@ -35,15 +29,5 @@ returns-3 : tie.Need-returns-3
 unfolding divisor_in of_bits
 returns-3 c = rw c.before.form.given.1
 
-returns-4 : tie.Need-returns-4
-unfolding divisor_in of_bits
-returns-4 c = rw c.enum-told3.given.1
-
-returns-5 : tie.Need-returns-5
-unfolding divisor_in of_bits
-returns-5 c = rw c.enum-told4.given.1
-
 pub divisor-spec : {M : Type 1} → statement M
-divisor-spec =
-    tie.close
-    (tie.spec enum_told enum-told-2 double-of-requires enum-known-form enum-told-3 enum-told-4 returns returns-2 returns-3 returns-4 returns-5)
+divisor-spec = tie.close (tie.spec enum_told enum-told-2 double-of-requires enum-known-form returns returns-2 returns-3)

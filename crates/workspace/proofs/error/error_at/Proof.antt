@@ -1,6 +1,5 @@
 -- `error_at` meets its contract, form by form.
 use lib.Ieee.{of_bits}
-use Rattle.ieee.specs.Double.{square}
 use Rattle.workspace.specs.Kernel.{error_in}
 use borrow.Author.Rules.{rules}
 use Rattle.workspace.proofs.error.error_at.Statement.{statement}
@@ -63,43 +62,17 @@ enum-told-2 c = search rules
 enum-known-form : tie.Need-enum-known-form
 enum-known-form c = search rules
 
-enum-told-3 : tie.Need-enum-told-3
-enum-told-3 c = search rules
-
-enum-told-4 : tie.Need-enum-told-4
-enum-told-4 c = search rules
-
-mul-before : tie.Need-overflow-mul-before
-mul-before c = search rules
-
-add-before : tie.Need-overflow-add-before
-add-before c = search rules
-
-mul-before-2 : tie.Need-overflow-mul-before-2
-mul-before-2 c = search rules
-
-shared-slice-read-before : tie.Need-shared-slice-read-before
-shared-slice-read-before c = search rules
-
 returns : tie.Need-returns
 unfolding error_in of_bits
-returns c = λ b e. rw c.enum_told.given.1
+returns c = rw c.enum_told.given.1
 
 returns-2 : tie.Need-returns-2
 unfolding error_in
-returns-2 c = λ b e. rw c.enum-told2.given.1
+returns-2 c = rw c.enum-told2.given.1
 
 returns-3 : tie.Need-returns-3
 unfolding error_in
-returns-3 c = λ b e. rw c.before.form.given.1
-
-returns-4 : tie.Need-returns-4
-unfolding error_in of_bits
-returns-4 c = λ b e. rw c.enum-told3.given.1
-
-returns-5 : tie.Need-returns-5
-unfolding error_in square of_bits
-returns-5 c = λ b e. rw (c.before.enum-told4.given.1, e)
+returns-3 c = rw c.before.form.given.1
 
 pub error-at-spec : {M : Type 1} → statement M
 error-at-spec =
@@ -124,14 +97,6 @@ error-at-spec =
     enum_told
     enum-told-2
     enum-known-form
-    enum-told-3
-    enum-told-4
-    mul-before
-    add-before
-    mul-before-2
-    shared-slice-read-before
     returns
     returns-2
-    returns-3
-    returns-4
-    returns-5)
+    returns-3)

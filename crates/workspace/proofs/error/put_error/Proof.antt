@@ -1,9 +1,8 @@
--- `put_error` meets its contract, by the law of a loop over columns with one rule, whichever vector has the number that stands for the older state's.
-use mathlib.Core.Path.{◌≡◌, refl}
+-- `put_error` meets its contract, by the law of a loop over columns with one rule.
+use mathlib.Core.Path.{refl}
 use mathlib.Core.List.{[], ◌∷◌}
-use Prim.Native.Nat.{◌+◌, ◌-◌, ◌*◌, ◌≤◌}
-use lib.ListN.{length, length-set}
-use Rattle.workspace.specs.Vectors.{Vector, number, derivative}
+use Prim.Native.Nat.{◌-◌}
+use Rattle.workspace.specs.Vectors.{derivative}
 use Rattle.workspace.specs.Kernel.{error_in}
 use Rattle.workspace.proofs.Columns.{Working, begin, turn, finish}
 use native.Mathlib.Omega.{arith}
@@ -11,18 +10,16 @@ use Rattle.workspace.proofs.error.put_error.Statement.{statement}
 use Rattle.workspace.proofs.error.put_error.Tie as tie
 
 abbrev invariant-loop : tie.invariant-loop
-invariant-loop area₀ n form q older step i₀ area i =
-    ((b : Vector) → number b ≡ older → Working n ((derivative, error_in form q b step) ∷ []) area₀ area i)
-    × (11 * n ≤ length area) × ((older + 1) * n ≤ length area) × (length area ≡ length area₀)
+invariant-loop area₀ n form step i₀ area i = Working n ((derivative, error_in form step) ∷ []) area₀ area i
 
 abbrev decreases-loop : tie.decreases-loop
-decreases-loop area₀ n form q older step i₀ area i = n - i
+decreases-loop area₀ n form step i₀ area i = n - i
 
 loop-holds : tie.Need-loop-init invariant-loop decreases-loop
-loop-holds c = (λ b e. begin _ _ _ refl (omega arith), omega arith, omega arith, refl)
+loop-holds c = begin _ _ _ refl (omega arith)
 
 error-at-requires : tie.Need-error-at-requires invariant-loop decreases-loop
-error-at-requires c κs = (omega arith, (omega arith, omega arith))
+error-at-requires c κs = omega arith
 
 mul-area : tie.Need-overflow-mul-area invariant-loop decreases-loop
 mul-area c = omega arith
@@ -43,18 +40,13 @@ loop-less : tie.Need-loop-smaller invariant-loop decreases-loop
 loop-less c = omega arith
 
 loop-again : tie.Need-loop-preserved invariant-loop decreases-loop
-loop-again c = let l = c.before.before.before.loop in (
-  λ b e. turn (_ ∷ []) (l.invariant.0 b e) (omega arith) (c.error-at.ensures b e, tt),
-  simp length-set (omega arith),
-  simp length-set (omega arith),
-  simp length-set l.invariant.3,
-)
+loop-again c = turn (_ ∷ []) c.before.before.before.loop.invariant (omega arith) (c.error-at.ensures, tt)
 
 same_length : tie.Need-same-length invariant-loop decreases-loop
 same_length c = omega arith
 
 returns : tie.Need-returns invariant-loop decreases-loop
-returns c = λ b e. finish (c.before.loop.invariant.0 b e) c.loop-test.false
+returns c = finish c.before.loop.invariant c.loop-test.false
 
 pub put-error-spec : {M : Type 1} → statement M
 put-error-spec =

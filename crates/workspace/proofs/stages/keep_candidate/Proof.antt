@@ -1,5 +1,5 @@
 -- `keep_candidate` meets its contract, form by form.
-use mathlib.Core.Path.{◌≡◌, refl, sym, ap, ◌∙◌, subst}
+use mathlib.Core.Path.{◌≡◌, sym, ap, ◌∙◌, subst}
 use mathlib.Core.List.{List}
 use Prim.Native.Nat.{ℕ, ◌+◌, ◌*◌, ◌≤◌}
 use native.Mathlib.Omega.{arith}
@@ -7,14 +7,14 @@ use lib.Ieee.{Float}
 use Rattle.family.specs.declared.Setting.{Setting}
 use Rattle.family.specs.declared.Facts.{Facts}
 use Rattle.family.specs.declared.CandidateForm.{CandidateForm}
-use Rattle.family.specs.declared.CandidateForm.TheVariants.{WithOlder, WithBothStates}
-use Rattle.family.specs.Family.{facts_of, kind}
+use Rattle.family.specs.declared.CandidateForm.TheVariants.{WithOlder}
+use Rattle.family.specs.Family.{Family, facts_of, kind}
 use Rattle.coefficients.specs.declared.Recurrence.{Recurrence}
 use Rattle.coefficients.specs.declared.Coefficients.{Coefficients}
 use Rattle.coefficients.specs.declared.Weights.{Weights}
-use Rattle.workspace.specs.Vectors.{Vector, Vectors, number, ◌with◌≔◌, each, unpack, candidate}
-use Rattle.workspace.specs.Kernel.{candidate_in, combined_entry, weighed_entry, older_of, with_candidate}
-use Rattle.workspace.proofs.Areas.{number_below, room, eleven, candidate_takes, twelve_for_candidate, becomes_as}
+use Rattle.workspace.specs.Vectors.{Vector, Vectors, number, vector_count, ◌with◌≔◌, each, unpack, candidate}
+use Rattle.workspace.specs.Kernel.{candidate_in, combined_entry, older_of, with_candidate}
+use Rattle.workspace.proofs.Areas.{number_below, room, eleven, twelve, becomes_as}
 use borrow.Author.Rules.{rules}
 use Rattle.workspace.proofs.stages.keep_candidate.Statement.{statement}
 use Rattle.workspace.proofs.stages.keep_candidate.Tie as tie
@@ -27,9 +27,10 @@ kept_in form x m n h s c row v e k =
     ap (λ (f : CandidateForm). v with candidate ≔ candidate_in f m n h s c row v) (sym k ∙ ap (λ (y : Facts). y.candidate) e)
 
 -- the older state lies within an area of twelve vectors
-fits : (b : Vector) (k n older l : ℕ) → k ≡ 12 → older ≡ number b → k * n ≤ l → (11 * n ≤ l) × ((older + 1) * n ≤ l)
-fits b k n older l is-twelve is h =
-    let all : 12 * n ≤ l = subst (λ (k : ℕ). k * n ≤ l) is-twelve h in
+fits : (f : Family) (b : Vector) (n older l : ℕ) → (facts_of f).candidate ≡ WithOlder → older ≡ number b → vector_count f * n ≤ l
+    → (11 * n ≤ l) × ((older + 1) * n ≤ l)
+fits f b n older l told is h =
+    let all : 12 * n ≤ l = subst (λ (k : ℕ). k * n ≤ l) (twelve f told) h in
     (omega arith, subst (λ (k : ℕ). (k + 1) * n ≤ l) (sym is) (omega (arith, room 12 (number b) n (number_below b))))
 
 facts-of-requires : tie.Need-facts-of-requires
@@ -63,32 +64,11 @@ older-of-requires : tie.Need-older-of-requires
 older-of-requires c κs = search rules
 
 mix-requires : tie.Need-mix-requires
-unfolding candidate_takes
 mix-requires c κs =
     let x = c.before.before.before.before.before.before.args in
     let m = x.setting in
     let told = sym (ap (λ (y : Facts). y.candidate) c.before.before.before.before.facts_of.ensures) ∙ c.before.before.enum-told3.given.1 in
-    fits (older_of m) _ x.n _ _ (twelve_for_candidate (kind m) WithOlder told refl) c.before.older_of.ensures
-    c.before.before.before.before.before.before.requires
-
-enum-told-4 : tie.Need-enum-told-4
-enum-told-4 c = search rules
-
-older-of-requires-2 : tie.Need-older-of-requires-2
-older-of-requires-2 c κs = search rules
-
-weights-requires : tie.Need-weights-requires
-weights-requires c κs = search rules
-
-weigh-requires : tie.Need-weigh-requires
-unfolding candidate_takes
-weigh-requires c κs =
-    let x = c.before.before.before.before.before.before.before.args in
-    let m = x.setting in
-    let told = sym (ap (λ (y : Facts). y.candidate) c.before.before.before.before.before.facts_of.ensures)
-    ∙ c.before.before.before.enum-told4.given.1 in
-    fits (older_of m) _ x.n _ _ (twelve_for_candidate (kind m) WithBothStates told refl) c.before.before.older-of2.ensures
-    c.before.before.before.before.before.before.before.requires
+    fits (kind m) (older_of m) x.n _ _ told c.before.older_of.ensures c.before.before.before.before.before.before.requires
 
 same_length : tie.Need-same-length
 same_length c = search rules
@@ -126,19 +106,6 @@ returns-3 c =
     (kept_in _ _ x.setting x.n x.step x.s x.c x.row v c.before.before.before.before.before.before.before.facts_of.ensures
     c.before.before.before.before.before.enum-told3.given.1)
 
-same-length-4 : tie.Need-same-length-4
-same-length-4 c = search rules
-
-returns-4 : tie.Need-returns-4
-unfolding candidate_in
-returns-4 c =
-    let x = c.before.before.before.before.before.before.before.before.before.before.args in
-    let v = unpack x.n x.area.now in
-    becomes_as (c.before.before.weigh.ensures (older_of x.setting) (sym c.before.before.before.before.before.older-of2.ensures))
-    (ap (λ (w : Weights). v with candidate ≔ each x.n v (weighed_entry (older_of x.setting) w)) c.before.before.before.weights.ensures
-    ∙ kept_in _ _ x.setting x.n x.step x.s x.c x.row v c.before.before.before.before.before.before.before.before.facts_of.ensures
-    c.before.before.before.before.before.before.enum-told4.given.1)
-
 pub keep-candidate-spec : {M : Type 1} → statement M
 keep-candidate-spec =
     tie.close
@@ -152,15 +119,9 @@ keep-candidate-spec =
     enum-told-3
     older-of-requires
     mix-requires
-    enum-told-4
-    older-of-requires-2
-    weights-requires
-    weigh-requires
     same_length
     returns
     same-length-2
     returns-2
     same-length-3
-    returns-3
-    same-length-4
-    returns-4)
+    returns-3)

@@ -1,0 +1,48 @@
+-- `omega_one` meets its contract: the const has the bits of specs/, by computation, and is read at the definition's index, by Bits.
+use Prim.Native.Nat.{◌-◌, min}
+use native.Mathlib.Omega.{arith}
+use Rattle.coefficients.specs.Table as Table
+use Rattle.coefficients.proofs.Bits.{read_at}
+use borrow.Author.Rules.{rules}
+use Rattle.coefficients.proofs.chebyshev.omega_one.Statement.{statement}
+use Rattle.coefficients.proofs.chebyshev.omega_one.Tie as tie
+
+array-read-result : tie.Need-array-read-result
+array-read-result c = search rules
+
+returns : tie.Need-returns
+unfolding Table.omega Table.omega_bits
+returns c = read_at Table.omega_bits 0 (min c.before.args.s 200 - 2) (omega arith) (omega arith)
+
+array-read-result-2 : tie.Need-array-read-result-2
+array-read-result-2 c = search rules
+
+returns-2 : tie.Need-returns-2
+unfolding Table.omega Table.omega_bits
+returns-2 c = read_at Table.omega_bits 198 (min c.before.before.args.s 200 - 2) (omega arith) (omega arith)
+
+sub-result : tie.Need-overflow-sub-result
+sub-result c = search rules
+
+mul-result : tie.Need-overflow-mul-result
+mul-result c = search rules
+
+array-read-result-3 : tie.Need-array-read-result-3
+array-read-result-3 c = search rules
+
+returns-3 : tie.Need-returns-3
+unfolding Table.omega Table.omega_bits
+returns-3 c = let s = c.before.before.args.s in read_at Table.omega_bits (s - 2) (min s 200 - 2) (omega arith) (omega arith)
+
+pub omega-one-spec : {M : Type 1} → statement M
+omega-one-spec =
+    tie.close
+    (tie.spec
+    array-read-result
+    returns
+    array-read-result-2
+    returns-2
+    sub-result
+    mul-result
+    array-read-result-3
+    returns-3)
