@@ -12,7 +12,7 @@ mod tsrkc2;
 
 // A row's coefficients, and `theta` after its stage. In RKC `gamma_tilde` holds the Rust's `nu_tilde`, in
 // RKMC2 its `b_previous`; in TSRKC2 it is 0 and not read.
-#[derive(Drop)]
+#[derive(Clone, Copy)]
 pub struct Coefficients {
     pub mu: f64,
     pub nu: f64,
@@ -24,7 +24,7 @@ pub struct Coefficients {
 // What RKC carries from stage to stage: omega_zero and omega_one as the stages began with them, b, and the Chebyshev polynomial
 // at omega_zero with its first and second derivative, each of the two stages before. RKMC2 carries the same without the
 // derivatives, TSRKC2 without b too, and the gain of its candidate. The other families leave it as it is and never read it.
-#[derive(Drop)]
+#[derive(Clone, Copy)]
 pub struct Polynomials {
     pub omega_zero: f64,
     pub omega_one: f64,
@@ -40,7 +40,7 @@ pub struct Polynomials {
 }
 
 // What the loop over the stages carries on.
-#[derive(Drop)]
+#[derive(Clone, Copy)]
 pub struct Recurrence {
     pub theta_previous: f64,
     pub theta_previous_two: f64,
@@ -48,7 +48,7 @@ pub struct Recurrence {
 }
 
 // A stage's row, and what is carried on from it.
-#[derive(Drop)]
+#[derive(Clone, Copy)]
 pub struct Advance {
     pub row: Coefficients,
     pub after: Recurrence,
@@ -56,7 +56,7 @@ pub struct Advance {
 
 // RKMC2's candidate: the weights of the state, of the last stage, of the stage two before it, and of step times the first
 // derivative.
-#[derive(Drop)]
+#[derive(Clone, Copy)]
 pub struct Weights {
     pub initial: f64,
     pub last: f64,

@@ -5,7 +5,6 @@ use mathlib.Core.Bool.{Bool, true, false, cond, not, ◌&&◌, ◌||◌, false�
 use mathlib.Core.List.{List, [], ◌∷◌}
 use Prim.Native.Nat.{ℕ, zero, suc}
 use native.Mathlib.Nat.{suc-ne-zero}
-use borrow.Author.Tests.{not-true, not-false}
 use lib.Ieee.{Float}
 use Rattle.driver.specs.declared.Answer.{Answer}
 use Rattle.driver.specs.declared.Answer.TheVariants.{Refused}
@@ -18,11 +17,11 @@ use Rattle.driver.specs.Calls.{Held, Called, Test, ◌∶◌, Verdict, admitted,
 use Rattle.driver.specs.Promises.{Meets, Keeps, holding, refusal, turned_away}
 
 -- a test as the code has it, r, and as the definition has it, t
-pub fails : {r t : Bool} → r ≡ t → not r ≡ true → t ≡ false
-fails e h = sym e ∙ not-true _ h
+pub fails : {r t : Bool} → r ≡ t → r ≡ false → t ≡ false
+fails e h = sym e ∙ h
 
-pub passes : {r t : Bool} → r ≡ t → not r ≡ false → t ≡ true
-passes e h = sym e ∙ not-false _ h
+pub passes : {r t : Bool} → r ≡ t → r ≡ true → t ≡ true
+passes e h = sym e ∙ h
 
 -- ---- two tests
 

@@ -22,7 +22,7 @@ pub use checks::{may_accept, stage_taken};
 pub use position::phase_number;
 
 // Where a record is between two calls.
-#[derive(Drop)]
+#[derive(Clone, Copy)]
 pub enum Phase {
     Empty,
     First,
@@ -36,7 +36,7 @@ pub enum Phase {
 
 // The position among the passes of the power iteration. The scaled radius is known once they end, and 0 until then; `pass`
 // is then k. Both stand until the next attempt that is taken.
-#[derive(Drop)]
+#[derive(Clone, Copy)]
 pub struct Iteration {
     pub pass: u64,
     pub perturbation: f64,
@@ -45,7 +45,7 @@ pub struct Iteration {
 }
 
 // The position among the stages, and what they carry on. How many they are stands until the stages of the next attempt.
-#[derive(Drop)]
+#[derive(Clone, Copy)]
 pub struct Staging {
     pub stages: u64,
     pub stage: u64,
@@ -54,13 +54,13 @@ pub struct Staging {
 
 // The step accepted before, if there is one: the Rust's `previous_accepted_step`. The state from which it was taken stands
 // last in the area.
-#[derive(Drop)]
+#[derive(Clone, Copy)]
 pub struct History {
     pub present: bool,
     pub previous_accepted_step: f64,
 }
 
-#[derive(Drop)]
+#[derive(Clone, Copy)]
 pub struct Record {
     pub family: u64,
     pub n: usize,
@@ -71,7 +71,7 @@ pub struct Record {
     pub history: History,
 }
 
-#[derive(Drop)]
+#[derive(Clone, Copy)]
 pub struct Counters {
     pub evaluations: u64,
     pub finished_attempts: u64,
@@ -79,7 +79,7 @@ pub struct Counters {
 
 // What a finished attempt tells: its error norm, how many stages and passes it ran (s and k), and the scaled radius r that
 // gave s, as it was before NaN counted as 0.
-#[derive(Drop)]
+#[derive(Clone, Copy)]
 pub struct Figures {
     pub norm: f64,
     pub stages: u64,
@@ -89,7 +89,7 @@ pub struct Figures {
 
 // Evaluate the vector of this number at this time; finished with these figures; ready; refused with
 // this number; empty.
-#[derive(Drop)]
+#[derive(Clone, Copy)]
 pub enum Answer {
     Evaluate { time: f64, vector: usize },
     Finished(Figures),
@@ -99,14 +99,14 @@ pub enum Answer {
 }
 
 // What a call answers, and the record it leaves.
-#[derive(Drop)]
+#[derive(Clone, Copy)]
 pub struct Next {
     pub answer: Answer,
     pub record: Record,
 }
 
 // The same of a reply, which also counts.
-#[derive(Drop)]
+#[derive(Clone, Copy)]
 pub struct Replied {
     pub answer: Answer,
     pub record: Record,
@@ -115,7 +115,7 @@ pub struct Replied {
 
 // What a reply to a stage's evaluation comes to: the next stage's evaluation at this time and position, or the same where
 // of the position only the stage and theta move; after stage s the candidate's at this time, or a candidate that is not finite.
-#[derive(Drop)]
+#[derive(Clone, Copy)]
 pub enum Staged {
     On { time: f64, staging: Staging },
     OnByTheta { time: f64, stage: u64, theta: f64 },
@@ -124,7 +124,7 @@ pub enum Staged {
 }
 
 // How many stages an attempt runs, or the number that its stage need is refused with.
-#[derive(Drop)]
+#[derive(Clone, Copy)]
 pub enum Need {
     Met(u64),
     Unmet(u64),

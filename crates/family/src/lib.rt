@@ -13,7 +13,7 @@ pub const MOST_STAGES: u64 = 1000;
 
 // What an attempt runs under: its family, whether there is a history, a step accepted before, and the quotient q of that step
 // and the present one, 0 without a history. TSRKC2 alone reads the last two.
-#[derive(Drop)]
+#[derive(Clone, Copy)]
 pub struct Setting {
     pub family: u64,
     pub history: bool,
@@ -32,7 +32,7 @@ pub fn without_history(family: u64) -> Setting
 }
 
 // How the whole number before limits follows from the scaled radius r.
-#[derive(Drop)]
+#[derive(Clone, Copy)]
 pub enum StageRule {
     // floor(sqrt(slope * r + 1)) + 1
     RoundedDown { slope: f64 },
@@ -47,7 +47,7 @@ pub enum StageRule {
 // The order of a row's terms, and how it weighs the two derivatives: RKC's in one product, RKL's and RKG's in a product
 // each, both with the state's term third; RKMC2's in one product, with the state's term first; TSRKC2's has neither the
 // state nor the first derivative.
-#[derive(Drop)]
+#[derive(Clone, Copy)]
 pub enum RowForm {
     ChebyshevRow,
     OrthogonalRow,
@@ -57,7 +57,7 @@ pub enum RowForm {
 
 // Which derivatives the error takes beside the state and the candidate: the first alone, and its norm is then divided by
 // s; the first and the last; or the last alone, with the whole divided by `over`.
-#[derive(Drop)]
+#[derive(Clone, Copy)]
 pub enum ErrorForm {
     FirstDerivative,
     BothDerivatives,
@@ -66,7 +66,7 @@ pub enum ErrorForm {
 
 // What the candidate is made of: the last stage; a combination of it with the state, the stage two before it and the
 // first derivative; or one with the older state.
-#[derive(Drop)]
+#[derive(Clone, Copy)]
 pub enum CandidateForm {
     LastStage,
     Combined,
@@ -75,7 +75,7 @@ pub enum CandidateForm {
 
 // A family's facts: the permitted counts, the stage rule, whether a need of more than the largest count is refused, whether
 // its area keeps an older state, and its forms.
-#[derive(Drop)]
+#[derive(Clone, Copy)]
 pub struct Facts {
     pub smallest: u64,
     pub largest: u64,

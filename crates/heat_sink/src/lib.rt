@@ -3,7 +3,7 @@ ghost use Rattle.std.specs.Prelude.{◌≡◌, ◌<◌, length};
 ghost use Rattle.heat_sink.specs.Model as spec;
 
 // The family that advances it, how many temperatures the chain has, and the model's constants.
-#[derive(Drop)]
+#[derive(Clone, Copy)]
 pub struct Inverter {
     pub family: u64,
     pub n: usize,

@@ -11,7 +11,7 @@ mod minute;
 mod minutes;
 
 // What the minutes so far come to.
-#[derive(Drop)]
+#[derive(Clone, Copy)]
 pub struct Count {
     pub record: Record,
     pub counters: Counters,
@@ -20,7 +20,7 @@ pub struct Count {
 }
 
 // Hours and minutes above the rated temperature, what was counted on the way, and how many minutes were refused.
-#[derive(Drop)]
+#[derive(Clone, Copy)]
 pub struct Total {
     pub hours: f64,
     pub above: u64,
@@ -30,7 +30,7 @@ pub struct Total {
 }
 
 // A day's total, or the first line that makes the text no day.
-#[derive(Drop)]
+#[derive(Clone, Copy)]
 pub enum DayResult {
     Day { total: Total },
     Malformed { line: usize },

@@ -18,7 +18,7 @@ pub const DOUBLES: usize = 21;
 // Evaluate (code 1) vector `number` at `time`; finished (2) with `norm`, `stages`, `passes` and `scaled_radius`; ready (3);
 // refused (4) with `number`; empty (5). What an answer does not carry is 0.
 #[repr(C)]
-#[derive(Drop)]
+#[derive(Clone, Copy)]
 pub struct Answer {
     pub code: u64,
     pub number: u64,

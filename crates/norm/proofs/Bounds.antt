@@ -77,6 +77,8 @@ units_sized p q s r k = go r (ltb (r * 2 ^ k) (2 ^ (low binary64 + suc (emax bin
         → SizedUpto p q (cond b (odd (suc (prec binary64)) s r k (low binary64)) (inf s))
     go zero true (up_to m e h) = sized_up_to s m e h
     go (suc r) true (up_to m e h) = sized_up_to s m e h
+    go zero false x'' = elim x'' [ ]
+    go (suc r) false x3 = elim x3 [ ]
 
 round_sized : (s : Bool) (a b p q : ℕ) → 0 < b → 0 < q → Kept p q → a * q ≤ p * b → SizedUpto p q (round binary64 s a b)
 round_sized s a b p q B Q k h =
@@ -102,6 +104,8 @@ lowered_upto (fin s m e) f t =
     go : (a d P Q R : ℕ) → R ≡ P * Q → a ≤ R * d → a * (1 * 1) * 1 ≤ P * (d * Q)
     go a d P Q R e h =
         le_trans (le_of_eq (simp (mul-one))) (le_trans h (le_of_eq (ap (λ (z : ℕ). z * d) e ∙ simp (mul_assoc, mul_comm, mul_left_comm))))
+lowered_upto nan f t = elim t [ ]
+lowered_upto (inf _) f t = elim t [ ]
 
 -- ---- its square, and the sum
 

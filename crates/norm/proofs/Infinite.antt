@@ -37,6 +37,8 @@ nonneg_from_one (fin true n c) h = absurd (none (down c) (down_pos c) (eqb→eq 
   where
     none : (d : ℕ) → 0 < d → 1 * 1 * d ≡ 0 → ⊥
     none d p e = omega arith
+nonneg_from_one nan h = elim h [ ]
+nonneg_from_one (inf true) h = elim h [ ]
 
 over_upto : (p q : ℕ) (x d : Float) → 0 < q → Kept p q → Upto p q x → NonNeg d → T (le one d) → Upto p q (x ⊘ d)
 unfolding div
@@ -78,6 +80,7 @@ quotient_finite x d p l = go x p.not_negative p.is_finite p.is_double
     go x (number m e) t f =
         let q = over_upto (m * up e) (down e) (fin false m e) d (down_pos e) (own_kept m e f) (up_to m e (le_of_eq refl)) (nonneg_from_one d l) l in
         record { not_negative = upto_nonneg q; is_finite = upto_finite q; is_double = div-fits binary64 (fin false m e) d }
+    go _ infinite t f = elim t [ ]
 
 -- and a product with 2 ^ -(k + 1)
 pub product_finite : (k : ℕ) (x : Float) → FiniteDouble x → FiniteDouble (fin false 1 (negsuc k) ⊗ x)
@@ -93,6 +96,7 @@ product_finite k x p = go x p.not_negative p.is_finite p.is_double
         small : (a d P : ℕ) → 0 < P → 1 * 1 * a * d ≤ a * (P * d)
         small a d P h = le_trans (le_of_eq (ap (λ (z : ℕ). z * d) (one-mul a) ∙ sym (one-mul (a * d)))) (le_trans (mul-le-mul_right (a * d) h)
             (le_of_eq (mul_left_comm P a d)))
+    go _ infinite t f = elim t [ ]
 
 -- ---- the root of a finite double is finite
 
@@ -128,6 +132,7 @@ rooted x (number (suc m) e) t f = record {
     small : T (le (sqrt y) (sqrt (fin false 1 (pos 1024))))
     small = sqrt_mono y (fin false 1 (pos 1024)) (number (suc m) e) (number 1 (pos 1024)) tt tt
         (le_of_cross (suc m) e 1 (pos 1024) (go (suc m * up e) (down e) (2 ^ 1024) (below_top false (suc m) e f)))
+rooted _ infinite t f = elim t [ ]
 
 finite_or_infinite : (x : Float) → NonNeg x → T (finite x) ⊎ (x ≡ inf false)
 finite_or_infinite x infinite = inr refl
@@ -138,6 +143,8 @@ kept_finite p q = go (round binary64 false p q)
   where
     go : (x : Float) → HasValue x false p q → T (finite x)
     go (fin s m e) v = tt
+    go nan v = elim v [ ]
+    go (inf _) v = elim v [ ]
 
 -- ---- the last product: infinite only from 2 ^ 504 on, since below that it is exact
 
@@ -186,6 +193,7 @@ raised_is r (number m e) t f = ⊎_elim large small (le_or_lt (2 ^ 504 * down e)
     small : m * up e < 2 ^ 504 * down e
         → FiniteDouble (round binary64 false a b) ⊎ (T (le (fin false 1 (pos 504)) (fin false m e)) × (round binary64 false a b ≡ inf false))
     small h = inl (rounded (kept_finite a b (exact_below m e f h)))
+raised_is _ infinite t f = elim t [ ]
 
 -- ---- the first sum
 
@@ -193,6 +201,8 @@ square_nonneg : (x : Float) → T (finite x) → NonNeg (square x)
 unfolding square mul
 square_nonneg (fin true m e) t = round_nonneg binary64 (m * up e * (m * up e)) (down e * down e)
 square_nonneg (fin false m e) t = round_nonneg binary64 (m * up e * (m * up e)) (down e * down e)
+square_nonneg nan t = elim t [ ]
+square_nonneg (inf _) t = elim t [ ]
 
 plus_nonneg : (x y : Float) → NonNeg x → NonNeg y → NonNeg (x ⊕ y)
 unfolding add sum
@@ -227,6 +237,7 @@ first_finite xs f e = go (sum_of_squares xs) (all_finite xs) (first_nonneg xs f)
     go : (s : Float) (t : Bool) → NonNeg s → T t → eq s (inf false) && t ≡ false → T (finite s)
     go s true infinite f e = subst T e tt
     go s t (number m c) f e = tt
+    go _ false infinite f e = elim f [ ]
 
 -- ---- the theorems
 

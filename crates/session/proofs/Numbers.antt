@@ -24,6 +24,7 @@ is_in (i ∷ is) k e = go (eqb k i) refl e (is_in is k)
 pub in_is : (ks : List ℕ) (k : ℕ) → k ∈ ks → one_of ks k ≡ true
 in_is (i ∷ is) k here = or_left (eqb k k) (one_of is k) (eq-eqb k k refl)
 in_is (i ∷ is) k (later m) = or_right (eqb k i) (one_of is k) (in_is is k m)
+in_is [] k x' = elim x' [ ]
 
 pub in_left : {k : ℕ} {ks : List ℕ} (ls : List ℕ) → k ∈ ks → k ∈ (ks ++ ls)
 in_left ls here = here
@@ -40,6 +41,7 @@ every_one p (k ∷ ks) = p k && every_one p ks
 pub each : (p : ℕ → Bool) (ks : List ℕ) → every_one p ks ≡ true → {k : ℕ} → k ∈ ks → p k ≡ true
 each p (k ∷ ks) e here = and_left (p k) (every_one p ks) e
 each p (i ∷ ks) e (later m) = each p ks (and_right (p i) (every_one p ks) e) m
+each p [] e {k = k} x'' = elim x'' [ ]
 
 -- a number of ks is none of ls, if that is so of each
 apart : (ks ls : List ℕ) → every_one (λ k. not (one_of ls k)) ks ≡ true → {k : ℕ} → k ∈ ks → k ∈ ls → ⊥

@@ -16,7 +16,7 @@ pub use iteration::{
 pub use stages::{first_stage, keep_candidate, row, row_and_exchange};
 
 // What an attempt brings.
-#[derive(Drop)]
+#[derive(Clone, Copy)]
 pub struct Arguments {
     pub time: f64,
     pub step: f64,

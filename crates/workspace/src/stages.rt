@@ -30,7 +30,7 @@ pub fn first_stage(area: &mut [f64], n: usize, step: f64, mu_tilde: f64)
 }
 
 // What a row reads at one index.
-#[derive(Drop)]
+#[derive(Clone, Copy)]
 struct Entries {
     one: f64,
     two: f64,
@@ -148,7 +148,7 @@ fn row_in(ten: &mut [f64], n: usize, form: RowForm, c: Coefficients, step: f64, 
 }
 
 // Four elements that follow each other.
-#[derive(Drop)]
+#[derive(Clone, Copy)]
 struct Four {
     a: f64,
     b: f64,

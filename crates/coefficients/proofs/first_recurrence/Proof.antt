@@ -7,27 +7,27 @@ use borrow.Author.Rules.{rules}
 use Rattle.coefficients.proofs.first_recurrence.Statement.{statement}
 use Rattle.coefficients.proofs.first_recurrence.Tie as tie
 
-omega-one-requires : tie.Need-omega-one-requires
+omega-one-requires : tie.Need-omega_one-w-requires
 omega-one-requires c κs = search rules
 
-first-from-requires : tie.Need-first-from-requires
+first-from-requires : tie.Need-first_from-theta-requires
 first-from-requires c κs = search rules
 
-facts-of-requires : tie.Need-facts-of-requires
+facts-of-requires : tie.Need-facts_of-own-requires
 facts-of-requires c κs = search rules
 
-first-polynomials-requires : tie.Need-first-polynomials-requires
+first-polynomials-requires : tie.Need-first_polynomials-polynomials-requires
 first-polynomials-requires c κs = search rules
 
 returns : tie.Need-returns
 unfolding recurrence_of of_bits
 returns c = rw (
-  c.first_polynomials.ensures,
-  ap (λ (x : Facts). x.row) c.before.facts_of.ensures,
-  c.before.before.first-from.ensures,
-  c.before.before.before.omega_one.ensures,
+  c.first_polynomials-polynomials.ensures,
+  ap (λ (x : Facts). x.row) c.facts_of-own.ensures,
+  c.first_from-theta.ensures,
+  c.omega_one-w.ensures,
 )
 
-pub first-recurrence-spec : {M : Type 1} → statement M
-first-recurrence-spec =
+pub first_recurrence_spec : {M : Type 1} → statement M
+first_recurrence_spec =
     tie.close (tie.spec omega-one-requires first-from-requires facts-of-requires first-polynomials-requires returns)

@@ -6,15 +6,15 @@ use borrow.Author.Rules.{rules}
 use Rattle.coefficients.proofs.next_recurrence.Statement.{statement}
 use Rattle.coefficients.proofs.next_recurrence.Tie as tie
 
-facts-of-requires : tie.Need-facts-of-requires
+facts-of-requires : tie.Need-facts_of-own-requires
 facts-of-requires c κs = search rules
 
-next-polynomials-requires : tie.Need-next-polynomials-requires
+next-polynomials-requires : tie.Need-next_polynomials-polynomials-requires
 next-polynomials-requires c κs = search rules
 
 returns : tie.Need-returns
 unfolding next_of
-returns c = rw (c.next_polynomials.ensures, ap (λ (x : Facts). x.row) c.before.before.facts_of.ensures)
+returns c = rw (c.next_polynomials-polynomials.ensures, ap (λ (x : Facts). x.row) c.facts_of-own.ensures)
 
-pub next-recurrence-spec : {M : Type 1} → statement M
-next-recurrence-spec = tie.close (tie.spec facts-of-requires next-polynomials-requires returns)
+pub next_recurrence_spec : {M : Type 1} → statement M
+next_recurrence_spec = tie.close (tie.spec facts-of-requires next-polynomials-requires returns)

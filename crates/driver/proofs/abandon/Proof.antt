@@ -6,27 +6,27 @@ use Rattle.driver.proofs.Ladder.{none_fails, refused_keeps, admitted_keeps, same
 use Rattle.driver.proofs.abandon.Statement.{statement}
 use Rattle.driver.proofs.abandon.Tie as tie
 
-of-abandon-requires : tie.Need-of-abandon-requires
+of-abandon-requires : tie.Need-of_abandon-cause-requires
 of-abandon-requires c κs = search rules
 
 refused-requires : tie.Need-refused-requires
 refused-requires c κs = search rules
 
-returns : tie.Need-returns
+returns : tie.Need-returns-then-cause-ne0
 unfolding abandon
-returns c = refused_keeps _ _ _ c.before.before.of-abandon.ensures c.before.if1.true c.refused.ensures
+returns c = refused_keeps _ _ _ c.of_abandon-cause.ensures c.if-cause-ne0.true c.refused.ensures
 
-abandoned-requires : tie.Need-abandoned-requires
+abandoned-requires : tie.Need-abandoned-empty-requires
 abandoned-requires c κs = search rules
 
-returns-2 : tie.Need-returns-2
+returns-2 : tie.Need-returns
 unfolding abandon abandon_tests
 returns-2 c =
-    admitted_keeps _ _ (none_fails _ refl (sym c.before.before.of-abandon.ensures ∙ c.before.if1.false))
-    (λ _. record { answer = same_answer refl; kept = c.abandoned.ensures; counters = refl; area = refl })
+    admitted_keeps _ _ (none_fails _ refl (sym c.of_abandon-cause.ensures ∙ c.if-cause-ne0.false))
+    (λ _. record { answer = same_answer refl; kept = c.abandoned-empty.ensures; counters = refl; area = refl })
 
-pub abandon-spec : {M : Type 1} → statement M
-abandon-spec =
+pub abandon_spec : {M : Type 1} → statement M
+abandon_spec =
     tie.close
     (tie.spec
     of-abandon-requires

@@ -13,70 +13,70 @@ use Rattle.driver.proofs.Steps.{keeps, attempts, measured}
 use Rattle.driver.proofs.attempt.Statement.{statement}
 use Rattle.driver.proofs.attempt.Tie as tie
 
-of-attempt-requires : tie.Need-of-attempt-requires
+of-attempt-requires : tie.Need-of_attempt-cause-requires
 of-attempt-requires c κs = search rules
 
 refused-requires : tie.Need-refused-requires
 refused-requires c κs = search rules
 
-same_length : tie.Need-same-length
+same_length : tie.Need-shape_of-area-then-cause-ne0
 same_length c = search rules
 
-returns : tie.Need-returns
+returns : tie.Need-returns-then-cause-ne0
 unfolding attempt
-returns c = refused_keeps _ _ _ c.before.before.of-attempt.ensures c.before.if1.true c.refused.ensures
+returns c = refused_keeps _ _ _ c.of_attempt-cause.ensures c.if-cause-ne0.true c.refused.ensures
 
-perturbation-requires : tie.Need-perturbation-requires
+perturbation-requires : tie.Need-perturbation-perturbation-requires
 unfolding attempt_tests
 perturbation-requires c κs =
-    let t = c.before in
-    let a = t.before.before.before.before.args in
+    let t = c in
+    let a = t.args in
     let r = a.«record» in
-    let l = clear r.family r.n a.area.now _ refl t.before.of-attempt.ensures t.if1.false in
+    let l = clear r.family r.n a.area.now _ refl t.of_attempt-cause.ensures t.if-cause-ne0.false in
     whole (family_of r.family) r.n a.area.now l.long
 
-choose-direction-requires : tie.Need-choose-direction-requires
+choose-direction-requires : tie.Need-choose_direction-norm-requires
 unfolding attempt_tests
 choose-direction-requires c κs =
-    let t = c.before.before.before in
-    let a = t.before.before.before.before.args in
+    let t = c in
+    let a = t.args in
     let r = a.«record» in
-    let l = clear r.family r.n a.area.now _ refl t.before.of-attempt.ensures t.if1.false in
+    let l = clear r.family r.n a.area.now _ refl t.of_attempt-cause.ensures t.if-cause-ne0.false in
     whole (family_of r.family) r.n a.area.now l.long
 
-at-pass-requires : tie.Need-at-pass-requires
+at-pass-requires : tie.Need-at_pass-begun-requires
 at-pass-requires c κs = search rules
 
-ask-pass-requires : tie.Need-ask-pass-requires
+ask-pass-requires : tie.Need-ask_pass-requires
 unfolding attempt_tests at_pass
 ask-pass-requires c κs =
-    let t = c.before.before.before.before.before.before.before.before in
-    let a = t.before.before.before.before.args in
+    let t = c in
+    let a = t.args in
     let r = a.«record» in
-    let l = clear r.family r.n a.area.now _ refl t.before.of-attempt.ensures t.if1.false in
-    let n : c.before.at_pass.result.n ≡ r.n = ap (λ (y : Record). y.n) c.before.at_pass.ensures in
-    let chosen = c.before.before.before in
-    rw n (omega (arith, whole (family_of r.family) r.n a.area.now l.long, chosen.area.given), chosen.before.choose-direction.ensures.1)
+    let l = clear r.family r.n a.area.now _ refl t.of_attempt-cause.ensures t.if-cause-ne0.false in
+    let n : c.at_pass-begun.result.n ≡ r.n = ap (λ (y : Record). y.n) c.at_pass-begun.ensures in
+    let chosen = c in
+    rw n (omega (arith, whole (family_of r.family) r.n a.area.now l.long, c.area-1.given), chosen.choose_direction-norm.ensures.1)
 
-same-length-2 : tie.Need-same-length-2
+same-length-2 : tie.Need-shape_of-area
 same-length-2 c = search rules
 
-returns-2 : tie.Need-returns-2
+returns-2 : tie.Need-returns
 unfolding attempt attempt_tests attempted at_pass of_bits
 returns-2 c =
-    let t = c.before.before.before.before.before.before.before.before.before.before.before in
-    let a = t.before.before.before.before.args in
+    let t = c in
+    let a = t.args in
     let r = a.«record» in
-    let l = clear r.family r.n a.area.now _ refl t.before.of-attempt.ensures t.if1.false in
-    let on = c.before.before.before.before.at_pass.ensures in
-    let chosen = c.before.before.before.before.before.before.before.choose-direction.ensures.0.vectors in
-    let perturbation = c.before.before.before.before.before.before.before.before.before.perturbation.ensures in
+    let l = clear r.family r.n a.area.now _ refl t.of_attempt-cause.ensures t.if-cause-ne0.false in
+    let on = c.at_pass-begun.ensures in
+    let chosen = c.choose_direction-norm.ensures.0.vectors in
+    let perturbation = c.perturbation-perturbation.ensures in
     admitted_keeps _ _ l.none
     (keeps (family_of r.family) r.n _ (same-length-2 c ∙ l.long)
-    (attempts r _ a.arguments perturbation on chosen (measured _ _ _ (ap (λ (y : Record). y.n) on) c.before.before.ask_pass.ensures)))
+    (attempts r _ a.arguments perturbation on chosen (measured _ _ _ (ap (λ (y : Record). y.n) on) c.ask_pass.ensures)))
 
-pub attempt-spec : {M : Type 1} → statement M
-attempt-spec =
+pub attempt_spec : {M : Type 1} → statement M
+attempt_spec =
     tie.close
     (tie.spec
     of-attempt-requires

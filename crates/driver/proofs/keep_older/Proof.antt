@@ -17,29 +17,29 @@ twelve : (f : Family) (n : ℕ) (area : List Float) → keeps_older f ≡ true �
 unfolding vector_count
 twelve f n area e l = l ∙ rw e
 
-keeps-older-requires : tie.Need-keeps-older-requires
+keeps-older-requires : tie.Need-keeps_older-requires
 keeps-older-requires c κs = search rules
 
-copy-vector-requires : tie.Need-copy-vector-requires
+copy-vector-requires : tie.Need-copy_vector-requires
 copy-vector-requires c κs =
-    let a = c.before.before.before.before.args in
+    let a = c.args in
     let r = a.«record» in
-    let kept = sym c.before.before.keeps_older.ensures ∙ c.before.if1.true in
-    let l = twelve (family_of r.family) r.n a.area.now kept c.before.before.before.before.requires in
+    let kept = sym c.keeps_older.ensures ∙ c.if-keeps_older.true in
+    let l = twelve (family_of r.family) r.n a.area.now kept c.requires in
     (omega (arith, l), (search rules, (omega (arith, l), omega (arith, l))))
 
-same_length : tie.Need-same-length
+same_length : tie.Need-shape_of-area
 same_length c = search rules
 
-returns : tie.Need-returns
+returns : tie.Need-returns-then-keeps_older
 unfolding with_older
 returns c =
-    let kept = sym c.before.before.before.before.before.keeps_older.ensures ∙ c.before.before.before.before.if1.true in
-    rw kept c.before.before.copy-vector.ensures.vectors
+    let kept = sym c.keeps_older.ensures ∙ c.if-keeps_older.true in
+    rw kept c.copy_vector.ensures.vectors
 
-returns-2 : tie.Need-returns-2
+returns-2 : tie.Need-returns-else-keeps_older
 unfolding with_older
-returns-2 c = rw (sym c.before.keeps_older.ensures ∙ c.if1.false)
+returns-2 c = rw (sym c.keeps_older.ensures ∙ c.if-keeps_older.false)
 
-pub keep-older-spec : {M : Type 1} → statement M
-keep-older-spec = tie.close (tie.spec keeps-older-requires copy-vector-requires same_length returns returns-2)
+pub keep_older_spec : {M : Type 1} → statement M
+keep_older_spec = tie.close (tie.spec keeps-older-requires copy-vector-requires same_length returns returns-2)

@@ -4,12 +4,12 @@ use lib.Ieee.{of_bits}
 use Rattle.driver.proofs.new_record.Statement.{statement}
 use Rattle.driver.proofs.new_record.Tie as tie
 
-no-recurrence-requires : tie.Need-no-recurrence-requires
+no-recurrence-requires : tie.Need-no_recurrence-requires
 no-recurrence-requires c κs = search rules
 
 returns : tie.Need-returns
 unfolding of_bits
 returns c = rw c.no_recurrence.ensures
 
-pub new-record-spec : {M : Type 1} → statement M
-new-record-spec = tie.close (tie.spec no-recurrence-requires returns)
+pub new_record_spec : {M : Type 1} → statement M
+new_record_spec = tie.close (tie.spec no-recurrence-requires returns)

@@ -8,5 +8,5 @@ returns : tie.Need-returns
 unfolding of_bits
 returns c = refl
 
-pub no-recurrence-spec : {M : Type 1} → statement M
-no-recurrence-spec = tie.close (tie.spec returns)
+pub no_recurrence_spec : {M : Type 1} → statement M
+no_recurrence_spec = tie.close (tie.spec returns)

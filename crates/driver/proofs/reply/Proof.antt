@@ -5,38 +5,38 @@ use Rattle.driver.proofs.Going.{has_one, comes}
 use Rattle.driver.proofs.reply.Statement.{statement}
 use Rattle.driver.proofs.reply.Tie as tie
 
-stage-taken-requires : tie.Need-stage-taken-requires
+stage-taken-requires : tie.Need-stage_taken-requires
 stage-taken-requires c κs = search rules
 
-reply-elsewhere-requires : tie.Need-reply-elsewhere-requires
-reply-elsewhere-requires c κs = fails c.before.before.stage_taken.ensures c.before.if1.true
+reply-elsewhere-requires : tie.Need-reply_elsewhere-requires
+reply-elsewhere-requires c κs = fails c.stage_taken.ensures c.if-not-stage_taken.true
 
-same_length : tie.Need-same-length
+same_length : tie.Need-shape_of-area-then-not-stage_taken
 same_length c = search rules
 
-returns : tie.Need-returns
+returns : tie.Need-returns-then-not-stage_taken
 returns c = search rules
 
-reply-in-stages-requires : tie.Need-reply-in-stages-requires
-reply-in-stages-requires c κs = passes c.before.before.stage_taken.ensures c.before.if1.false
+reply-in-stages-requires : tie.Need-reply_in_stages-staged-requires
+reply-in-stages-requires c κs = passes c.stage_taken.ensures c.if-not-stage_taken.false
 
-outcome-of-requires : tie.Need-outcome-of-requires
+outcome-of-requires : tie.Need-outcome_of-next-requires
 outcome-of-requires c κs = search rules
 
-evaluated-with-requires : tie.Need-evaluated-with-requires
+evaluated-with-requires : tie.Need-evaluated_with-requires
 evaluated-with-requires c κs =
-    let t = c.before.before.before.before.before.before in
-    let a = t.before.before.before.before.before.args in
-    has_one a.«record» a.counters a.area.now a.derivative.now (passes t.before.stage_taken.ensures t.if1.false)
+    let t = c in
+    let a = t.args in
+    has_one a.«record» a.counters a.area.now a.derivative.now (passes t.stage_taken.ensures t.if-not-stage_taken.false)
 
-same-length-2 : tie.Need-same-length-2
+same-length-2 : tie.Need-shape_of-area
 same-length-2 c = search rules
 
-returns-2 : tie.Need-returns-2
-returns-2 c = comes c.before.before.before.before.before.reply-in-stages.ensures c.before.before.outcome_of.ensures c.evaluated-with.ensures
+returns-2 : tie.Need-returns
+returns-2 c = comes c.reply_in_stages-staged.ensures c.outcome_of-next.ensures c.evaluated_with.ensures
 
-pub reply-spec : {M : Type 1} → statement M
-reply-spec =
+pub reply_spec : {M : Type 1} → statement M
+reply_spec =
     tie.close
     (tie.spec
     stage-taken-requires

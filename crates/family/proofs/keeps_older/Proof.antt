@@ -6,12 +6,12 @@ use borrow.Author.Rules.{rules}
 use Rattle.family.proofs.keeps_older.Statement.{statement}
 use Rattle.family.proofs.keeps_older.Tie as tie
 
-facts-of-requires : tie.Need-facts-of-requires
+facts-of-requires : tie.Need-facts_of-own-requires
 facts-of-requires c κs = search rules
 
 returns : tie.Need-returns
 unfolding keeps_older
-returns c = ap (λ (x : Facts). x.keeps_older) c.facts_of.ensures
+returns c = ap (λ (x : Facts). x.keeps_older) c.facts_of-own.ensures
 
-pub keeps-older-spec : {M : Type 1} → statement M
-keeps-older-spec = tie.close (tie.spec facts-of-requires returns)
+pub keeps_older_spec : {M : Type 1} → statement M
+keeps_older_spec = tie.close (tie.spec facts-of-requires returns)

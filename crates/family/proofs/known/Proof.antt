@@ -4,13 +4,13 @@ use Rattle.family.specs.Family.{known}
 use Rattle.family.proofs.known.Statement.{statement}
 use Rattle.family.proofs.known.Tie as tie
 
-returns : tie.Need-returns
+returns : tie.Need-returns-then-family-lt1
 unfolding known
-returns c = rw (lt-leb _ _ c.if1.true)
+returns c = rw (lt-leb _ _ c.if-family-lt1.true)
 
-returns-2 : tie.Need-returns-2
+returns-2 : tie.Need-returns
 unfolding known
-returns-2 c = rw (le-leb _ _ c.if1.false)
+returns-2 c = rw (le-leb _ _ c.if-family-lt1.false)
 
-pub known-spec : {M : Type 1} → statement M
-known-spec = tie.close (tie.spec returns returns-2)
+pub known_spec : {M : Type 1} → statement M
+known_spec = tie.close (tie.spec returns returns-2)

@@ -5,13 +5,13 @@ use borrow.Author.Rules.{rules}
 use Rattle.family.proofs.limited.Statement.{statement}
 use Rattle.family.proofs.limited.Tie as tie
 
-facts-of-requires : tie.Need-facts-of-requires
+facts-of-requires : tie.Need-facts_of-own-requires
 facts-of-requires c κs = search rules
 
-larger-requires : tie.Need-larger-requires
+larger-requires : tie.Need-larger-from_smallest-requires
 larger-requires c κs = search rules
 
-odd-step-requires : tie.Need-odd-step-requires
+odd-step-requires : tie.Need-odd_step-requires
 odd-step-requires c κs = search rules
 
 smaller-requires : tie.Need-smaller-requires
@@ -19,10 +19,10 @@ smaller-requires c κs = search rules
 
 returns : tie.Need-returns
 unfolding limited
-returns c = let e = c.before.before.before.facts_of.ensures in
-    rw (c.smaller.ensures, c.before.odd_step.ensures, c.before.before.larger.ensures, row_smallest _ e, row_largest _ e)
+returns c = let e = c.before.before.before.facts_of-own.ensures in
+    rw (c.smaller.ensures, c.before.odd_step.ensures, c.before.before.larger-from_smallest.ensures, row_smallest _ e, row_largest _ e)
 
-pub limited-spec : {M : Type 1} → statement M
-limited-spec =
+pub limited_spec : {M : Type 1} → statement M
+limited_spec =
     tie.close
     (tie.spec facts-of-requires larger-requires odd-step-requires smaller-requires returns)

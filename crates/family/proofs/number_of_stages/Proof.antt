@@ -3,18 +3,18 @@ use borrow.Author.Rules.{rules}
 use Rattle.family.proofs.number_of_stages.Statement.{statement}
 use Rattle.family.proofs.number_of_stages.Tie as tie
 
-facts-of-requires : tie.Need-facts-of-requires
+facts-of-requires : tie.Need-facts_of-own-requires
 facts-of-requires c κs = search rules
 
-radius-for-requires : tie.Need-radius-for-requires
+radius-for-requires : tie.Need-radius_for-requires
 radius-for-requires c κs = search rules
 
-before-limits-requires : tie.Need-before-limits-requires
+before-limits-requires : tie.Need-before_limits-requires
 before-limits-requires c κs = search rules
 
 returns : tie.Need-returns
-returns c = rw (c.before_limits.ensures, c.before.radius_for.ensures, c.before.before.facts_of.ensures)
+returns c = rw (c.before_limits.ensures, c.before.radius_for.ensures, c.before.before.facts_of-own.ensures)
 
-pub number-of-stages-spec : {M : Type 1} → statement M
-number-of-stages-spec =
+pub number_of_stages_spec : {M : Type 1} → statement M
+number_of_stages_spec =
     tie.close (tie.spec facts-of-requires radius-for-requires before-limits-requires returns)

@@ -3,14 +3,14 @@ use borrow.Author.Rules.{rules}
 use Rattle.family.proofs.one_more.Statement.{statement}
 use Rattle.family.proofs.one_more.Tie as tie
 
-add-result : tie.Need-overflow-add-result
+add-result : tie.Need-overflow_add-result
 add-result c = search rules
 
-returns : tie.Need-returns
+returns : tie.Need-returns-then-m-lt18446744073709551615
 returns c = search rules
 
-returns-2 : tie.Need-returns-2
+returns-2 : tie.Need-returns-else-m-lt18446744073709551615
 returns-2 c = search rules
 
-pub one-more-spec : {M : Type 1} → statement M
-one-more-spec = tie.close (tie.spec add-result returns returns-2)
+pub one_more_spec : {M : Type 1} → statement M
+one_more_spec = tie.close (tie.spec add-result returns returns-2)

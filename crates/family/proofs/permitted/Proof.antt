@@ -6,41 +6,41 @@ use borrow.Author.Rules.{rules}
 use Rattle.family.proofs.permitted.Statement.{statement}
 use Rattle.family.proofs.permitted.Tie as tie
 
-facts-of-requires : tie.Need-facts-of-requires
+facts-of-requires : tie.Need-facts_of-own-requires
 facts-of-requires c κs = search rules
 
-returns : tie.Need-returns
+returns : tie.Need-returns-then-s-own
 unfolding permitted
-returns c = let e = c.before.before.facts_of.ensures in rw (← row_smallest _ e, lt-leb _ _ c.if1.true)
+returns c = let e = c.before.before.facts_of-own.ensures in rw (← row_smallest _ e, lt-leb _ _ c.if-s-own.true)
 
-returns-2 : tie.Need-returns-2
+returns-2 : tie.Need-returns-then-s-own-2
 unfolding permitted
-returns-2 c = let e = c.before.before.before.before.facts_of.ensures in
-    rw (← row_smallest _ e, ← row_largest _ e, le-leb _ _ c.before.before.if1.false, lt-leb _ _ c.if2.true)
+returns-2 c = let e = c.before.before.before.before.facts_of-own.ensures in
+    rw (← row_smallest _ e, ← row_largest _ e, le-leb _ _ c.before.before.if-s-own.false, lt-leb _ _ c.if-s-own-2.true)
 
-returns-3 : tie.Need-returns-3
+returns-3 : tie.Need-returns-then-own
 unfolding permitted
-returns-3 c = let e = c.before.before.before.before.before.facts_of.ensures in
+returns-3 c = let e = c.before.before.before.before.before.facts_of-own.ensures in
     rw (
       ← row_smallest _ e,
       ← row_largest _ e,
       ← row_odd _ e,
-      le-leb _ _ c.before.before.before.if1.false,
-      le-leb _ _ c.before.if2.false,
-      c.if3.true,
+      le-leb _ _ c.before.before.before.if-s-own.false,
+      le-leb _ _ c.before.if-s-own-2.false,
+      c.if-own.true,
     )
 
-returns-4 : tie.Need-returns-4
+returns-4 : tie.Need-returns
 unfolding permitted
-returns-4 c = let e = c.before.before.before.before.before.facts_of.ensures in
+returns-4 c = let e = c.before.before.before.before.before.facts_of-own.ensures in
     rw (
       ← row_smallest _ e,
       ← row_largest _ e,
       ← row_odd _ e,
-      le-leb _ _ c.before.before.before.if1.false,
-      le-leb _ _ c.before.if2.false,
-      c.if3.false,
+      le-leb _ _ c.before.before.before.if-s-own.false,
+      le-leb _ _ c.before.if-s-own-2.false,
+      c.if-own.false,
     )
 
-pub permitted-spec : {M : Type 1} → statement M
-permitted-spec = tie.close (tie.spec facts-of-requires returns returns-2 returns-3 returns-4)
+pub permitted_spec : {M : Type 1} → statement M
+permitted_spec = tie.close (tie.spec facts-of-requires returns returns-2 returns-3 returns-4)

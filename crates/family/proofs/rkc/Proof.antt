@@ -10,5 +10,5 @@ returns : tie.Need-returns
 unfolding facts_of nearest of_bits
 returns c = refl
 
-pub rkc-spec : {M : Type 1} → statement M
-rkc-spec = tie.close (tie.spec returns)
+pub rkc_spec : {M : Type 1} → statement M
+rkc_spec = tie.close (tie.spec returns)

@@ -9,5 +9,5 @@ returns : tie.Need-returns
 unfolding facts_of of_bits
 returns c = refl
 
-pub rkmc2-spec : {M : Type 1} → statement M
-rkmc2-spec = tie.close (tie.spec returns)
+pub rkmc2_spec : {M : Type 1} → statement M
+rkmc2_spec = tie.close (tie.spec returns)

@@ -5,7 +5,7 @@ use borrow.Author.Rules.{rules}
 use Rattle.family.proofs.stages.Statement.{statement}
 use Rattle.family.proofs.stages.Tie as tie
 
-number-of-stages-requires : tie.Need-number-of-stages-requires
+number-of-stages-requires : tie.Need-number_of_stages-requires
 number-of-stages-requires c κs = search rules
 
 limited-requires : tie.Need-limited-requires
@@ -15,5 +15,5 @@ returns : tie.Need-returns
 unfolding stage_count
 returns c = rw (c.limited.ensures, c.before.number_of_stages.ensures, limited_saturated)
 
-pub stages-spec : {M : Type 1} → statement M
-stages-spec = tie.close (tie.spec number-of-stages-requires limited-requires returns)
+pub stages_spec : {M : Type 1} → statement M
+stages_spec = tie.close (tie.spec number-of-stages-requires limited-requires returns)

@@ -10,5 +10,5 @@ returns : tie.Need-returns
 unfolding facts_of nearest of_bits
 returns c = refl
 
-pub tsrkc2-spec : {M : Type 1} → statement M
-tsrkc2-spec = tie.close (tie.spec returns)
+pub tsrkc2_spec : {M : Type 1} → statement M
+tsrkc2_spec = tie.close (tie.spec returns)

@@ -8,5 +8,5 @@ returns : tie.Need-returns
 unfolding of_bits
 returns c = refl
 
-pub without-history-spec : {M : Type 1} → statement M
-without-history-spec = tie.close (tie.spec returns)
+pub without_history_spec : {M : Type 1} → statement M
+without_history_spec = tie.close (tie.spec returns)

@@ -10,14 +10,14 @@ pattern : (x : Float) → x ≡ nan → 0x7ff8000000000000 ≡ to_bits binary64 
 unfolding to_bits
 pattern x e = ap (to_bits binary64) (sym e)
 
-returns : tie.Need-returns
-returns c = pattern _ (differs_from_itself _ (subst T (sym c.if1.true) tt))
+returns : tie.Need-returns-then-x
+returns c = pattern _ (differs_from_itself _ (subst T (sym c.if-x.true) tt))
 
-float-to-bits-result : tie.Need-float-to-bits-result
-float-to-bits-result c = no_nan _ c.if1.false
+float-to-bits-result : tie.Need-float_to_bits-result
+float-to-bits-result c = no_nan _ c.if-x.false
 
-returns-2 : tie.Need-returns-2
+returns-2 : tie.Need-returns
 returns-2 c = refl
 
-pub bits-of-spec : {M : Type 1} → statement M
-bits-of-spec = tie.close (tie.spec returns float-to-bits-result returns-2)
+pub bits_of_spec : {M : Type 1} → statement M
+bits_of_spec = tie.close (tie.spec returns float-to-bits-result returns-2)

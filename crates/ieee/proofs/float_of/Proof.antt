@@ -11,16 +11,16 @@ is-nan nan t = refl
 is-nan (inf s) t = absurd t
 is-nan (fin s m e) t = absurd t
 
-returns : tie.Need-returns
+returns : tie.Need-returns-then-bits-gt9218868437227405312
 unfolding div of_bits
 returns c = let b = c.before.args.bits in is-nan (of_bits binary64 b)
-    (subst T (sym (sym (nan_bits_is binary64 b) ∙ nan_bits_above binary64 b ∙ lt-ltb _ _ c.if1.true)) tt)
+    (subst T (sym (sym (nan_bits_is binary64 b) ∙ nan_bits_above binary64 b ∙ lt-ltb _ _ c.if-bits-gt9218868437227405312.true)) tt)
 
-float-from-bits-result : tie.Need-float-from-bits-result
-float-from-bits-result c = subst (λ (b : Bool). T (not b)) (sym (nan_bits_above binary64 c.before.args.bits ∙ le-ltb _ _ c.if1.false)) tt
+float-from-bits-result : tie.Need-float_from_bits-result
+float-from-bits-result c = subst (λ (b : Bool). T (not b)) (sym (nan_bits_above binary64 c.before.args.bits ∙ le-ltb _ _ c.if-bits-gt9218868437227405312.false)) tt
 
-returns-2 : tie.Need-returns-2
+returns-2 : tie.Need-returns
 returns-2 c = refl
 
-pub float-of-spec : {M : Type 1} → statement M
-float-of-spec = tie.close (tie.spec returns float-from-bits-result returns-2)
+pub float_of_spec : {M : Type 1} → statement M
+float_of_spec = tie.close (tie.spec returns float-from-bits-result returns-2)

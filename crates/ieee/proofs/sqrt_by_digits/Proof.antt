@@ -7,62 +7,62 @@ use Rattle.ieee.proofs.sqrt_by_digits.Statement.{statement}
 use Rattle.ieee.proofs.sqrt_by_digits.Tie as tie
 
 held : (c : tie.Start) → T (fits binary64 c.args.x)
-held c = yes c.well-formed.0.1
+held c = yes c.well_formed.0.1
 
-up : (c : tie.Then1) → Above c.before.args.x
+up : (c : tie.Then-x) → Above c.before.args.x
 unfolding of_bits
-up c = positive c.before.args.x c.if1.true
+up c = positive c.before.args.x c.if-x.true
 
-float-to-bits-b : tie.Need-float-to-bits-b
+float-to-bits-b : tie.Need-float_to_bits-b
 float-to-bits-b c = above_no_nan c.before.args.x (up c)
 
-returns : tie.Need-returns
-returns c = let e = c.before in let a = e.before in high_root a.args.x (held a) (up e) c.if2.true
+returns : tie.Need-returns-then-b-ge9218868437227405312
+returns c = let e = c.before in let a = e.before in high_root a.args.x (held a) (up e) c.if-b-ge9218868437227405312.true
 
-root-bits-requires : tie.Need-root-bits-requires
+root-bits-requires : tie.Need-root_bits-requires
 root-bits-requires c κs =
     let e = c.before.before in
     let a = e.before in
-    (low_digits a.args.x (held a) (up e) c.if3.true, search rules, search rules)
+    (low_digits a.args.x (held a) (up e) c.if-field-eq0.true, search rules, search rules)
 
-float-from-bits-result : tie.Need-float-from-bits-result
+float-from-bits-result : tie.Need-float_from_bits-result
 float-from-bits-result c = low_bits c.root_bits.result c.root_bits.ensures.0
 
-returns-2 : tie.Need-returns-2
+returns-2 : tie.Need-returns-then-field-eq0
 returns-2 c =
     let e = c.before.before.before in
     let a = e.before in
-    c.root_bits.ensures.1 ∙ low_root a.args.x (held a) (up e) c.before.if3.true
+    c.root_bits.ensures.1 ∙ low_root a.args.x (held a) (up e) c.before.if-field-eq0.true
 
-add-root-bits : tie.Need-overflow-add-root-bits
+add-root-bits : tie.Need-overflow_add-t
 add-root-bits c = search rules
 
-sub-root-bits : tie.Need-overflow-sub-root-bits
+sub-root-bits : tie.Need-overflow_sub-field
 sub-root-bits c = search rules
 
-root-bits-requires-2 : tie.Need-root-bits-requires-2
+root-bits-requires-2 : tie.Need-root_bits-requires-then-x
 root-bits-requires-2 c κs = search rules
 
-float-from-bits-result-2 : tie.Need-float-from-bits-result-2
-float-from-bits-result-2 c = low_bits c.root-bits2.result c.root-bits2.ensures.0
+float-from-bits-result-2 : tie.Need-float_from_bits-result-then-x
+float-from-bits-result-2 c = low_bits c.root_bits-then-x.result c.root_bits-then-x.ensures.0
 
-returns-3 : tie.Need-returns-3
+returns-3 : tie.Need-returns-then-x
 returns-3 c =
     let s = c.before in
     let e = s.before.before in
     let a = e.before in
-    c.root-bits2.ensures.1 ∙ mid_root a.args.x (held a) (up e) s.if3.false s.before.if2.false
+    c.root_bits-then-x.ensures.1 ∙ mid_root a.args.x (held a) (up e) s.if-field-eq0.false s.before.if-b-ge9218868437227405312.false
 
-returns-4 : tie.Need-returns-4
+returns-4 : tie.Need-returns-then-x-2
 unfolding of_bits div
-returns-4 c = negative_root c.before.before.args.x c.if4.true
+returns-4 c = negative_root c.before.before.args.x c.if-x-2.true
 
-returns-5 : tie.Need-returns-5
+returns-5 : tie.Need-returns
 unfolding of_bits
-returns-5 c = neither_root c.before.before.args.x c.before.if1.false c.if4.false
+returns-5 c = neither_root c.before.before.args.x c.before.if-x.false c.if-x-2.false
 
-pub sqrt-by-digits-spec : {M : Type 1} → statement M
-sqrt-by-digits-spec =
+pub sqrt_by_digits_spec : {M : Type 1} → statement M
+sqrt_by_digits_spec =
     tie.close
     (tie.spec
     float-to-bits-b

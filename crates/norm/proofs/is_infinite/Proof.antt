@@ -8,5 +8,5 @@ returns : tie.Need-returns
 unfolding of_bits div
 returns c = refl
 
-pub is-infinite-spec : {M : Type 1} → statement M
-is-infinite-spec = tie.close (tie.spec returns)
+pub is_infinite_spec : {M : Type 1} → statement M
+is_infinite_spec = tie.close (tie.spec returns)

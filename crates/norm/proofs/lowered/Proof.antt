@@ -9,5 +9,5 @@ returns : tie.Need-returns
 unfolding of_bits lowered
 returns c = refl
 
-pub lowered-spec : {M : Type 1} → statement M
-lowered-spec = tie.close (tie.spec returns)
+pub lowered_spec : {M : Type 1} → statement M
+lowered_spec = tie.close (tie.spec returns)

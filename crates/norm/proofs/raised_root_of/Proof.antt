@@ -6,12 +6,12 @@ use borrow.Author.Rules.{rules}
 use Rattle.norm.proofs.raised_root_of.Statement.{statement}
 use Rattle.norm.proofs.raised_root_of.Tie as tie
 
-root-of-requires : tie.Need-root-of-requires
+root-of-requires : tie.Need-root_of-requires
 root-of-requires c κs = search rules
 
 returns : tie.Need-returns
 unfolding of_bits raised
-returns c = ap raised c.root-of.ensures
+returns c = ap raised c.root_of.ensures
 
-pub raised-root-of-spec : {M : Type 1} → statement M
-raised-root-of-spec = tie.close (tie.spec root-of-requires returns)
+pub raised_root_of_spec : {M : Type 1} → statement M
+raised_root_of_spec = tie.close (tie.spec root-of-requires returns)

@@ -11,5 +11,5 @@ returns : tie.Need-returns
 unfolding root_over
 returns c = c.sqrt.ensures
 
-pub root-of-spec : {M : Type 1} → statement M
-root-of-spec = tie.close (tie.spec sqrt-requires returns)
+pub root_of_spec : {M : Type 1} → statement M
+root_of_spec = tie.close (tie.spec sqrt-requires returns)

@@ -10,44 +10,44 @@ use native.Mathlib.Omega.{arith}
 use Rattle.norm.proofs.sum_of_squares.Statement.{statement}
 use Rattle.norm.proofs.sum_of_squares.Tie as tie
 
-abbrev invariant-loop : tie.invariant-loop
+abbrev invariant-loop : tie.invariant-loop-i
 invariant-loop v t₀ i₀ t i = (i ≤ length v) × (t ≡ sum_of_squares (take i v))
 
-abbrev decreases-loop : tie.decreases-loop
+abbrev decreases-loop : tie.decreases-loop-i
 decreases-loop v t₀ i₀ t i = length v - i
 
-loop-holds : tie.Need-loop-init invariant-loop decreases-loop
+loop-holds : tie.Need-loop-i-init invariant-loop decreases-loop
 unfolding sum_of_squares of_bits
 loop-holds c = (omega arith, refl)
 
-mul-t : tie.Need-overflow-mul-t invariant-loop decreases-loop
+mul-t : tie.Need-offset_bounds-v-i invariant-loop decreases-loop
 mul-t c = omega arith
 
-shared-slice-read-t : tie.Need-shared-slice-read-t invariant-loop decreases-loop
+shared-slice-read-t : tie.Need-bounds-v-i invariant-loop decreases-loop
 shared-slice-read-t c = omega arith
 
-mul-t-2 : tie.Need-overflow-mul-t-2 invariant-loop decreases-loop
+mul-t-2 : tie.Need-offset_bounds-v-i-in-loop-i invariant-loop decreases-loop
 mul-t-2 c = omega arith
 
-shared-slice-read-t-2 : tie.Need-shared-slice-read-t-2 invariant-loop decreases-loop
+shared-slice-read-t-2 : tie.Need-bounds-v-i-in-loop-i invariant-loop decreases-loop
 shared-slice-read-t-2 c = omega arith
 
-add-i : tie.Need-overflow-add-i invariant-loop decreases-loop
+add-i : tie.Need-overflow_add-i invariant-loop decreases-loop
 add-i c = omega arith
 
-loop-less : tie.Need-loop-smaller invariant-loop decreases-loop
+loop-less : tie.Need-loop-i-smaller invariant-loop decreases-loop
 loop-less c = omega arith
 
-loop-again : tie.Need-loop-preserved invariant-loop decreases-loop
+loop-again : tie.Need-loop-i-preserved invariant-loop decreases-loop
 loop-again c =
-    let l = c.before.before.before.loop in
+    let l = c.before.before.before.loop-i in
     (omega arith, next_sum c.before.before.before.before.args.v.now l.i (omega arith) l.invariant.1 refl)
 
 returns : tie.Need-returns invariant-loop decreases-loop
-returns c = c.before.loop.invariant.1 ∙ ap sum_of_squares (take_all _ _ c.loop-test.false)
+returns c = c.before.loop-i.invariant.1 ∙ ap sum_of_squares (take_all _ _ c.loop-i-test.false)
 
-pub sum-of-squares-spec : {M : Type 1} → statement M
-sum-of-squares-spec =
+pub sum_of_squares_spec : {M : Type 1} → statement M
+sum_of_squares_spec =
     tie.close
     (tie.spec
     invariant-loop

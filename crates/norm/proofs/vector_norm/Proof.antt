@@ -10,43 +10,43 @@ use borrow.Author.Rules.{rules}
 use Rattle.norm.proofs.vector_norm.Statement.{statement}
 use Rattle.norm.proofs.vector_norm.Tie as tie
 
-sum-of-squares-requires : tie.Need-sum-of-squares-requires
+sum-of-squares-requires : tie.Need-sum_of_squares-sum-requires
 sum-of-squares-requires c κs = search rules
 
-is-infinite-requires : tie.Need-is-infinite-requires
+is-infinite-requires : tie.Need-is_infinite-requires
 is-infinite-requires c κs = search rules
 
-all-finite-requires : tie.Need-all-finite-requires
+all-finite-requires : tie.Need-all_finite-requires
 all-finite-requires c κs = search rules
 
-sum-of-lowered-requires : tie.Need-sum-of-lowered-requires
+sum-of-lowered-requires : tie.Need-sum_of_lowered-requires
 sum-of-lowered-requires c κs = search rules
 
-raised-root-of-requires : tie.Need-raised-root-of-requires
+raised-root-of-requires : tie.Need-raised_root_of-requires
 raised-root-of-requires c κs = search rules
 
-returns : tie.Need-returns
+returns : tie.Need-returns-then-all_finite
 unfolding vector_norm of_bits
 returns c =
-    c.raised-root-of.ensures
-    ∙ ap (λ (s : Float). raised (root_over one s)) c.before.sum-of-lowered.ensures
-    ∙ sym (by_second_sum one _ c.before.before.before.before.before.before.sum_of_squares.ensures
-    (sym c.before.before.before.before.before.is-infinite.ensures ∙ c.before.before.before.before.if1.true)
-    (sym c.before.before.before.all_finite.ensures ∙ c.before.before.if2.true))
+    c.raised_root_of.ensures
+    ∙ ap (λ (s : Float). raised (root_over one s)) c.before.sum_of_lowered.ensures
+    ∙ sym (by_second_sum one _ c.before.before.before.before.before.before.sum_of_squares-sum.ensures
+    (sym c.before.before.before.before.before.is_infinite.ensures ∙ c.before.before.before.before.if-is_infinite.true)
+    (sym c.before.before.before.all_finite.ensures ∙ c.before.before.if-all_finite.true))
 
-root-of-requires : tie.Need-root-of-requires
+root-of-requires : tie.Need-root_of-requires
 root-of-requires c κs = search rules
 
-returns-2 : tie.Need-returns-2
+returns-2 : tie.Need-returns
 unfolding vector_norm of_bits
 returns-2 c =
     let v = c.before.before.before.before.before.args.v.now in
-    let first : (eq c.before.before.before.sum_of_squares.result (inf false) ≡ false) ⊎ (all_finite v ≡ false) =
-    ⊎_elim (λ w. inr (sym w.1.ensures ∙ w.2.left)) (λ w. inl (sym c.before.before.is-infinite.ensures ∙ w.left)) c.before.if1.branch in
-    c.root-of.ensures ∙ sym (by_first_sum one v c.before.before.before.sum_of_squares.ensures first)
+    let first : (eq c.before.before.before.sum_of_squares-sum.result (inf false) ≡ false) ⊎ (all_finite v ≡ false) =
+    ⊎_elim (λ w. inr (sym w.all_finite.ensures ∙ w.if-all_finite.false)) (λ w. inl (sym c.before.before.is_infinite.ensures ∙ w.if-is_infinite.false)) c.before.if-is_infinite.branch-raw in
+    c.root_of.ensures ∙ sym (by_first_sum one v c.before.before.before.sum_of_squares-sum.ensures first)
 
-pub vector-norm-spec : {M : Type 1} → statement M
-vector-norm-spec =
+pub vector_norm_spec : {M : Type 1} → statement M
+vector_norm_spec =
     tie.close
     (tie.spec
     sum-of-squares-requires

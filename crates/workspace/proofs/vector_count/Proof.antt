@@ -4,16 +4,16 @@ use Rattle.workspace.proofs.vector_count.Statement.{statement}
 use Rattle.workspace.proofs.vector_count.Tie as tie
 use borrow.Author.Rules.{rules}
 
-keeps-older-requires : tie.Need-keeps-older-requires
+keeps-older-requires : tie.Need-keeps_older-requires
 keeps-older-requires c κs = search rules
 
-returns : tie.Need-returns
+returns : tie.Need-returns-then-keeps_older
 unfolding vector_count
-returns c = rw (← c.before.keeps_older.ensures, c.if1.true)
+returns c = rw (← c.keeps_older.ensures, c.if-keeps_older.true)
 
-returns-2 : tie.Need-returns-2
+returns-2 : tie.Need-returns-else-keeps_older
 unfolding vector_count
-returns-2 c = rw (← c.before.keeps_older.ensures, c.if1.false)
+returns-2 c = rw (← c.keeps_older.ensures, c.if-keeps_older.false)
 
-pub vector-count-spec : {M : Type 1} → statement M
-vector-count-spec = tie.close (tie.spec keeps-older-requires returns returns-2)
+pub vector_count_spec : {M : Type 1} → statement M
+vector_count_spec = tie.close (tie.spec keeps-older-requires returns returns-2)

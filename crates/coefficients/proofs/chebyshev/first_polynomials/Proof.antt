@@ -5,15 +5,15 @@ use borrow.Author.Rules.{rules}
 use Rattle.coefficients.proofs.chebyshev.first_polynomials.Statement.{statement}
 use Rattle.coefficients.proofs.chebyshev.first_polynomials.Tie as tie
 
-omega-zero-requires : tie.Need-omega-zero-requires
+omega-zero-requires : tie.Need-omega_zero-w-requires
 omega-zero-requires c κs = search rules
 
-first-b-requires : tie.Need-first-b-requires
+first-b-requires : tie.Need-first_b-b-requires
 first-b-requires c κs = search rules
 
 returns : tie.Need-returns
 unfolding first_polynomials of_bits
-returns c = rw (c.first-b.ensures, c.before.omega_zero.ensures)
+returns c = rw (c.first_b-b.ensures, c.omega_zero-w.ensures)
 
-pub first-polynomials-spec : {M : Type 1} → statement M
-first-polynomials-spec = tie.close (tie.spec omega-zero-requires first-b-requires returns)
+pub first_polynomials_spec : {M : Type 1} → statement M
+first_polynomials_spec = tie.close (tie.spec omega-zero-requires first-b-requires returns)

@@ -10,5 +10,5 @@ returns : tie.Need-returns
 unfolding polynomials_on b_of value_of first_of second_of square of_bits
 returns c = refl
 
-pub next-polynomials-spec : {M : Type 1} → statement M
-next-polynomials-spec = tie.close (tie.spec returns)
+pub next_polynomials_spec : {M : Type 1} → statement M
+next_polynomials_spec = tie.close (tie.spec returns)

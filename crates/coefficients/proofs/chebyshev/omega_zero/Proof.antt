@@ -6,12 +6,12 @@ use borrow.Author.Rules.{rules}
 use Rattle.coefficients.proofs.chebyshev.omega_zero.Statement.{statement}
 use Rattle.coefficients.proofs.chebyshev.omega_zero.Tie as tie
 
-double-of-requires : tie.Need-double-of-requires
+double-of-requires : tie.Need-double_of-x-requires
 double-of-requires c κs = search rules
 
 returns : tie.Need-returns
 unfolding omega_zero square of_bits
-returns c = rw c.double-of.ensures
+returns c = rw c.double_of-x.ensures
 
-pub omega-zero-spec : {M : Type 1} → statement M
-omega-zero-spec = tie.close (tie.spec double-of-requires returns)
+pub omega_zero_spec : {M : Type 1} → statement M
+omega_zero_spec = tie.close (tie.spec double-of-requires returns)

@@ -18,20 +18,20 @@ b-late zero h l = absurd (h refl)
 b-late (suc zero) h l = absurd (l refl)
 b-late (suc (suc i)) h l = refl
 
-returns : tie.Need-returns
+returns : tie.Need-returns-then-j-eq0
 unfolding gegenbauer_two_b of_bits
-returns c = rw c.if1.true
+returns c = rw c.if-j-eq0.true
 
-returns-2 : tie.Need-returns-2
+returns-2 : tie.Need-returns-then-j-eq1
 unfolding gegenbauer_two_b of_bits
-returns-2 c = rw c.if2.true
+returns-2 c = rw c.if-j-eq1.true
 
-double-of-requires : tie.Need-double-of-requires
+double-of-requires : tie.Need-double_of-x-requires
 double-of-requires c κs = search rules
 
-returns-3 : tie.Need-returns-3
+returns-3 : tie.Need-returns
 unfolding late of_bits
-returns-3 c = ap late c.double-of.ensures ∙ b-late _ c.before.before.if1.false c.before.if2.false
+returns-3 c = ap late c.double_of-x.ensures ∙ b-late _ c.if-j-eq0.false c.if-j-eq1.false
 
-pub gegenbauer-two-b-spec : {M : Type 1} → statement M
-gegenbauer-two-b-spec = tie.close (tie.spec returns returns-2 double-of-requires returns-3)
+pub gegenbauer_two_b_spec : {M : Type 1} → statement M
+gegenbauer_two_b_spec = tie.close (tie.spec returns returns-2 double-of-requires returns-3)

@@ -5,12 +5,12 @@ use borrow.Author.Rules.{rules}
 use Rattle.coefficients.proofs.orthogonal.gegenbauer_two_omega.Statement.{statement}
 use Rattle.coefficients.proofs.orthogonal.gegenbauer_two_omega.Tie as tie
 
-double-of-requires : tie.Need-double-of-requires
+double-of-requires : tie.Need-double_of-x-requires
 double-of-requires c κs = search rules
 
 returns : tie.Need-returns
 unfolding orthogonal_omega of_bits
-returns c = rw c.double-of.ensures
+returns c = rw c.double_of-x.ensures
 
-pub gegenbauer-two-omega-spec : {M : Type 1} → statement M
-gegenbauer-two-omega-spec = tie.close (tie.spec double-of-requires returns)
+pub gegenbauer_two_omega_spec : {M : Type 1} → statement M
+gegenbauer_two_omega_spec = tie.close (tie.spec double-of-requires returns)

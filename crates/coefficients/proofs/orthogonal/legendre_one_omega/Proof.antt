@@ -6,12 +6,12 @@ use borrow.Author.Rules.{rules}
 use Rattle.coefficients.proofs.orthogonal.legendre_one_omega.Statement.{statement}
 use Rattle.coefficients.proofs.orthogonal.legendre_one_omega.Tie as tie
 
-double-of-requires : tie.Need-double-of-requires
+double-of-requires : tie.Need-double_of-x-requires
 double-of-requires c κs = search rules
 
 returns : tie.Need-returns
 unfolding orthogonal_omega square of_bits
-returns c = rw c.double-of.ensures
+returns c = rw c.double_of-x.ensures
 
-pub legendre-one-omega-spec : {M : Type 1} → statement M
-legendre-one-omega-spec = tie.close (tie.spec double-of-requires returns)
+pub legendre_one_omega_spec : {M : Type 1} → statement M
+legendre_one_omega_spec = tie.close (tie.spec double-of-requires returns)

@@ -5,39 +5,39 @@ use borrow.Author.Rules.{rules}
 use Rattle.coefficients.proofs.orthogonal.legendre_two.Statement.{statement}
 use Rattle.coefficients.proofs.orthogonal.legendre_two.Tie as tie
 
-double-of-requires : tie.Need-double-of-requires
+double-of-requires : tie.Need-double_of-x-requires
 double-of-requires c κs = search rules
 
-legendre-two-b-requires : tie.Need-legendre-two-b-requires
+legendre-two-b-requires : tie.Need-legendre_two_b-b-requires
 legendre-two-b-requires c κs = search rules
 
-sub-legendre-two-b : tie.Need-overflow-sub-legendre-two-b
+sub-legendre-two-b : tie.Need-overflow_sub-j
 sub-legendre-two-b c = search rules
 
-legendre-two-b-requires-2 : tie.Need-legendre-two-b-requires-2
+legendre-two-b-requires-2 : tie.Need-legendre_two_b-b_previous-requires
 legendre-two-b-requires-2 c κs = search rules
 
-sub-legendre-two-b-2 : tie.Need-overflow-sub-legendre-two-b-2
+sub-legendre-two-b-2 : tie.Need-overflow_sub-j-2
 sub-legendre-two-b-2 c = search rules
 
-legendre-two-b-requires-3 : tie.Need-legendre-two-b-requires-3
+legendre-two-b-requires-3 : tie.Need-legendre_two_b-b_previous_two-requires
 legendre-two-b-requires-3 c κs = search rules
 
-with-theta-requires : tie.Need-with-theta-requires
+with-theta-requires : tie.Need-with_theta-requires
 with-theta-requires c κs = search rules
 
 returns : tie.Need-returns
 unfolding legendre_two of_bits
 returns c = rw (
   c.with_theta.ensures,
-  c.before.legendre-two-b3.ensures,
-  c.before.before.legendre-two-b2.ensures,
-  c.before.before.before.legendre_two_b.ensures,
-  c.before.before.before.before.double-of.ensures,
+  c.legendre_two_b-b_previous_two.ensures,
+  c.legendre_two_b-b_previous.ensures,
+  c.legendre_two_b-b.ensures,
+  c.double_of-x.ensures,
 )
 
-pub legendre-two-spec : {M : Type 1} → statement M
-legendre-two-spec =
+pub legendre_two_spec : {M : Type 1} → statement M
+legendre_two_spec =
     tie.close
     (tie.spec
     double-of-requires

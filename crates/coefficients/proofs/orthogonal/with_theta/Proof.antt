@@ -8,5 +8,5 @@ returns : tie.Need-returns
 unfolding with_theta
 returns c = refl
 
-pub with-theta-spec : {M : Type 1} → statement M
-with-theta-spec = tie.close (tie.spec returns)
+pub with_theta_spec : {M : Type 1} → statement M
+with_theta_spec = tie.close (tie.spec returns)

@@ -9,5 +9,5 @@ returns : tie.Need-returns
 unfolding rkmc2_polynomials_on rkmc2_b_of value_of of_bits
 returns c = refl
 
-pub next-polynomials-spec : {M : Type 1} → statement M
-next-polynomials-spec = tie.close (tie.spec returns)
+pub next_polynomials_spec : {M : Type 1} → statement M
+next_polynomials_spec = tie.close (tie.spec returns)

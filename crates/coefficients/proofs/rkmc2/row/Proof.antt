@@ -6,16 +6,16 @@ use borrow.Author.Rules.{rules}
 use Rattle.coefficients.proofs.rkmc2.row.Statement.{statement}
 use Rattle.coefficients.proofs.rkmc2.row.Tie as tie
 
-next-polynomials-requires : tie.Need-next-polynomials-requires
+next-polynomials-requires : tie.Need-next_polynomials-after-requires
 next-polynomials-requires c κs = search rules
 
-row-from-requires : tie.Need-row-from-requires
+row-from-requires : tie.Need-row_from-requires
 unfolding rkmc2_polynomials_on
-row-from-requires c κs = ap (λ (p : Polynomials). p.b_previous) c.next_polynomials.ensures
+row-from-requires c κs = ap (λ (p : Polynomials). p.b_previous) c.next_polynomials-after.ensures
 
 returns : tie.Need-returns
 returns c = c.row_from.ensures
 
-pub row-spec : {M : Type 1} → statement M
-row-spec =
+pub row_spec : {M : Type 1} → statement M
+row_spec =
     tie.close (tie.spec next-polynomials-requires row-from-requires returns)

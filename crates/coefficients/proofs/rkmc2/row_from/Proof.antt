@@ -6,7 +6,7 @@ use Rattle.coefficients.proofs.rkmc2.row_from.Tie as tie
 
 returns : tie.Need-returns
 unfolding rkmc2_row of_bits
-returns c = rw c.before.before.before.before.before.before.before.before.before.requires
+returns c = rw c.requires
 
-pub row-from-spec : {M : Type 1} → statement M
-row-from-spec = tie.close (tie.spec returns)
+pub row_from_spec : {M : Type 1} → statement M
+row_from_spec = tie.close (tie.spec returns)

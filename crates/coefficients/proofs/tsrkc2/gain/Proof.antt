@@ -6,12 +6,12 @@ use borrow.Author.Rules.{rules}
 use Rattle.coefficients.proofs.tsrkc2.gain.Statement.{statement}
 use Rattle.coefficients.proofs.tsrkc2.gain.Tie as tie
 
-derivative-t-star-requires : tie.Need-derivative-t-star-requires
+derivative-t-star-requires : tie.Need-derivative_t_star-requires
 derivative-t-star-requires c κs = search rules
 
 returns : tie.Need-returns
 unfolding tsrkc2_gain nearest of_bits
 returns c = rw c.derivative_t_star.ensures
 
-pub gain-spec : {M : Type 1} → statement M
-gain-spec = tie.close (tie.spec derivative-t-star-requires returns)
+pub gain_spec : {M : Type 1} → statement M
+gain_spec = tie.close (tie.spec derivative-t-star-requires returns)

@@ -6,22 +6,22 @@ use borrow.Author.Rules.{rules}
 use Rattle.coefficients.proofs.tsrkc2.omega_one.Statement.{statement}
 use Rattle.coefficients.proofs.tsrkc2.omega_one.Tie as tie
 
-derivative-t-star-requires : tie.Need-derivative-t-star-requires
+derivative-t-star-requires : tie.Need-derivative_t_star-first-requires
 derivative-t-star-requires c κs = search rules
 
-second-derivative-t-star-requires : tie.Need-second-derivative-t-star-requires
+second-derivative-t-star-requires : tie.Need-second_derivative_t_star-second-requires
 second-derivative-t-star-requires c κs = search rules
 
-sqrt-requires : tie.Need-sqrt-requires
+sqrt-requires : tie.Need-sqrt-root-requires
 sqrt-requires c κs = search rules
 
 returns : tie.Need-returns
 unfolding tsrkc2_omega_one nearest square of_bits
 returns c = rw (
-  c.sqrt.ensures,
-  c.before.second_derivative_t_star.ensures,
-  c.before.before.derivative_t_star.ensures,
+  c.sqrt-root.ensures,
+  c.second_derivative_t_star-second.ensures,
+  c.derivative_t_star-first.ensures,
 )
 
-pub omega-one-spec : {M : Type 1} → statement M
-omega-one-spec = tie.close (tie.spec derivative-t-star-requires second-derivative-t-star-requires sqrt-requires returns)
+pub omega_one_spec : {M : Type 1} → statement M
+omega_one_spec = tie.close (tie.spec derivative-t-star-requires second-derivative-t-star-requires sqrt-requires returns)

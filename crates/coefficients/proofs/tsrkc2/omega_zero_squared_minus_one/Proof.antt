@@ -5,12 +5,12 @@ use borrow.Author.Rules.{rules}
 use Rattle.coefficients.proofs.tsrkc2.omega_zero_squared_minus_one.Statement.{statement}
 use Rattle.coefficients.proofs.tsrkc2.omega_zero_squared_minus_one.Tie as tie
 
-omega-zero-minus-one-requires : tie.Need-omega-zero-minus-one-requires
+omega-zero-minus-one-requires : tie.Need-omega_zero_minus_one-w-requires
 omega-zero-minus-one-requires c κs = search rules
 
 returns : tie.Need-returns
 unfolding omega_zero_squared_minus_one of_bits
-returns c = rw c.omega_zero_minus_one.ensures
+returns c = rw c.omega_zero_minus_one-w.ensures
 
-pub omega-zero-squared-minus-one-spec : {M : Type 1} → statement M
-omega-zero-squared-minus-one-spec = tie.close (tie.spec omega-zero-minus-one-requires returns)
+pub omega_zero_squared_minus_one_spec : {M : Type 1} → statement M
+omega_zero_squared_minus_one_spec = tie.close (tie.spec omega-zero-minus-one-requires returns)

@@ -9,37 +9,37 @@ use Rattle.driver.proofs.causes.of_abandon.Tie as tie
 known-requires : tie.Need-known-requires
 known-requires c κs = search rules
 
-returns : tie.Need-returns
+returns : tie.Need-returns-then-not-known
 unfolding abandon_tests
 returns c = search ladder depth 20
 
 sized-requires : tie.Need-sized-requires
 sized-requires c κs = search rules
 
-returns-2 : tie.Need-returns-2
+returns-2 : tie.Need-returns-then-not-sized
 unfolding abandon_tests
 returns-2 c = search ladder depth 20
 
-whole-area-requires : tie.Need-whole-area-requires
-whole-area-requires c κs = most _ (passes c.before.sized.ensures c.if2.false)
+whole-area-requires : tie.Need-whole_area-requires
+whole-area-requires c κs = most _ (passes c.sized.ensures c.if-not-sized.false)
 
-returns-3 : tie.Need-returns-3
+returns-3 : tie.Need-returns-then-not-whole_area
 unfolding abandon_tests
 returns-3 c = search ladder depth 20
 
 awaiting-requires : tie.Need-awaiting-requires
 awaiting-requires c κs = search rules
 
-returns-4 : tie.Need-returns-4
+returns-4 : tie.Need-returns-then-not-awaiting
 unfolding abandon_tests
 returns-4 c = search ladder depth 20
 
-returns-5 : tie.Need-returns-5
+returns-5 : tie.Need-returns
 unfolding abandon_tests
 returns-5 c = search ladder depth 20
 
-pub of-abandon-spec : {M : Type 1} → statement M
-of-abandon-spec =
+pub of_abandon_spec : {M : Type 1} → statement M
+of_abandon_spec =
     tie.close
     (tie.spec
     known-requires

@@ -9,51 +9,51 @@ use Rattle.driver.proofs.causes.of_attempt.Tie as tie
 known-requires : tie.Need-known-requires
 known-requires c κs = search rules
 
-returns : tie.Need-returns
+returns : tie.Need-returns-then-not-known
 unfolding attempt_tests
 returns c = search ladder depth 20
 
 sized-requires : tie.Need-sized-requires
 sized-requires c κs = search rules
 
-returns-2 : tie.Need-returns-2
+returns-2 : tie.Need-returns-then-not-sized
 unfolding attempt_tests
 returns-2 c = search ladder depth 20
 
-whole-area-requires : tie.Need-whole-area-requires
-whole-area-requires c κs = most _ (passes c.before.sized.ensures c.if2.false)
+whole-area-requires : tie.Need-whole_area-requires
+whole-area-requires c κs = most _ (passes c.sized.ensures c.if-not-sized.false)
 
-returns-3 : tie.Need-returns-3
+returns-3 : tie.Need-returns-then-not-whole_area
 unfolding attempt_tests
 returns-3 c = search ladder depth 20
 
-may-attempt-requires : tie.Need-may-attempt-requires
+may-attempt-requires : tie.Need-may_attempt-requires
 may-attempt-requires c κs = search rules
 
-returns-4 : tie.Need-returns-4
+returns-4 : tie.Need-returns-then-not-may_attempt
 unfolding attempt_tests
 returns-4 c = search ladder depth 20
 
-good-times-requires : tie.Need-good-times-requires
+good-times-requires : tie.Need-good_times-requires
 good-times-requires c κs = search rules
 
-returns-5 : tie.Need-returns-5
+returns-5 : tie.Need-returns-then-not-good_times
 unfolding attempt_tests
 returns-5 c = search ladder depth 20
 
-good-tolerances-requires : tie.Need-good-tolerances-requires
+good-tolerances-requires : tie.Need-good_tolerances-requires
 good-tolerances-requires c κs = search rules
 
-returns-6 : tie.Need-returns-6
+returns-6 : tie.Need-returns-then-not-good_tolerances
 unfolding attempt_tests
 returns-6 c = search ladder depth 20
 
-returns-7 : tie.Need-returns-7
+returns-7 : tie.Need-returns
 unfolding attempt_tests
 returns-7 c = search ladder depth 20
 
-pub of-attempt-spec : {M : Type 1} → statement M
-of-attempt-spec =
+pub of_attempt_spec : {M : Type 1} → statement M
+of_attempt_spec =
     tie.close
     (tie.spec
     known-requires

@@ -9,44 +9,44 @@ use Rattle.driver.proofs.causes.of_start.Tie as tie
 known-requires : tie.Need-known-requires
 known-requires c κs = search rules
 
-returns : tie.Need-returns
+returns : tie.Need-returns-then-not-known
 unfolding start_tests
 returns c = search ladder depth 20
 
 sized-requires : tie.Need-sized-requires
 sized-requires c κs = search rules
 
-returns-2 : tie.Need-returns-2
+returns-2 : tie.Need-returns-then-not-sized
 unfolding start_tests
 returns-2 c = search ladder depth 20
 
-both-long-requires : tie.Need-both-long-requires
-both-long-requires c κs = most _ (passes c.before.sized.ensures c.if2.false)
+both-long-requires : tie.Need-both_long-requires
+both-long-requires c κs = most _ (passes c.sized.ensures c.if-not-sized.false)
 
-returns-3 : tie.Need-returns-3
+returns-3 : tie.Need-returns-then-not-both_long
 unfolding start_tests
 returns-3 c = search ladder depth 20
 
-all-finite-requires : tie.Need-all-finite-requires
+all-finite-requires : tie.Need-all_finite-requires
 all-finite-requires c κs = search rules
 
-returns-4 : tie.Need-returns-4
+returns-4 : tie.Need-returns-then-not-all_finite
 unfolding start_tests
 returns-4 c = search ladder depth 20
 
-is-finite-requires : tie.Need-is-finite-requires
+is-finite-requires : tie.Need-is_finite-requires
 is-finite-requires c κs = search rules
 
-returns-5 : tie.Need-returns-5
+returns-5 : tie.Need-returns-then-not-is_finite
 unfolding start_tests
 returns-5 c = search ladder depth 20
 
-returns-6 : tie.Need-returns-6
+returns-6 : tie.Need-returns
 unfolding start_tests
 returns-6 c = search ladder depth 20
 
-pub of-start-spec : {M : Type 1} → statement M
-of-start-spec =
+pub of_start_spec : {M : Type 1} → statement M
+of_start_spec =
     tie.close
     (tie.spec
     known-requires

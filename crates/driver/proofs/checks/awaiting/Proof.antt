@@ -8,16 +8,16 @@ use Rattle.driver.proofs.checks.awaiting.Tie as tie
 pending-requires : tie.Need-pending-requires
 pending-requires c κs = search rules
 
-returns : tie.Need-returns
+returns : tie.Need-returns-then-not-pending
 unfolding awaiting
-returns c = stop _ (fails c.before.pending.ensures c.if1.true)
+returns c = stop _ (fails c.pending.ensures c.if-not-pending.true)
 
-in-range-requires : tie.Need-in-range-requires
+in-range-requires : tie.Need-in_range-requires
 in-range-requires c κs = search rules
 
-returns-2 : tie.Need-returns-2
+returns-2 : tie.Need-returns
 unfolding awaiting
-returns-2 c = go_on (passes c.before.before.pending.ensures c.before.if1.false) c.in_range.ensures
+returns-2 c = go_on (passes c.pending.ensures c.if-not-pending.false) c.in_range.ensures
 
-pub awaiting-spec : {M : Type 1} → statement M
-awaiting-spec = tie.close (tie.spec pending-requires returns in-range-requires returns-2)
+pub awaiting_spec : {M : Type 1} → statement M
+awaiting_spec = tie.close (tie.spec pending-requires returns in-range-requires returns-2)

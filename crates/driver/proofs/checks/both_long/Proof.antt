@@ -6,15 +6,15 @@ use Rattle.driver.proofs.Ladder.{fails, passes, stop, go_on}
 use Rattle.driver.proofs.checks.both_long.Statement.{statement}
 use Rattle.driver.proofs.checks.both_long.Tie as tie
 
-whole-area-requires : tie.Need-whole-area-requires
+whole-area-requires : tie.Need-whole_area-requires
 whole-area-requires c κs = search rules
 
-returns : tie.Need-returns
-returns c = stop _ (fails c.before.whole_area.ensures c.if1.true)
+returns : tie.Need-returns-then-not-whole_area
+returns c = stop _ (fails c.whole_area.ensures c.if-not-whole_area.true)
 
-returns-2 : tie.Need-returns-2
+returns-2 : tie.Need-returns
 unfolding as_long
-returns-2 c = go_on (passes c.before.whole_area.ensures c.if1.false) refl
+returns-2 c = go_on (passes c.whole_area.ensures c.if-not-whole_area.false) refl
 
-pub both-long-spec : {M : Type 1} → statement M
-both-long-spec = tie.close (tie.spec whole-area-requires returns returns-2)
+pub both_long_spec : {M : Type 1} → statement M
+both_long_spec = tie.close (tie.spec whole-area-requires returns returns-2)

@@ -4,12 +4,12 @@ use Rattle.driver.specs.Calls.{finishes}
 use Rattle.driver.proofs.checks.finishes.Statement.{statement}
 use Rattle.driver.proofs.checks.finishes.Tie as tie
 
-same-phase-requires : tie.Need-same-phase-requires
+same-phase-requires : tie.Need-same_phase-requires
 same-phase-requires c κs = search rules
 
 returns : tie.Need-returns
 unfolding finishes
 returns c = c.same_phase.ensures
 
-pub finishes-spec : {M : Type 1} → statement M
-finishes-spec = tie.close (tie.spec same-phase-requires returns)
+pub finishes_spec : {M : Type 1} → statement M
+finishes_spec = tie.close (tie.spec same-phase-requires returns)

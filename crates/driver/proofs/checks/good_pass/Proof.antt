@@ -5,11 +5,11 @@ use Rattle.driver.proofs.Ladder.{stop, go_on}
 use Rattle.driver.proofs.checks.good_pass.Statement.{statement}
 use Rattle.driver.proofs.checks.good_pass.Tie as tie
 
-returns : tie.Need-returns
-returns c = stop _ (lt-leb _ _ c.if1.true)
+returns : tie.Need-returns-then-pass-lt1
+returns c = stop _ (lt-leb _ _ c.if-pass-lt1.true)
 
-returns-2 : tie.Need-returns-2
-returns-2 c = go_on (le-leb _ _ c.if1.false) refl
+returns-2 : tie.Need-returns
+returns-2 c = go_on (le-leb _ _ c.if-pass-lt1.false) refl
 
-pub good-pass-spec : {M : Type 1} → statement M
-good-pass-spec = tie.close (tie.spec returns returns-2)
+pub good_pass_spec : {M : Type 1} → statement M
+good_pass_spec = tie.close (tie.spec returns returns-2)

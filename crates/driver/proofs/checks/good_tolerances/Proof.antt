@@ -5,20 +5,20 @@ use Rattle.driver.proofs.Ladder.{fails, passes, stop, go_on}
 use Rattle.driver.proofs.checks.good_tolerances.Statement.{statement}
 use Rattle.driver.proofs.checks.good_tolerances.Tie as tie
 
-good-tolerance-requires : tie.Need-good-tolerance-requires
+good-tolerance-requires : tie.Need-good_tolerance-requires
 good-tolerance-requires c κs = search rules
 
-returns : tie.Need-returns
+returns : tie.Need-returns-then-not-good_tolerance
 unfolding good_tolerances
-returns c = stop _ (fails c.before.good_tolerance.ensures c.if1.true)
+returns c = stop _ (fails c.good_tolerance.ensures c.if-not-good_tolerance.true)
 
-good-tolerance-requires-2 : tie.Need-good-tolerance-requires-2
+good-tolerance-requires-2 : tie.Need-good_tolerance-requires-2
 good-tolerance-requires-2 c κs = search rules
 
-returns-2 : tie.Need-returns-2
+returns-2 : tie.Need-returns
 unfolding good_tolerances
-returns-2 c = go_on (passes c.before.before.good_tolerance.ensures c.before.if1.false) c.good-tolerance2.ensures
+returns-2 c = go_on (passes c.good_tolerance.ensures c.if-not-good_tolerance.false) c.good_tolerance-2.ensures
 
-pub good-tolerances-spec : {M : Type 1} → statement M
-good-tolerances-spec =
+pub good_tolerances_spec : {M : Type 1} → statement M
+good_tolerances_spec =
     tie.close (tie.spec good-tolerance-requires returns good-tolerance-requires-2 returns-2)

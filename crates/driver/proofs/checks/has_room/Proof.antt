@@ -9,27 +9,27 @@ use Rattle.driver.proofs.checks.has_room.Tie as tie
 room-requires : tie.Need-room-requires
 room-requires c κs = search rules
 
-returns : tie.Need-returns
+returns : tie.Need-returns-then-not-room
 unfolding has_room
-returns c = stop _ (fails c.before.room.ensures c.if1.true)
+returns c = stop _ (fails c.room.ensures c.if-not-room.true)
 
 finishes-requires : tie.Need-finishes-requires
 finishes-requires c κs = search rules
 
-room-requires-2 : tie.Need-room-requires-2
+room-requires-2 : tie.Need-room-requires-then-finishes
 room-requires-2 c κs = search rules
 
-returns-2 : tie.Need-returns-2
+returns-2 : tie.Need-returns-then-finishes
 unfolding has_room
-returns-2 c = go_on (passes c.before.before.before.before.room.ensures c.before.before.before.if1.false)
-    (put_to (sym c.before.before.finishes.ensures ∙ c.before.if2.true) c.room2.ensures)
+returns-2 c = go_on (passes c.room.ensures c.if-not-room.false)
+    (put_to (sym c.finishes.ensures ∙ c.if-finishes.true) c.room-then-finishes.ensures)
 
-returns-3 : tie.Need-returns-3
+returns-3 : tie.Need-returns
 unfolding has_room
-returns-3 c = go_on (passes c.before.before.before.room.ensures c.before.before.if1.false)
-    (spared _ (sym c.before.finishes.ensures ∙ c.if2.false))
+returns-3 c = go_on (passes c.room.ensures c.if-not-room.false)
+    (spared _ (sym c.finishes.ensures ∙ c.if-finishes.false))
 
-pub has-room-spec : {M : Type 1} → statement M
-has-room-spec =
+pub has_room_spec : {M : Type 1} → statement M
+has_room_spec =
     tie.close
     (tie.spec room-requires returns finishes-requires room-requires-2 returns-2 returns-3)

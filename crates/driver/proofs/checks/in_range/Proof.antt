@@ -9,63 +9,63 @@ use Rattle.driver.proofs.Ladder.{in_case, otherwise}
 use Rattle.driver.proofs.checks.in_range.Statement.{statement}
 use Rattle.driver.proofs.checks.in_range.Tie as tie
 
-good-pass-requires : tie.Need-good-pass-requires
+good-pass-requires : tie.Need-good_pass-pass-requires
 good-pass-requires c κs = search rules
 
-setting-of-requires : tie.Need-setting-of-requires
+setting-of-requires : tie.Need-setting_of-requires
 setting-of-requires c κs = search rules
 
-permits-requires : tie.Need-permits-requires
+permits-requires : tie.Need-permits-permitted-requires
 permits-requires c κs = search rules
 
-same-phase-requires : tie.Need-same-phase-requires
+same-phase-requires : tie.Need-same_phase-requires
 same-phase-requires c κs = search rules
 
-returns : tie.Need-returns
+returns : tie.Need-returns-then-same_phase
 unfolding in_range
-returns c = in_case _ (sym c.before.same_phase.ensures ∙ c.if1.true) c.before.before.before.before.good_pass.ensures
+returns c = in_case _ (sym c.same_phase.ensures ∙ c.if-same_phase.true) c.good_pass-pass.ensures
 
-same-phase-requires-2 : tie.Need-same-phase-requires-2
+same-phase-requires-2 : tie.Need-same_phase-requires-2
 same-phase-requires-2 c κs = search rules
 
-returns-2 : tie.Need-returns-2
+returns-2 : tie.Need-returns-then-same_phase-2
 unfolding in_range
 returns-2 c =
-    let d = c.before.before in
-    let e = d.before.before in
-    let r = e.before.before.before.args.«record» in
-    otherwise _ (sym d.before.same_phase.ensures ∙ d.if1.false)
-    (in_case _ (sym c.before.same-phase2.ensures ∙ c.if2.true)
+    let d = c in
+    let e = d in
+    let r = e.args.«record» in
+    otherwise _ (sym d.same_phase.ensures ∙ d.if-same_phase.false)
+    (in_case _ (sym c.same_phase-2.ensures ∙ c.if-same_phase-2.true)
     (ap (λ (t : Bool). t && (leb 2 r.staging.stage && leb r.staging.stage r.staging.stages))
-    (e.permits.ensures ∙ ap (λ (m : Setting). permits m r.staging.stages) e.before.setting_of.ensures)))
+    (e.permits-permitted.ensures ∙ ap (λ (m : Setting). permits m r.staging.stages) e.setting_of.ensures)))
 
-same-phase-requires-3 : tie.Need-same-phase-requires-3
+same-phase-requires-3 : tie.Need-same_phase-requires-3
 same-phase-requires-3 c κs = search rules
 
-returns-3 : tie.Need-returns-3
+returns-3 : tie.Need-returns-then-same_phase-3
 unfolding in_range
 returns-3 c =
-    let d = c.before.before in
-    let e = d.before.before in
-    let f = e.before.before in
-    let r = f.before.before.before.args.«record» in
-    otherwise _ (sym e.before.same_phase.ensures ∙ e.if1.false)
-    (otherwise _ (sym d.before.same-phase2.ensures ∙ d.if2.false)
-    (in_case _ (sym c.before.same-phase3.ensures ∙ c.if3.true)
-    (ap₂ ◌&&◌ f.before.before.good_pass.ensures
-    (f.permits.ensures ∙ ap (λ (m : Setting). permits m r.staging.stages) f.before.setting_of.ensures))))
+    let d = c in
+    let e = d in
+    let f = e in
+    let r = f.args.«record» in
+    otherwise _ (sym e.same_phase.ensures ∙ e.if-same_phase.false)
+    (otherwise _ (sym d.same_phase-2.ensures ∙ d.if-same_phase-2.false)
+    (in_case _ (sym c.same_phase-3.ensures ∙ c.if-same_phase-3.true)
+    (ap₂ ◌&&◌ f.good_pass-pass.ensures
+    (f.permits-permitted.ensures ∙ ap (λ (m : Setting). permits m r.staging.stages) f.setting_of.ensures))))
 
-returns-4 : tie.Need-returns-4
+returns-4 : tie.Need-returns
 unfolding in_range
 returns-4 c =
-    let d = c.before.before in
-    let e = d.before.before in
-    otherwise _ (sym e.before.same_phase.ensures ∙ e.if1.false)
-    (otherwise _ (sym d.before.same-phase2.ensures ∙ d.if2.false)
-    (otherwise _ (sym c.before.same-phase3.ensures ∙ c.if3.false) refl))
+    let d = c in
+    let e = d in
+    otherwise _ (sym e.same_phase.ensures ∙ e.if-same_phase.false)
+    (otherwise _ (sym d.same_phase-2.ensures ∙ d.if-same_phase-2.false)
+    (otherwise _ (sym c.same_phase-3.ensures ∙ c.if-same_phase-3.false) refl))
 
-pub in-range-spec : {M : Type 1} → statement M
-in-range-spec =
+pub in_range_spec : {M : Type 1} → statement M
+in_range_spec =
     tie.close
     (tie.spec
     good-pass-requires

@@ -4,12 +4,12 @@ use Rattle.driver.specs.Calls.{may_accept}
 use Rattle.driver.proofs.checks.may_accept.Statement.{statement}
 use Rattle.driver.proofs.checks.may_accept.Tie as tie
 
-same-phase-requires : tie.Need-same-phase-requires
+same-phase-requires : tie.Need-same_phase-requires
 same-phase-requires c κs = search rules
 
 returns : tie.Need-returns
 unfolding may_accept
 returns c = c.same_phase.ensures
 
-pub may-accept-spec : {M : Type 1} → statement M
-may-accept-spec = tie.close (tie.spec same-phase-requires returns)
+pub may_accept_spec : {M : Type 1} → statement M
+may_accept_spec = tie.close (tie.spec same-phase-requires returns)

@@ -6,15 +6,15 @@ use Rattle.driver.specs.Calls.{may_attempt}
 use Rattle.driver.proofs.checks.may_attempt.Statement.{statement}
 use Rattle.driver.proofs.checks.may_attempt.Tie as tie
 
-same-phase-requires : tie.Need-same-phase-requires
+same-phase-requires : tie.Need-same_phase-ready-requires
 same-phase-requires c κs = search rules
 
-same-phase-requires-2 : tie.Need-same-phase-requires-2
+same-phase-requires-2 : tie.Need-same_phase-finished-requires
 same-phase-requires-2 c κs = search rules
 
 returns : tie.Need-returns
 unfolding may_attempt
-returns c = ap₂ ◌||◌ c.before.same_phase.ensures c.same-phase2.ensures
+returns c = ap₂ ◌||◌ c.same_phase-ready.ensures c.same_phase-finished.ensures
 
-pub may-attempt-spec : {M : Type 1} → statement M
-may-attempt-spec = tie.close (tie.spec same-phase-requires same-phase-requires-2 returns)
+pub may_attempt_spec : {M : Type 1} → statement M
+may_attempt_spec = tie.close (tie.spec same-phase-requires same-phase-requires-2 returns)

@@ -6,18 +6,18 @@ use Rattle.driver.specs.Calls.{pending}
 use Rattle.driver.proofs.checks.pending.Statement.{statement}
 use Rattle.driver.proofs.checks.pending.Tie as tie
 
-same-phase-requires : tie.Need-same-phase-requires
+same-phase-requires : tie.Need-same_phase-empty-requires
 same-phase-requires c κs = search rules
 
-same-phase-requires-2 : tie.Need-same-phase-requires-2
+same-phase-requires-2 : tie.Need-same_phase-ready-requires
 same-phase-requires-2 c κs = search rules
 
-same-phase-requires-3 : tie.Need-same-phase-requires-3
+same-phase-requires-3 : tie.Need-same_phase-finished-requires
 same-phase-requires-3 c κs = search rules
 
 returns : tie.Need-returns
 unfolding pending
-returns c = ap not (ap₂ ◌||◌ (ap₂ ◌||◌ c.before.before.same_phase.ensures c.before.same-phase2.ensures) c.same-phase3.ensures)
+returns c = ap not (ap₂ ◌||◌ (ap₂ ◌||◌ c.same_phase-empty.ensures c.same_phase-ready.ensures) c.same_phase-finished.ensures)
 
-pub pending-spec : {M : Type 1} → statement M
-pending-spec = tie.close (tie.spec same-phase-requires same-phase-requires-2 same-phase-requires-3 returns)
+pub pending_spec : {M : Type 1} → statement M
+pending_spec = tie.close (tie.spec same-phase-requires same-phase-requires-2 same-phase-requires-3 returns)

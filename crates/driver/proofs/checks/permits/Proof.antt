@@ -9,5 +9,5 @@ permitted-requires c κs = search rules
 returns : tie.Need-returns
 returns c = c.permitted.ensures
 
-pub permits-spec : {M : Type 1} → statement M
-permits-spec = tie.close (tie.spec permitted-requires returns)
+pub permits_spec : {M : Type 1} → statement M
+permits_spec = tie.close (tie.spec permitted-requires returns)

@@ -8,5 +8,5 @@ returns : tie.Need-returns
 unfolding room
 returns c = refl
 
-pub room-spec : {M : Type 1} → statement M
-room-spec = tie.close (tie.spec returns)
+pub room_spec : {M : Type 1} → statement M
+room_spec = tie.close (tie.spec returns)

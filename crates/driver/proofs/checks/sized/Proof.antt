@@ -6,13 +6,13 @@ use Rattle.driver.proofs.Ladder.{stop, go_on}
 use Rattle.driver.proofs.checks.sized.Statement.{statement}
 use Rattle.driver.proofs.checks.sized.Tie as tie
 
-returns : tie.Need-returns
+returns : tie.Need-returns-then-n-lt1
 unfolding sized
-returns c = stop _ (lt-leb _ _ c.if1.true)
+returns c = stop _ (lt-leb _ _ c.if-n-lt1.true)
 
-returns-2 : tie.Need-returns-2
+returns-2 : tie.Need-returns
 unfolding sized
-returns-2 c = go_on (le-leb _ _ c.if1.false) refl
+returns-2 c = go_on (le-leb _ _ c.if-n-lt1.false) refl
 
-pub sized-spec : {M : Type 1} → statement M
-sized-spec = tie.close (tie.spec returns returns-2)
+pub sized_spec : {M : Type 1} → statement M
+sized_spec = tie.close (tie.spec returns returns-2)

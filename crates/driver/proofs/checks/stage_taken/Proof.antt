@@ -3,7 +3,6 @@ use mathlib.Core.Path.{◌≡◌, sym, ap, ap₂, ◌∙◌}
 use mathlib.Core.Bool.{Bool, ◌&&◌}
 use Rattle.family.specs.declared.Setting.{Setting}
 use borrow.Author.Rules.{rules}
-use borrow.Author.Tests.{not-false}
 use Rattle.driver.specs.declared.Record.{Record}
 use Rattle.driver.specs.Calls.{setting_of, good_stage}
 use Rattle.driver.specs.Promises.{stage_taken}
@@ -16,61 +15,61 @@ placed : (r : Record) {b : Bool} {m : Setting} → b ≡ good_stage m r.staging.
     → b ≡ good_stage (setting_of r) r.staging.stages r.staging.stage
 placed r g e = g ∙ ap (λ (m : Setting). good_stage m r.staging.stages r.staging.stage) e
 
-known-requires : tie.Need-known-requires
+known-requires : tie.Need-known-family-requires
 known-requires c κs = search rules
 
-sized-requires : tie.Need-sized-requires
+sized-requires : tie.Need-sized-size-requires
 sized-requires c κs = search rules
 
-in-stages-requires : tie.Need-in-stages-requires
+in-stages-requires : tie.Need-in_stages-stages-requires
 in-stages-requires c κs = search rules
 
-room-requires : tie.Need-room-requires
+room-requires : tie.Need-room-more-requires
 room-requires c κs = search rules
 
-returns : tie.Need-returns
+returns : tie.Need-returns-then-not-first
 unfolding stage_taken
 returns c =
-    stop _ (fails (all_four c.before.before.before.before.known.ensures c.before.before.before.sized.ensures
-    c.before.before.in_stages.ensures c.before.room.ensures) c.if1.true)
+    stop _ (fails (all_four c.known-family.ensures c.sized-size.ensures
+    c.in_stages-stages.ensures c.room-more.ensures) c.if-not-first.true)
 
-both-long-requires : tie.Need-both-long-requires
+both-long-requires : tie.Need-both_long-lengths-requires
 both-long-requires c κs =
-    let f = four c.before.before.before.before.known.result c.before.before.before.sized.result c.before.before.in_stages.result
-    c.before.room.result (not-false _ c.if1.false) in
-    most _ (sym c.before.before.before.sized.ensures ∙ f.1)
+    let f = four c.known-family.result c.sized-size.result c.in_stages-stages.result
+    c.room-more.result c.if-not-first.false in
+    most _ (sym c.sized-size.ensures ∙ f.1)
 
-setting-of-requires : tie.Need-setting-of-requires
+setting-of-requires : tie.Need-setting_of-requires
 setting-of-requires c κs = search rules
 
-good-stage-requires : tie.Need-good-stage-requires
+good-stage-requires : tie.Need-good_stage-place-requires
 good-stage-requires c κs = search rules
 
-returns-2 : tie.Need-returns-2
+returns-2 : tie.Need-returns-then-not-second
 unfolding stage_taken
 returns-2 c =
-    let d = c.before.before.before.before in
-    go_on (passes (all_four d.before.before.before.before.known.ensures d.before.before.before.sized.ensures
-    d.before.before.in_stages.ensures d.before.room.ensures) d.if1.false)
-    (stop _ (fails (ap₂ ◌&&◌ c.before.before.before.both_long.ensures
-    (placed c.before.before.before.before.before.before.before.before.before.before.before.args.«record» c.before.good_stage.ensures
-    c.before.before.setting_of.ensures)) c.if2.true))
+    let d = c in
+    go_on (passes (all_four d.known-family.ensures d.sized-size.ensures
+    d.in_stages-stages.ensures d.room-more.ensures) d.if-not-first.false)
+    (stop _ (fails (ap₂ ◌&&◌ c.both_long-lengths.ensures
+    (placed c.args.«record» c.good_stage-place.ensures
+    c.setting_of.ensures)) c.if-not-second.true))
 
-all-finite-requires : tie.Need-all-finite-requires
+all-finite-requires : tie.Need-all_finite-requires
 all-finite-requires c κs = search rules
 
-returns-3 : tie.Need-returns-3
+returns-3 : tie.Need-returns
 unfolding stage_taken
 returns-3 c =
-    let d = c.before.before.before.before.before in
-    go_on (passes (all_four d.before.before.before.before.known.ensures d.before.before.before.sized.ensures
-    d.before.before.in_stages.ensures d.before.room.ensures) d.if1.false)
-    (go_on (passes (ap₂ ◌&&◌ c.before.before.before.before.both_long.ensures
-    (placed c.before.before.before.before.before.before.before.before.before.before.before.before.args.«record»
-    c.before.before.good_stage.ensures c.before.before.before.setting_of.ensures)) c.before.if2.false) c.all_finite.ensures)
+    let d = c in
+    go_on (passes (all_four d.known-family.ensures d.sized-size.ensures
+    d.in_stages-stages.ensures d.room-more.ensures) d.if-not-first.false)
+    (go_on (passes (ap₂ ◌&&◌ c.both_long-lengths.ensures
+    (placed c.args.«record»
+    c.good_stage-place.ensures c.setting_of.ensures)) c.if-not-second.false) c.all_finite.ensures)
 
-pub stage-taken-spec : {M : Type 1} → statement M
-stage-taken-spec =
+pub stage_taken_spec : {M : Type 1} → statement M
+stage_taken_spec =
     tie.close
     (tie.spec
     known-requires

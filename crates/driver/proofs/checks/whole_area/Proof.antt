@@ -6,15 +6,15 @@ use Rattle.driver.specs.Calls.{whole_area}
 use Rattle.driver.proofs.checks.whole_area.Statement.{statement}
 use Rattle.driver.proofs.checks.whole_area.Tie as tie
 
-vector-count-requires : tie.Need-vector-count-requires
+vector-count-requires : tie.Need-vector_count-requires
 vector-count-requires c κs = search rules
 
-mul-whole : tie.Need-overflow-mul-whole
-mul-whole c = omega (arith, at_most_twelve _ c.before.before.args.n c.vector_count.ensures, c.before.before.requires)
+mul-whole : tie.Need-overflow_mul-whole
+mul-whole c = omega (arith, at_most_twelve _ c.args.n c.vector_count.ensures, c.requires)
 
 returns : tie.Need-returns
 unfolding whole_area
 returns c = rw c.vector_count.ensures
 
-pub whole-area-spec : {M : Type 1} → statement M
-whole-area-spec = tie.close (tie.spec vector-count-requires mul-whole returns)
+pub whole_area_spec : {M : Type 1} → statement M
+whole_area_spec = tie.close (tie.spec vector-count-requires mul-whole returns)

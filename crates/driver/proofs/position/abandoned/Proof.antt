@@ -4,18 +4,18 @@ use borrow.Author.Rules.{rules}
 use Rattle.driver.proofs.position.abandoned.Statement.{statement}
 use Rattle.driver.proofs.position.abandoned.Tie as tie
 
-in-phase-requires : tie.Need-in-phase-requires
+in-phase-requires : tie.Need-in_phase-empty-requires
 in-phase-requires c κs = search rules
 
-no-history-requires : tie.Need-no-history-requires
+no-history-requires : tie.Need-no_history-requires
 no-history-requires c κs = search rules
 
-with-history-requires : tie.Need-with-history-requires
+with-history-requires : tie.Need-with_history-requires
 with-history-requires c κs = search rules
 
 returns : tie.Need-returns
 unfolding in_phase
-returns c = rw (c.with_history.ensures, c.before.no-history.ensures, c.before.before.in_phase.ensures)
+returns c = rw (c.with_history.ensures, c.no_history.ensures, c.in_phase-empty.ensures)
 
-pub abandoned-spec : {M : Type 1} → statement M
-abandoned-spec = tie.close (tie.spec in-phase-requires no-history-requires with-history-requires returns)
+pub abandoned_spec : {M : Type 1} → statement M
+abandoned_spec = tie.close (tie.spec in-phase-requires no-history-requires with-history-requires returns)

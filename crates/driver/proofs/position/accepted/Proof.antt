@@ -3,17 +3,17 @@ use borrow.Author.Rules.{rules}
 use Rattle.driver.proofs.position.accepted.Statement.{statement}
 use Rattle.driver.proofs.position.accepted.Tie as tie
 
-in-phase-requires : tie.Need-in-phase-requires
+in-phase-requires : tie.Need-in_phase-ready-requires
 in-phase-requires c κs = search rules
 
-history-after-requires : tie.Need-history-after-requires
+history-after-requires : tie.Need-history_after-requires
 history-after-requires c κs = search rules
 
-with-history-requires : tie.Need-with-history-requires
+with-history-requires : tie.Need-with_history-requires
 with-history-requires c κs = search rules
 
 returns : tie.Need-returns
-returns c = rw (c.with_history.ensures, c.before.history_after.ensures, c.before.before.in_phase.ensures)
+returns c = rw (c.with_history.ensures, c.history_after.ensures, c.in_phase-ready.ensures)
 
-pub accepted-spec : {M : Type 1} → statement M
-accepted-spec = tie.close (tie.spec in-phase-requires history-after-requires with-history-requires returns)
+pub accepted_spec : {M : Type 1} → statement M
+accepted_spec = tie.close (tie.spec in-phase-requires history-after-requires with-history-requires returns)

@@ -4,12 +4,12 @@ use borrow.Author.Rules.{rules}
 use Rattle.driver.proofs.position.first_at.Statement.{statement}
 use Rattle.driver.proofs.position.first_at.Tie as tie
 
-no-history-requires : tie.Need-no-history-requires
+no-history-requires : tie.Need-no_history-history-requires
 no-history-requires c κs = search rules
 
 returns : tie.Need-returns
 unfolding first_at at_time
-returns c = rw c.no-history.ensures
+returns c = rw c.no_history-history.ensures
 
-pub first-at-spec : {M : Type 1} → statement M
-first-at-spec = tie.close (tie.spec no-history-requires returns)
+pub first_at_spec : {M : Type 1} → statement M
+first_at_spec = tie.close (tie.spec no-history-requires returns)

@@ -5,13 +5,13 @@ use borrow.Author.Rules.{rules}
 use Rattle.driver.proofs.position.quotient_of.Statement.{statement}
 use Rattle.driver.proofs.position.quotient_of.Tie as tie
 
-returns : tie.Need-returns
+returns : tie.Need-returns-then-history
 unfolding quotient_of
-returns c = rw c.before.if1.true
+returns c = rw c.if-history.true
 
-returns-2 : tie.Need-returns-2
+returns-2 : tie.Need-returns-else-history
 unfolding quotient_of of_bits
-returns-2 c = rw c.if1.false
+returns-2 c = rw c.if-history.false
 
-pub quotient-of-spec : {M : Type 1} → statement M
-quotient-of-spec = tie.close (tie.spec returns returns-2)
+pub quotient_of_spec : {M : Type 1} → statement M
+quotient_of_spec = tie.close (tie.spec returns returns-2)

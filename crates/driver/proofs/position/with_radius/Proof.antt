@@ -8,5 +8,5 @@ returns : tie.Need-returns
 unfolding with_radius
 returns c = refl
 
-pub with-radius-spec : {M : Type 1} → statement M
-with-radius-spec = tie.close (tie.spec returns)
+pub with_radius_spec : {M : Type 1} → statement M
+with_radius_spec = tie.close (tie.spec returns)

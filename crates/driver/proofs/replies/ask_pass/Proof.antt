@@ -12,21 +12,21 @@ use Rattle.driver.proofs.replies.ask_pass.Tie as tie
 perturb-requires : tie.Need-perturb-requires
 perturb-requires c κs = search rules
 
-same_length : tie.Need-same-length
+same_length : tie.Need-shape_of-area
 same_length c = search rules
 
 returns : tie.Need-returns
 unfolding ask_pass perturbed
 returns c =
-    let a = c.before.before.before.before.before.args in
+    let a = c.args in
     let r = a.«record» in
     record {
       answer = same_answer refl;
       kept = refl;
-      vectors = c.before.before.perturb.ensures.vectors
+      vectors = c.perturb.ensures.vectors
           ∙ ap (λ (m : Float). perturbed_by r.n r.iteration.perturbation m (unpack r.n a.area.now))
-          c.before.before.before.before.before.requires.1;
+          c.requires.1;
     }
 
-pub ask-pass-spec : {M : Type 1} → statement M
-ask-pass-spec = tie.close (tie.spec perturb-requires same_length returns)
+pub ask_pass_spec : {M : Type 1} → statement M
+ask_pass_spec = tie.close (tie.spec perturb-requires same_length returns)

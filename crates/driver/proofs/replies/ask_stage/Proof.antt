@@ -9,5 +9,5 @@ returns : tie.Need-returns
 unfolding ask_stage
 returns c = λ v. record { answer = same_answer refl; kept = refl; vectors = refl }
 
-pub ask-stage-spec : {M : Type 1} → statement M
-ask-stage-spec = tie.close (tie.spec returns)
+pub ask_stage_spec : {M : Type 1} → statement M
+ask_stage_spec = tie.close (tie.spec returns)

@@ -12,76 +12,76 @@ use Rattle.driver.proofs.Steps.{as_step, alike}
 use Rattle.driver.proofs.replies.replied.Statement.{statement}
 use Rattle.driver.proofs.replies.replied.Tie as tie
 
-enum_told : tie.Need-enum-told
+enum_told : tie.Need-enum_told-1
 enum_told c = search rules
 
-take-pass-requires : tie.Need-take-pass-requires
+take-pass-requires : tie.Need-take_pass-requires
 take-pass-requires c κs =
-    let s = pass_in _ (ap (λ (p : Phase). in_range p c.before.before.before.before.before.args.«record») (sym c.before.enum_told.given.1)
-    ∙ c.before.before.before.before.before.requires.1.1.0) in
-    (c.before.before.before.before.before.requires.0, (c.before.before.before.before.before.requires.1.0, s))
+    let s = pass_in _ (ap (λ (p : Phase). in_range p c.args.«record») (sym c.in-Pass.is)
+    ∙ c.requires.1.1.0) in
+    (c.requires.0, (c.requires.1.0, s))
 
-enum-told-2 : tie.Need-enum-told-2
+enum-told-2 : tie.Need-enum_told-in-Candidate
 enum-told-2 c = search rules
 
-take-candidate-requires : tie.Need-take-candidate-requires
+take-candidate-requires : tie.Need-take_candidate-requires
 take-candidate-requires c κs = search rules
 
-enum-told-3 : tie.Need-enum-told-3
+enum-told-3 : tie.Need-enum_told-in-Callback
 enum-told-3 c = search rules
 
-take-callback-requires : tie.Need-take-callback-requires
+take-callback-requires : tie.Need-take_callback-requires
 take-callback-requires c κs = search rules
 
-take-first-requires : tie.Need-take-first-requires
+take-first-requires : tie.Need-take_first-requires
 take-first-requires c κs = search rules
 
-same_length : tie.Need-same-length
+same_length : tie.Need-shape_of-area-in-Pass
 same_length c = search rules
 
-returns : tie.Need-returns
+returns : tie.Need-returns-in-Pass
 unfolding replied
 returns c =
-    let a = c.before.before.before.before.before.before.before.before.args in
+    let a = c.args in
     let r = a.«record» in
-    as_step (ap (λ (p : Phase). replied p r (unpack r.n a.area.now) a.derivative.now) (sym c.before.before.before.before.enum_told.given.1))
-    c.before.before.take_pass.ensures
+    as_step (ap (λ (p : Phase). replied p r (unpack r.n a.area.now) a.derivative.now) (sym c.in-Pass.is))
+    c.take_pass.ensures
 
-same-length-2 : tie.Need-same-length-2
+same-length-2 : tie.Need-shape_of-area-in-Candidate
 same-length-2 c = search rules
 
-returns-2 : tie.Need-returns-2
+returns-2 : tie.Need-returns-in-Candidate
 unfolding replied
 returns-2 c =
-    let a = c.before.before.before.before.before.before.before.before.args in
+    let a = c.args in
     let r = a.«record» in
     as_step (ap (λ (p : Phase). replied p r (unpack r.n a.area.now) a.derivative.now)
-    (sym c.before.before.before.before.enum-told2.given.1)) c.before.before.take_candidate.ensures
+    (sym c.in-Candidate.is)) c.take_candidate.ensures
 
-same-length-3 : tie.Need-same-length-3
+same-length-3 : tie.Need-shape_of-area-in-Callback
 same-length-3 c = search rules
 
-returns-3 : tie.Need-returns-3
+returns-3 : tie.Need-returns-in-Callback
 unfolding replied
 returns-3 c =
-    let a = c.before.before.before.before.before.before.before.before.args in
+    let a = c.args in
     let r = a.«record» in
     as_step (ap (λ (p : Phase). replied p r (unpack r.n a.area.now) a.derivative.now)
-    (sym c.before.before.before.before.enum-told3.given.1)) c.before.before.take_callback.ensures
+    (sym c.in-Callback.is)) c.take_callback.ensures
 
-same-length-4 : tie.Need-same-length-4
+same-length-4 : tie.Need-shape_of-area-in_default
 same-length-4 c = search rules
 
-returns-4 : tie.Need-returns-4
+returns-4 : tie.Need-returns-in_default
 returns-4 c =
-    let a = c.before.before.before.before.before.before.before.args in
+    let a = c.args in
     let r = a.«record» in
     as_step (ap (λ (take : Record → Vectors → List Float → Step). take r (unpack r.n a.area.now) a.derivative.now)
-    (alike r.phase c.before.before.before.before.before.before.before.requires.1.1.1 c.before.before.before.before.match.keys4))
-    c.before.before.take_first.ensures
+    (alike r.phase c.requires.1.1.1 c.in_default.in_default-own.keys4))
+    c.take_first.ensures
 
-pub replied-spec : {M : Type 1} → statement M
-replied-spec =
+pub replied_spec : {M : Type 1} → statement M
+replied_spec =
     tie.close
     (tie.spec
     enum_told

@@ -8,16 +8,16 @@ use Rattle.driver.proofs.replies.stage_need.Tie as tie
 exceeds-requires : tie.Need-exceeds-requires
 exceeds-requires c κs = search rules
 
-returns : tie.Need-returns
+returns : tie.Need-returns-then-exceeds
 unfolding stage_need
-returns c = rw (sym c.before.exceeds.ensures ∙ c.if1.true)
+returns c = rw (sym c.exceeds.ensures ∙ c.if-exceeds.true)
 
 stages-requires : tie.Need-stages-requires
 stages-requires c κs = search rules
 
-returns-2 : tie.Need-returns-2
+returns-2 : tie.Need-returns
 unfolding stage_need
-returns-2 c = rw (c.stages.ensures, sym c.before.before.exceeds.ensures ∙ c.before.if1.false)
+returns-2 c = rw (c.stages.ensures, sym c.exceeds.ensures ∙ c.if-exceeds.false)
 
-pub stage-need-spec : {M : Type 1} → statement M
-stage-need-spec = tie.close (tie.spec exceeds-requires returns stages-requires returns-2)
+pub stage_need_spec : {M : Type 1} → statement M
+stage_need_spec = tie.close (tie.spec exceeds-requires returns stages-requires returns-2)

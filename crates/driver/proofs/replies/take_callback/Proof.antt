@@ -10,31 +10,31 @@ use Rattle.driver.proofs.Ladder.{same_answer}
 use Rattle.driver.proofs.replies.take_callback.Statement.{statement}
 use Rattle.driver.proofs.replies.take_callback.Tie as tie
 
-put-vector-requires : tie.Need-put-vector-requires
+put-vector-requires : tie.Need-put_vector-requires
 put-vector-requires c κs = search rules
 
-fill-vector-requires : tie.Need-fill-vector-requires
+fill-vector-requires : tie.Need-fill_vector-requires
 fill-vector-requires c κs = search rules
 
-in-phase-requires : tie.Need-in-phase-requires
+in-phase-requires : tie.Need-in_phase-ready-requires
 in-phase-requires c κs = search rules
 
-same_length : tie.Need-same-length
+same_length : tie.Need-shape_of-area
 same_length c = search rules
 
 returns : tie.Need-returns
 unfolding take_callback of_bits
 returns c =
-    let n = c.before.before.before.before.before.before.before.before.before.before.before.args.«record».n in
+    let n = c.args.«record».n in
     record {
       answer = same_answer refl;
-      kept = c.in_phase.ensures;
-      vectors = c.before.before.before.fill-vector.ensures.vectors
+      kept = c.in_phase-ready.ensures;
+      vectors = c.fill_vector.ensures.vectors
           ∙ ap (λ (v : Vectors). v with eigenvector ≔ replicate n nought)
-          c.before.before.before.before.before.before.before.put_vector.ensures.vectors;
+          c.put_vector.ensures.vectors;
     }
 
-pub take-callback-spec : {M : Type 1} → statement M
-take-callback-spec =
+pub take_callback_spec : {M : Type 1} → statement M
+take_callback_spec =
     tie.close
     (tie.spec put-vector-requires fill-vector-requires in-phase-requires same_length returns)

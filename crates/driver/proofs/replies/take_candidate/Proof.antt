@@ -20,41 +20,41 @@ finished r {v = v} e f g =
     f ∙ ap (λ (m : Setting). error_norm m r.n r.staging.stages r.arguments v) e
     ∙ ap (error_norm (setting_of r) r.n r.staging.stages r.arguments) g
 
-setting-of-requires : tie.Need-setting-of-requires
+setting-of-requires : tie.Need-setting_of-setting-requires
 setting-of-requires c κs = search rules
 
 last-requires : tie.Need-last-requires
 last-requires c κs = search rules
 
-error-norm-requires : tie.Need-error-norm-requires
+error-norm-requires : tie.Need-error_norm-norm-requires
 error-norm-requires c κs = search rules
 
-figures-of-requires : tie.Need-figures-of-requires
+figures-of-requires : tie.Need-figures_of-figures-requires
 figures-of-requires c κs = search rules
 
-in-phase-requires : tie.Need-in-phase-requires
+in-phase-requires : tie.Need-in_phase-finished-requires
 in-phase-requires c κs = search rules
 
-same_length : tie.Need-same-length
+same_length : tie.Need-shape_of-area
 same_length c = search rules
 
 returns : tie.Need-returns
 unfolding take_candidate
 returns c =
-    let a = c.before.before.before.before.before.before.before.before.before.before.before.before.args in
+    let a = c.args in
     let r = a.«record» in
-    let e = c.before.before.before.before.before.before.before.before.before.setting_of.ensures in
+    let e = c.setting_of-setting.ensures in
     let v = unpack r.n a.area.now in
-    let last = c.before.before.before.before.before.before.last.ensures.vectors
+    let last = c.last.ensures.vectors
     ∙ ap (λ (m : Setting). with_last m r.n r.arguments v a.derivative.now) e in
     record {
-      answer = same_answer (ap Finished (c.before.figures_of.ensures
+      answer = same_answer (ap Finished (c.figures_of-figures.ensures
           ∙ ap (λ (norm : Float). figures_of norm r.staging.stages r.iteration.pass r.iteration.scaled_radius)
-          (finished r e c.before.before.error_norm.ensures last)));
-      kept = c.in_phase.ensures;
+          (finished r e c.error_norm-norm.ensures last)));
+      kept = c.in_phase-finished.ensures;
       vectors = last;
     }
 
-pub take-candidate-spec : {M : Type 1} → statement M
-take-candidate-spec =
+pub take_candidate_spec : {M : Type 1} → statement M
+take_candidate_spec =
     tie.close (tie.spec setting-of-requires last-requires error-norm-requires figures-of-requires in-phase-requires same_length returns)

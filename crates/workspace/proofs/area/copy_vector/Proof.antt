@@ -24,20 +24,20 @@ turned {n} {from} {to} {i} {a} {area} p q W h =
     (subst (λ (k : ℕ). Working n (rules from to) a (set area (number (named to) * n + i) (get_or area (k * n + i) nan)) (i + 1)) (number_named from p)
     (turn (_ ∷ []) W h (refl, tt)))
 
-abbrev invariant-loop : tie.invariant-loop
+abbrev invariant-loop : tie.invariant-loop-i
 invariant-loop area₀ n from to a b i₀ area i =
     Working n (rules from to) area₀ area i × (from < 12) × (to < 12) × (from * n + n ≤ length area₀) × (to * n + n ≤ length area₀)
 
-abbrev decreases-loop : tie.decreases-loop
+abbrev decreases-loop : tie.decreases-loop-i
 decreases-loop area₀ n from to a b i₀ area i = n - i
 
-mul-a : tie.Need-overflow-mul-a invariant-loop decreases-loop
+mul-a : tie.Need-overflow_mul-a invariant-loop decreases-loop
 mul-a c = omega arith
 
-mul-b : tie.Need-overflow-mul-b invariant-loop decreases-loop
+mul-b : tie.Need-overflow_mul-b invariant-loop decreases-loop
 mul-b c = omega arith
 
-loop-holds : tie.Need-loop-init invariant-loop decreases-loop
+loop-holds : tie.Need-loop-i-init invariant-loop decreases-loop
 unfolding Room
 loop-holds c = (
   begin_in _ _ _ (rw (number_named _ c.requires.1.0.1) c.requires.1.1.1, tt) c.requires.0,
@@ -47,51 +47,51 @@ loop-holds c = (
   c.requires.1.1.1,
 )
 
-add-area : tie.Need-overflow-add-area invariant-loop decreases-loop
+add-area : tie.Need-overflow_add-area invariant-loop decreases-loop
 add-area c = omega arith
 
-mul-area : tie.Need-overflow-mul-area invariant-loop decreases-loop
+mul-area : tie.Need-offset_bounds-area-a invariant-loop decreases-loop
 mul-area c = omega arith
 
-slice-read-area : tie.Need-slice-read-area invariant-loop decreases-loop
+slice-read-area : tie.Need-bounds-area-a invariant-loop decreases-loop
 slice-read-area c = omega arith
 
-add-area-2 : tie.Need-overflow-add-area-2 invariant-loop decreases-loop
+add-area-2 : tie.Need-overflow_add-area-in-loop-i invariant-loop decreases-loop
 add-area-2 c = omega arith
 
-mul-area-2 : tie.Need-overflow-mul-area-2 invariant-loop decreases-loop
+mul-area-2 : tie.Need-offset_bounds-area-b invariant-loop decreases-loop
 mul-area-2 c = omega arith
 
-slice-write-area : tie.Need-slice-write-area invariant-loop decreases-loop
+slice-write-area : tie.Need-bounds-area-b invariant-loop decreases-loop
 slice-write-area c = omega arith
 
-add-i : tie.Need-overflow-add-i invariant-loop decreases-loop
+add-i : tie.Need-overflow_add-i invariant-loop decreases-loop
 add-i c = omega arith
 
-loop-less : tie.Need-loop-smaller invariant-loop decreases-loop
+loop-less : tie.Need-loop-i-smaller invariant-loop decreases-loop
 loop-less c = omega arith
 
-loop-again : tie.Need-loop-preserved invariant-loop decreases-loop
+loop-again : tie.Need-loop-i-preserved invariant-loop decreases-loop
 loop-again c =
-    let l = c.before.before.loop.invariant in
+    let l = c.loop-i.invariant in
     (turned l.1 l.2 l.0 (omega arith), l.1, l.2, l.3, l.4)
 
-same_length : tie.Need-same-length invariant-loop decreases-loop
+same_length : tie.Need-shape_of-area invariant-loop decreases-loop
 same_length c = omega arith
 
 returns : tie.Need-returns invariant-loop decreases-loop
 returns c =
-    let a = c.before.before.args.area.now in
-    let n = c.before.before.args.n in
+    let a = c.args.area.now in
+    let n = c.args.n in
     let v = unpack n a in
-    let from = named c.before.before.args.from in
-    let p = c.before.before.requires in
-    becomes_as (finish c.before.loop.invariant.0 c.loop-test.false)
-    (ap (λ (x : List Float). v with named c.before.before.args.to ≔ x)
+    let from = named c.args.from in
+    let p = c.requires in
+    becomes_as (finish c.loop-i.invariant.0 c.loop-i-test.false)
+    (ap (λ (x : List Float). v with named c.args.to ≔ x)
     (each_same n v from (long_at n a from (rw (number_named _ p.1.0.0) p.1.1.0))))
 
-pub copy-vector-spec : {M : Type 1} → statement M
-copy-vector-spec =
+pub copy_vector_spec : {M : Type 1} → statement M
+copy_vector_spec =
     tie.close
     (tie.spec
     invariant-loop

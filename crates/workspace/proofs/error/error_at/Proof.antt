@@ -5,77 +5,77 @@ use borrow.Author.Rules.{rules}
 use Rattle.workspace.proofs.error.error_at.Statement.{statement}
 use Rattle.workspace.proofs.error.error_at.Tie as tie
 
-mul-initial : tie.Need-overflow-mul-initial
+mul-initial : tie.Need-overflow_mul-initial
 mul-initial c = search rules
 
-add-initial : tie.Need-overflow-add-initial
+add-initial : tie.Need-overflow_add-initial
 add-initial c = search rules
 
-mul-initial-2 : tie.Need-overflow-mul-initial-2
+mul-initial-2 : tie.Need-offset_bounds-area-n
 mul-initial-2 c = search rules
 
-shared-slice-read-initial : tie.Need-shared-slice-read-initial
+shared-slice-read-initial : tie.Need-bounds-area-n
 shared-slice-read-initial c = search rules
 
-mul-final-state : tie.Need-overflow-mul-final-state
+mul-final-state : tie.Need-overflow_mul-final_state
 mul-final-state c = search rules
 
-add-final-state : tie.Need-overflow-add-final-state
+add-final-state : tie.Need-overflow_add-final_state
 add-final-state c = search rules
 
-mul-final-state-2 : tie.Need-overflow-mul-final-state-2
+mul-final-state-2 : tie.Need-offset_bounds-area-n-2
 mul-final-state-2 c = search rules
 
-shared-slice-read-final-state : tie.Need-shared-slice-read-final-state
+shared-slice-read-final-state : tie.Need-bounds-area-n-2
 shared-slice-read-final-state c = search rules
 
-mul-first : tie.Need-overflow-mul-first
+mul-first : tie.Need-overflow_mul-first
 mul-first c = search rules
 
-add-first : tie.Need-overflow-add-first
+add-first : tie.Need-overflow_add-first
 add-first c = search rules
 
-mul-first-2 : tie.Need-overflow-mul-first-2
+mul-first-2 : tie.Need-offset_bounds-area-n-3
 mul-first-2 c = search rules
 
-shared-slice-read-first : tie.Need-shared-slice-read-first
+shared-slice-read-first : tie.Need-bounds-area-n-3
 shared-slice-read-first c = search rules
 
-mul-last : tie.Need-overflow-mul-last
+mul-last : tie.Need-overflow_mul-last
 mul-last c = search rules
 
-add-last : tie.Need-overflow-add-last
+add-last : tie.Need-overflow_add-last
 add-last c = search rules
 
-mul-last-2 : tie.Need-overflow-mul-last-2
+mul-last-2 : tie.Need-offset_bounds-area-n-4
 mul-last-2 c = search rules
 
-shared-slice-read-last : tie.Need-shared-slice-read-last
+shared-slice-read-last : tie.Need-bounds-area-n-4
 shared-slice-read-last c = search rules
 
-enum_told : tie.Need-enum-told
+enum_told : tie.Need-enum_told-1
 enum_told c = search rules
 
-enum-told-2 : tie.Need-enum-told-2
+enum-told-2 : tie.Need-enum_told-in-FirstDerivative
 enum-told-2 c = search rules
 
-enum-known-form : tie.Need-enum-known-form
+enum-known-form : tie.Need-enum_known-form
 enum-known-form c = search rules
 
-returns : tie.Need-returns
+returns : tie.Need-returns-in-BothDerivatives
 unfolding error_in of_bits
-returns c = rw c.enum_told.given.1
+returns c = rw c.in-BothDerivatives.is
 
-returns-2 : tie.Need-returns-2
+returns-2 : tie.Need-returns-in-FirstDerivative
 unfolding error_in
-returns-2 c = rw c.enum-told2.given.1
+returns-2 c = rw c.in-FirstDerivative.is
 
-returns-3 : tie.Need-returns-3
+returns-3 : tie.Need-returns-in-LastDerivative
 unfolding error_in
-returns-3 c = rw c.before.form.given.1
+returns-3 c = rw c.in-LastDerivative.is
 
-pub error-at-spec : {M : Type 1} → statement M
-error-at-spec =
+pub error_at_spec : {M : Type 1} → statement M
+error_at_spec =
     tie.close
     (tie.spec
     mul-initial

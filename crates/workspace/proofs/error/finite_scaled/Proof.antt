@@ -16,50 +16,50 @@ use native.Mathlib.Omega.{arith}
 use Rattle.workspace.proofs.error.finite_scaled.Statement.{statement}
 use Rattle.workspace.proofs.error.finite_scaled.Tie as tie
 
-abbrev invariant-loop : tie.invariant-loop
+abbrev invariant-loop : tie.invariant-loop-i
 invariant-loop area n arguments good₀ i₀ good i =
     (i ≤ n) × (11 * n ≤ length area) × (good ≡ all_finite (take i (each n (unpack n area) (scaled_error arguments))))
 
-abbrev decreases-loop : tie.decreases-loop
+abbrev decreases-loop : tie.decreases-loop-i
 decreases-loop area n arguments good₀ i₀ good i = n - i
 
-loop-holds : tie.Need-loop-init invariant-loop decreases-loop
+loop-holds : tie.Need-loop-i-init invariant-loop decreases-loop
 unfolding all_finite
 loop-holds c = (omega arith, omega arith, refl)
 
-scaled-error-at-requires : tie.Need-scaled-error-at-requires invariant-loop decreases-loop
+scaled-error-at-requires : tie.Need-scaled_error_at-x-requires invariant-loop decreases-loop
 scaled-error-at-requires c κs = omega arith
 
-add-i : tie.Need-overflow-add-i invariant-loop decreases-loop
+add-i : tie.Need-overflow_add-i invariant-loop decreases-loop
 add-i c = omega arith
 
-loop-less : tie.Need-loop-smaller invariant-loop decreases-loop
+loop-less : tie.Need-loop-i-smaller invariant-loop decreases-loop
 loop-less c = omega arith
 
-loop-again : tie.Need-loop-preserved invariant-loop decreases-loop
+loop-again : tie.Need-loop-i-preserved invariant-loop decreases-loop
 unfolding of_bits
 loop-again c =
-    let a = c.before.before.before.before.args in
-    let l = c.before.before.loop in
+    let a = c.args in
+    let l = c.loop-i in
     let xs = each a.n (unpack a.n a.area.now) (scaled_error a.arguments) in
     let h : l.i < a.n = omega arith in (
       omega arith,
       omega arith,
       ap (λ (x : Float). l.good && eq (sub binary64 x x) nought)
-          (c.scaled-error-at.ensures ∙ sym (each_column a.n a.area.now (scaled_error a.arguments) l.i h))
+          (c.scaled_error_at-x.ensures ∙ sym (each_column a.n a.area.now (scaled_error a.arguments) l.i h))
           ∙ next_flag xs l.i l.good (omega (arith, length_each a.n (unpack a.n a.area.now) (scaled_error a.arguments))) l.invariant.2,
     )
 
 returns : tie.Need-returns invariant-loop decreases-loop
 returns c =
-    let a = c.before.before.before.args in
-    let l = c.before.loop in
+    let a = c.args in
+    let l = c.loop-i in
     let xs = each a.n (unpack a.n a.area.now) (scaled_error a.arguments) in
     let e : length xs ≡ a.n = length_each a.n (unpack a.n a.area.now) (scaled_error a.arguments) in
     l.invariant.2 ∙ ap all_finite (take_all l.i xs (omega arith))
 
-pub finite-scaled-spec : {M : Type 1} → statement M
-finite-scaled-spec =
+pub finite_scaled_spec : {M : Type 1} → statement M
+finite_scaled_spec =
     tie.close
     (tie.spec
     invariant-loop

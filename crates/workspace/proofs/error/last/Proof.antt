@@ -23,38 +23,38 @@ of-form : {n : ℕ} {l m : List Float} (h : Float) {f g : ErrorForm} → f ≡ g
     → Becomes n l m (λ w. w with derivative ≔ each n w (error_in g h))
 of-form {n} {l} {m} h e b = subst (λ (form : ErrorForm). Becomes n l m (λ w. w with derivative ≔ each n w (error_in form h))) e b
 
-put-vector-requires : tie.Need-put-vector-requires
+put-vector-requires : tie.Need-put_vector-requires
 put-vector-requires c κs = search rules
 
-error-form-requires : tie.Need-error-form-requires
+error-form-requires : tie.Need-error_form-form-requires
 error-form-requires c κs = search rules
 
-put-error-requires : tie.Need-put-error-requires
+put-error-requires : tie.Need-put_error-requires
 put-error-requires c κs = search rules
 
-same_length : tie.Need-same-length
+same_length : tie.Need-shape_of-area-then-arguments
 same_length c = search rules
 
-returns : tie.Need-returns
+returns : tie.Need-returns-then-arguments
 returns c =
-    let x = c.before.before.before.before.before.before.before.before.before.before.before.before.args in
-    let e = c.before.before.before.before.error-form.ensures in
+    let x = c.args in
+    let e = c.error_form-form.ensures in
     let g : Vectors → Vectors = λ w. w with derivative ≔ each x.n w (error x.setting x.arguments.step) in
-    becomes_as (becomes_then {g = g} c.before.before.before.before.before.before.before.before.put_vector.ensures
-    (of-form x.arguments.step e c.before.before.put-error.ensures))
-    (by-adaptive x.setting x.n x.arguments (unpack x.n x.area.now) x.derivative.now c.before.before.before.before.before.if1.true)
+    becomes_as (becomes_then {g = g} c.put_vector.ensures
+    (of-form x.arguments.step e c.put_error.ensures))
+    (by-adaptive x.setting x.n x.arguments (unpack x.n x.area.now) x.derivative.now c.if-arguments.true)
 
-same-length-2 : tie.Need-same-length-2
+same-length-2 : tie.Need-shape_of-area-else-arguments
 same-length-2 c = search rules
 
-returns-2 : tie.Need-returns-2
+returns-2 : tie.Need-returns-else-arguments
 returns-2 c =
-    let x = c.before.before.before.before.before.before.before.args in
-    becomes_as c.before.before.before.put_vector.ensures
-    (by-adaptive x.setting x.n x.arguments (unpack x.n x.area.now) x.derivative.now c.if1.false)
+    let x = c.args in
+    becomes_as c.put_vector.ensures
+    (by-adaptive x.setting x.n x.arguments (unpack x.n x.area.now) x.derivative.now c.if-arguments.false)
 
-pub last-spec : {M : Type 1} → statement M
-last-spec =
+pub last_spec : {M : Type 1} → statement M
+last_spec =
     tie.close
     (tie.spec
     put-vector-requires

@@ -4,61 +4,61 @@ use borrow.Author.Rules.{rules}
 use Rattle.workspace.proofs.error.scaled_error_at.Statement.{statement}
 use Rattle.workspace.proofs.error.scaled_error_at.Tie as tie
 
-mul-abs : tie.Need-overflow-mul-abs
+mul-abs : tie.Need-overflow_mul-n
 mul-abs c = search rules
 
-add-abs : tie.Need-overflow-add-abs
+add-abs : tie.Need-overflow_add-n
 add-abs c = search rules
 
-mul-abs-2 : tie.Need-overflow-mul-abs-2
+mul-abs-2 : tie.Need-offset_bounds-area-n
 mul-abs-2 c = search rules
 
-shared-slice-read-abs : tie.Need-shared-slice-read-abs
+shared-slice-read-abs : tie.Need-bounds-area-n
 shared-slice-read-abs c = search rules
 
 abs-requires : tie.Need-abs-requires
 abs-requires c κs = search rules
 
-mul-abs-3 : tie.Need-overflow-mul-abs-3
+mul-abs-3 : tie.Need-overflow_mul-n-2
 mul-abs-3 c = search rules
 
-add-abs-2 : tie.Need-overflow-add-abs-2
+add-abs-2 : tie.Need-overflow_add-n-2
 add-abs-2 c = search rules
 
-mul-abs-4 : tie.Need-overflow-mul-abs-4
+mul-abs-4 : tie.Need-offset_bounds-area-n-2
 mul-abs-4 c = search rules
 
-shared-slice-read-abs-2 : tie.Need-shared-slice-read-abs-2
+shared-slice-read-abs-2 : tie.Need-bounds-area-n-2
 shared-slice-read-abs-2 c = search rules
 
 abs-requires-2 : tie.Need-abs-requires-2
 abs-requires-2 c κs = search rules
 
-max-requires : tie.Need-max-requires
+max-requires : tie.Need-max-size-requires
 max-requires c κs = search rules
 
-mul-result : tie.Need-overflow-mul-result
+mul-result : tie.Need-overflow_mul-result
 mul-result c = search rules
 
-add-result : tie.Need-overflow-add-result
+add-result : tie.Need-overflow_add-result
 add-result c = search rules
 
-mul-result-2 : tie.Need-overflow-mul-result-2
+mul-result-2 : tie.Need-offset_bounds-area-n-3
 mul-result-2 c = search rules
 
-shared-slice-read-result : tie.Need-shared-slice-read-result
+shared-slice-read-result : tie.Need-bounds-area-n-3
 shared-slice-read-result c = search rules
 
 returns : tie.Need-returns
 unfolding scaled_error
 returns c = rw (
-  c.before.before.before.max.ensures,
-  c.before.before.before.before.abs2.ensures,
-  c.before.before.before.before.before.before.abs.ensures,
+  c.max-size.ensures,
+  c.abs-2.ensures,
+  c.abs.ensures,
 )
 
-pub scaled-error-at-spec : {M : Type 1} → statement M
-scaled-error-at-spec =
+pub scaled_error_at_spec : {M : Type 1} → statement M
+scaled_error_at_spec =
     tie.close
     (tie.spec
     mul-abs

@@ -12,52 +12,52 @@ use borrow.Author.Rules.{rules}
 use Rattle.workspace.proofs.error.scaled_error_norm.Statement.{statement}
 use Rattle.workspace.proofs.error.scaled_error_norm.Tie as tie
 
-double-of-requires : tie.Need-double-of-requires
+double-of-requires : tie.Need-double_of-over-requires
 double-of-requires c κs = search rules
 
-sum-of-scaled-requires : tie.Need-sum-of-scaled-requires
+sum-of-scaled-requires : tie.Need-sum_of_scaled-sum-requires
 sum-of-scaled-requires c κs = search rules
 
-is-infinite-requires : tie.Need-is-infinite-requires
+is-infinite-requires : tie.Need-is_infinite-requires
 is-infinite-requires c κs = search rules
 
-finite-scaled-requires : tie.Need-finite-scaled-requires
+finite-scaled-requires : tie.Need-finite_scaled-requires
 finite-scaled-requires c κs = search rules
 
-sum-of-lowered-scaled-requires : tie.Need-sum-of-lowered-scaled-requires
+sum-of-lowered-scaled-requires : tie.Need-sum_of_lowered_scaled-requires
 sum-of-lowered-scaled-requires c κs = search rules
 
-raised-root-of-requires : tie.Need-raised-root-of-requires
+raised-root-of-requires : tie.Need-raised_root_of-requires
 raised-root-of-requires c κs = search rules
 
-returns : tie.Need-returns
+returns : tie.Need-returns-then-finite_scaled
 unfolding scaled_error_norm
 returns c =
-    let a = c.before.before.before.before.before.before.before.before.before.args in
-    c.raised-root-of.ensures
-    ∙ ap₂ (λ (d s : Float). raised (root_over d s)) c.before.before.before.before.before.before.before.double-of.ensures
-    c.before.sum-of-lowered-scaled.ensures
-    ∙ sym (by_second_sum (double a.n) _ c.before.before.before.before.before.before.sum-of-scaled.ensures
-    (sym c.before.before.before.before.before.is-infinite.ensures ∙ c.before.before.before.before.if1.true)
-    (sym c.before.before.before.finite-scaled.ensures ∙ c.before.before.if2.true))
+    let a = c.args in
+    c.raised_root_of.ensures
+    ∙ ap₂ (λ (d s : Float). raised (root_over d s)) c.double_of-over.ensures
+    c.sum_of_lowered_scaled.ensures
+    ∙ sym (by_second_sum (double a.n) _ c.sum_of_scaled-sum.ensures
+    (sym c.is_infinite.ensures ∙ c.if-is_infinite.true)
+    (sym c.finite_scaled.ensures ∙ c.if-finite_scaled.true))
 
-root-of-requires : tie.Need-root-of-requires
+root-of-requires : tie.Need-root_of-requires
 root-of-requires c κs = search rules
 
-returns-2 : tie.Need-returns-2
+returns-2 : tie.Need-returns
 unfolding scaled_error_norm
 returns-2 c =
-    let a = c.before.before.before.before.before.before.args in
+    let a = c.args in
     let xs = each a.n (unpack a.n a.area.now) (scaled_error a.arguments) in
-    let sum = c.before.before.before.sum-of-scaled in
+    let sum = c.sum_of_scaled-sum in
     let first : (eq sum.result (inf false) ≡ false) ⊎ (all_finite xs ≡ false) =
-    ⊎_elim (λ w. inr (sym w.1.ensures ∙ w.2.left)) (λ w. inl (sym c.before.before.is-infinite.ensures ∙ w.left)) c.before.if1.branch in
-    c.root-of.ensures
-    ∙ ap (λ (d : Float). root_over d sum.result) c.before.before.before.before.double-of.ensures
+    ⊎_elim (λ w. inr (sym w.finite_scaled.ensures ∙ w.if-finite_scaled.false)) (λ w. inl (sym c.is_infinite.ensures ∙ w.if-is_infinite.false)) c.if-is_infinite.branch-raw in
+    c.root_of.ensures
+    ∙ ap (λ (d : Float). root_over d sum.result) c.double_of-over.ensures
     ∙ sym (by_first_sum (double a.n) xs sum.ensures first)
 
-pub scaled-error-norm-spec : {M : Type 1} → statement M
-scaled-error-norm-spec =
+pub scaled_error_norm_spec : {M : Type 1} → statement M
+scaled_error_norm_spec =
     tie.close
     (tie.spec
     double-of-requires

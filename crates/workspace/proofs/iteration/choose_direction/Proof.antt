@@ -22,64 +22,64 @@ chosen : (n : ℕ) (v : Vectors) (t u : Bool) → le (vector_norm (v eigenvector
 unfolding with_direction
 chosen n v t u e f = sym (ap₂ (λ (s w : Bool). cond s (cond w (v with eigenvector ≔ replicate n one) (v with eigenvector ≔ v first_derivative)) v) e f)
 
-direction-norm-requires : tie.Need-direction-norm-requires
+direction-norm-requires : tie.Need-direction_norm-kept-requires
 direction-norm-requires c κs = search rules
 
-norm-of-requires : tie.Need-norm-of-requires
+norm-of-requires : tie.Need-norm_of-first-requires
 norm-of-requires c κs = search rules
 
-fill-vector-requires : tie.Need-fill-vector-requires
+fill-vector-requires : tie.Need-fill_vector-requires
 fill-vector-requires c κs = search rules
 
-direction-norm-requires-2 : tie.Need-direction-norm-requires-2
+direction-norm-requires-2 : tie.Need-direction_norm-requires
 direction-norm-requires-2 c κs = search rules
 
-same_length : tie.Need-same-length
+same_length : tie.Need-shape_of-area-then-first
 same_length c = search rules
 
-returns : tie.Need-returns
+returns : tie.Need-returns-then-first
 unfolding of_bits
 returns c =
-    let a = c.before.before.before.before.before.before.before.before.before.before.before.before.before.args in (
-      becomes_as c.before.before.before.before.fill-vector.ensures
+    let a = c.args in (
+      becomes_as c.fill_vector.ensures
           (chosen a.n (unpack a.n a.area.now) true true
-          (small c.before.before.before.before.before.before.before.before.before.before.direction-norm.ensures
-          c.before.before.before.before.before.before.before.before.before.if1.true)
-          (small c.before.before.before.before.before.before.before.norm-of.ensures
-          c.before.before.before.before.before.before.if2.true)),
-      c.direction-norm2.ensures,
+          (small c.direction_norm-kept.ensures
+          c.if-kept.true)
+          (small c.norm_of-first.ensures
+          c.if-first.true)),
+      c.direction_norm.ensures,
     )
 
-copy-vector-requires : tie.Need-copy-vector-requires
+copy-vector-requires : tie.Need-copy_vector-requires
 copy-vector-requires c κs = search rules
 
-same-length-2 : tie.Need-same-length-2
+same-length-2 : tie.Need-shape_of-area-then-kept
 same-length-2 c = search rules
 
-returns-2 : tie.Need-returns-2
+returns-2 : tie.Need-returns-then-kept
 returns-2 c =
-    let a = c.before.before.before.before.before.before.before.before.before.before.before.args in
-    let first = c.before.before.before.before.before.norm-of.ensures in
-    let moved = c.before.before.copy-vector.ensures in (
+    let a = c.args in
+    let first = c.norm_of-first.ensures in
+    let moved = c.copy_vector.ensures in (
       becomes_as moved
           (chosen a.n (unpack a.n a.area.now) true false
-          (small c.before.before.before.before.before.before.before.before.direction-norm.ensures
-          c.before.before.before.before.before.before.before.if1.true) (small first c.before.before.before.before.if2.false)),
+          (small c.direction_norm-kept.ensures
+          c.if-kept.true) (small first c.if-first.false)),
       first ∙ sym (ap (λ (v : Vectors). vector_norm (v eigenvector)) moved.vectors),
     )
 
-same-length-3 : tie.Need-same-length-3
+same-length-3 : tie.Need-shape_of-area
 same-length-3 c = search rules
 
-returns-3 : tie.Need-returns-3
+returns-3 : tie.Need-returns
 returns-3 c =
-    let a = c.before.before.before.before.args in
+    let a = c.args in
     let v = unpack a.n a.area.now in
-    let kept = chosen a.n v false (le (vector_norm (v first_derivative)) min_positive) (small c.before.direction-norm.ensures c.if1.false) refl in
-    (record { vectors = kept; rest = refl }, c.before.direction-norm.ensures)
+    let kept = chosen a.n v false (le (vector_norm (v first_derivative)) min_positive) (small c.direction_norm-kept.ensures c.if-kept.false) refl in
+    (record { vectors = kept; rest = refl }, c.direction_norm-kept.ensures)
 
-pub choose-direction-spec : {M : Type 1} → statement M
-choose-direction-spec =
+pub choose_direction_spec : {M : Type 1} → statement M
+choose_direction_spec =
     tie.close
     (tie.spec
     direction-norm-requires

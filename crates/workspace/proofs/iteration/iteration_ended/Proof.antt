@@ -8,13 +8,13 @@ use borrow.Author.Rules.{rules}
 use Rattle.workspace.proofs.iteration.iteration_ended.Statement.{statement}
 use Rattle.workspace.proofs.iteration.iteration_ended.Tie as tie
 
-returns : tie.Need-returns
+returns : tie.Need-returns-then-radius
 unfolding ended of_bits
-returns c = rw c.if1.true
+returns c = rw c.if-radius.true
 
-returns-2 : tie.Need-returns-2
+returns-2 : tie.Need-returns-then-pass-le1
 unfolding ended of_bits
-returns-2 c = rw (c.before.if1.false, le-ltb 1 c.before.before.args.pass (omega arith))
+returns-2 c = rw (c.if-radius.false, le-ltb 1 c.args.pass (omega arith))
 
 abs-requires : tie.Need-abs-requires
 abs-requires c κs = search rules
@@ -22,14 +22,14 @@ abs-requires c κs = search rules
 max-requires : tie.Need-max-requires
 max-requires c κs = search rules
 
-returns-3 : tie.Need-returns-3
+returns-3 : tie.Need-returns
 unfolding ended nearest of_bits round
 returns-3 c = rw (
   c.max.ensures,
-  c.before.abs.ensures,
-  c.before.before.before.if1.false,
-  lt-ltb 1 c.before.before.before.before.args.pass (omega arith),
+  c.abs.ensures,
+  c.if-radius.false,
+  lt-ltb 1 c.args.pass (omega arith),
 )
 
-pub iteration-ended-spec : {M : Type 1} → statement M
-iteration-ended-spec = tie.close (tie.spec returns returns-2 abs-requires max-requires returns-3)
+pub iteration_ended_spec : {M : Type 1} → statement M
+iteration_ended_spec = tie.close (tie.spec returns returns-2 abs-requires max-requires returns-3)

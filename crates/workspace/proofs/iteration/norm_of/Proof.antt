@@ -8,32 +8,32 @@ use borrow.Author.Rules.{rules}
 use Rattle.workspace.proofs.iteration.norm_of.Statement.{statement}
 use Rattle.workspace.proofs.iteration.norm_of.Tie as tie
 
-mul-a : tie.Need-overflow-mul-a
-mul-a c = omega (arith, room 11 c.before.args.k c.before.args.n c.before.requires.1)
+mul-a : tie.Need-overflow_mul-a
+mul-a c = omega (arith, room 11 c.args.k c.args.n c.requires.1)
 
-add-b : tie.Need-overflow-add-b
-add-b c = omega (arith, room 11 c.before.args.k c.before.args.n c.before.requires.1)
+add-b : tie.Need-overflow_add-b
+add-b c = omega (arith, room 11 c.args.k c.args.n c.requires.1)
 
-mul-vector-norm : tie.Need-overflow-mul-vector-norm
-mul-vector-norm c = omega (arith, room 11 c.before.args.k c.before.args.n c.before.requires.1)
+mul-vector-norm : tie.Need-offset_bounds-area-a
+mul-vector-norm c = omega (arith, room 11 c.args.k c.args.n c.requires.1)
 
-sub-vector-norm : tie.Need-overflow-sub-vector-norm
+sub-vector-norm : tie.Need-slice_bounds-vector_norm-count
 sub-vector-norm c = search rules
 
-part-vector-norm-start : tie.Need-slice-bounds-vector-norm-start
+part-vector-norm-start : tie.Need-slice_bounds-vector_norm-start
 part-vector-norm-start c = search rules
 
-part-vector-norm-end : tie.Need-slice-bounds-vector-norm-end
-part-vector-norm-end c = omega (arith, room 11 c.before.args.k c.before.args.n c.before.requires.1)
+part-vector-norm-end : tie.Need-slice_bounds-vector_norm-end
+part-vector-norm-end c = omega (arith, room 11 c.args.k c.args.n c.requires.1)
 
-vector-norm-requires : tie.Need-vector-norm-requires
+vector-norm-requires : tie.Need-vector_norm-requires
 vector-norm-requires c κs = search rules
 
 returns : tie.Need-returns
-returns c = c.vector_norm.ensures ∙ ap vector_norm (read_part _ _ _ c.before.before.before.requires.1)
+returns c = c.vector_norm.ensures ∙ ap vector_norm (read_part _ _ _ c.requires.1)
 
-pub norm-of-spec : {M : Type 1} → statement M
-norm-of-spec =
+pub norm_of_spec : {M : Type 1} → statement M
+norm_of_spec =
     tie.close
     (tie.spec
     mul-a

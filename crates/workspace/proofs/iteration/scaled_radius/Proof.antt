@@ -13,5 +13,5 @@ returns : tie.Need-returns
 unfolding scaled nearest of_bits round
 returns c = rw c.abs.ensures
 
-pub scaled-radius-spec : {M : Type 1} → statement M
-scaled-radius-spec = tie.close (tie.spec abs-requires returns)
+pub scaled_radius_spec : {M : Type 1} → statement M
+scaled_radius_spec = tie.close (tie.spec abs-requires returns)

@@ -9,93 +9,93 @@ use Rattle.workspace.proofs.Columns.{Working, begin, turn, finish}
 use Rattle.workspace.proofs.stages.combine.Statement.{statement}
 use Rattle.workspace.proofs.stages.combine.Tie as tie
 
-abbrev invariant-loop : tie.invariant-loop
+abbrev invariant-loop : tie.invariant-loop-i
 invariant-loop area₀ n step w i₀ area i = Working n ((candidate, combined_entry step w) ∷ []) area₀ area i
 
-abbrev decreases-loop : tie.decreases-loop
+abbrev decreases-loop : tie.decreases-loop-i
 decreases-loop area₀ n step w i₀ area i = n - i
 
-loop-holds : tie.Need-loop-init invariant-loop decreases-loop
+loop-holds : tie.Need-loop-i-init invariant-loop decreases-loop
 loop-holds c = begin _ _ _ refl (omega arith)
 
-mul-initial : tie.Need-overflow-mul-initial invariant-loop decreases-loop
+mul-initial : tie.Need-overflow_mul-initial invariant-loop decreases-loop
 mul-initial c = omega arith
 
-add-initial : tie.Need-overflow-add-initial invariant-loop decreases-loop
+add-initial : tie.Need-overflow_add-initial invariant-loop decreases-loop
 add-initial c = omega arith
 
-mul-initial-2 : tie.Need-overflow-mul-initial-2 invariant-loop decreases-loop
+mul-initial-2 : tie.Need-offset_bounds-area-n invariant-loop decreases-loop
 mul-initial-2 c = omega arith
 
-slice-read-initial : tie.Need-slice-read-initial invariant-loop decreases-loop
+slice-read-initial : tie.Need-bounds-area-n invariant-loop decreases-loop
 slice-read-initial c = omega arith
 
-mul-final-stage : tie.Need-overflow-mul-final-stage invariant-loop decreases-loop
+mul-final-stage : tie.Need-overflow_mul-final_stage invariant-loop decreases-loop
 mul-final-stage c = omega arith
 
-add-final-stage : tie.Need-overflow-add-final-stage invariant-loop decreases-loop
+add-final-stage : tie.Need-overflow_add-final_stage invariant-loop decreases-loop
 add-final-stage c = omega arith
 
-mul-final-stage-2 : tie.Need-overflow-mul-final-stage-2 invariant-loop decreases-loop
+mul-final-stage-2 : tie.Need-offset_bounds-area-n-in-loop-i invariant-loop decreases-loop
 mul-final-stage-2 c = omega arith
 
-slice-read-final-stage : tie.Need-slice-read-final-stage invariant-loop decreases-loop
+slice-read-final-stage : tie.Need-bounds-area-n-in-loop-i invariant-loop decreases-loop
 slice-read-final-stage c = omega arith
 
-mul-older-stage : tie.Need-overflow-mul-older-stage invariant-loop decreases-loop
+mul-older-stage : tie.Need-overflow_mul-older_stage invariant-loop decreases-loop
 mul-older-stage c = omega arith
 
-add-older-stage : tie.Need-overflow-add-older-stage invariant-loop decreases-loop
+add-older-stage : tie.Need-overflow_add-older_stage invariant-loop decreases-loop
 add-older-stage c = omega arith
 
-mul-older-stage-2 : tie.Need-overflow-mul-older-stage-2 invariant-loop decreases-loop
+mul-older-stage-2 : tie.Need-offset_bounds-area-n-in-loop-i-2 invariant-loop decreases-loop
 mul-older-stage-2 c = omega arith
 
-slice-read-older-stage : tie.Need-slice-read-older-stage invariant-loop decreases-loop
+slice-read-older-stage : tie.Need-bounds-area-n-in-loop-i-2 invariant-loop decreases-loop
 slice-read-older-stage c = omega arith
 
-mul-first : tie.Need-overflow-mul-first invariant-loop decreases-loop
+mul-first : tie.Need-overflow_mul-first invariant-loop decreases-loop
 mul-first c = omega arith
 
-add-first : tie.Need-overflow-add-first invariant-loop decreases-loop
+add-first : tie.Need-overflow_add-first invariant-loop decreases-loop
 add-first c = omega arith
 
-mul-first-2 : tie.Need-overflow-mul-first-2 invariant-loop decreases-loop
+mul-first-2 : tie.Need-offset_bounds-area-n-in-loop-i-3 invariant-loop decreases-loop
 mul-first-2 c = omega arith
 
-slice-read-first : tie.Need-slice-read-first invariant-loop decreases-loop
+slice-read-first : tie.Need-bounds-area-n-in-loop-i-3 invariant-loop decreases-loop
 slice-read-first c = omega arith
 
-mul-area : tie.Need-overflow-mul-area invariant-loop decreases-loop
+mul-area : tie.Need-overflow_mul-area invariant-loop decreases-loop
 mul-area c = omega arith
 
-add-area : tie.Need-overflow-add-area invariant-loop decreases-loop
+add-area : tie.Need-overflow_add-area invariant-loop decreases-loop
 add-area c = omega arith
 
-mul-area-2 : tie.Need-overflow-mul-area-2 invariant-loop decreases-loop
+mul-area-2 : tie.Need-offset_bounds-area-n-in-loop-i-4 invariant-loop decreases-loop
 mul-area-2 c = omega arith
 
-slice-write-area : tie.Need-slice-write-area invariant-loop decreases-loop
+slice-write-area : tie.Need-bounds-area-n-in-loop-i-4 invariant-loop decreases-loop
 slice-write-area c = omega arith
 
-add-i : tie.Need-overflow-add-i invariant-loop decreases-loop
+add-i : tie.Need-overflow_add-i invariant-loop decreases-loop
 add-i c = omega arith
 
-loop-less : tie.Need-loop-smaller invariant-loop decreases-loop
+loop-less : tie.Need-loop-i-smaller invariant-loop decreases-loop
 loop-less c = omega arith
 
-loop-again : tie.Need-loop-preserved invariant-loop decreases-loop
+loop-again : tie.Need-loop-i-preserved invariant-loop decreases-loop
 unfolding combined_entry
-loop-again c = turn (_ ∷ []) c.before.before.before.before.before.before.before.before.before.loop.invariant (omega arith) (refl, tt)
+loop-again c = turn (_ ∷ []) c.loop-i.invariant (omega arith) (refl, tt)
 
-same_length : tie.Need-same-length invariant-loop decreases-loop
+same_length : tie.Need-shape_of-area invariant-loop decreases-loop
 same_length c = omega arith
 
 returns : tie.Need-returns invariant-loop decreases-loop
-returns c = finish c.before.loop.invariant c.loop-test.false
+returns c = finish c.loop-i.invariant c.loop-i-test.false
 
-pub combine-spec : {M : Type 1} → statement M
-combine-spec =
+pub combine_spec : {M : Type 1} → statement M
+combine_spec =
     tie.close
     (tie.spec
     invariant-loop

@@ -28,39 +28,39 @@ split PlainRow h c v = refl
 plain-requires : tie.Need-plain-requires
 plain-requires c κs = search rules
 
-returns : tie.Need-returns
+returns : tie.Need-returns-then-plain
 unfolding Reads plain_entry
 returns c = λ v r.
-    let d = c.before.before.before.before.before.before in
-    let a = d.before.before.args in
-    let bare = sym d.before.plain.ensures ∙ d.if1.true in
+    let d = c in
+    let a = d.args in
+    let bare = sym d.plain.ensures ∙ d.if-plain.true in
     rw (r.0, r.1, r.3, split a.form a.step a.c v, bare)
 
-weighted-requires : tie.Need-weighted-requires
+weighted-requires : tie.Need-weighted-sum-requires
 weighted-requires c κs = search rules
 
-two-products-requires : tie.Need-two-products-requires
+two-products-requires : tie.Need-two_products-requires
 two-products-requires c κs = search rules
 
-returns-2 : tie.Need-returns-2
+returns-2 : tie.Need-returns-then-two_products
 unfolding Reads
 returns-2 c = λ v r.
-    let b = c.before.before.before.before in
-    let d = b.before.before.before in
-    let a = d.before.before.args in
-    let full = sym d.before.plain.ensures ∙ d.if1.false in
-    let two = sym b.before.two_products.ensures ∙ b.if2.true in
-    rw (b.before.before.weighted.ensures v r, r.3, r.4, split a.form a.step a.c v, full, two)
+    let b = c in
+    let d = b in
+    let a = d.args in
+    let full = sym d.plain.ensures ∙ d.if-plain.false in
+    let two = sym b.two_products.ensures ∙ b.if-two_products.true in
+    rw (b.weighted-sum.ensures v r, r.3, r.4, split a.form a.step a.c v, full, two)
 
-returns-3 : tie.Need-returns-3
+returns-3 : tie.Need-returns-else-two_products
 unfolding Reads
 returns-3 c = λ v r.
-    let b = c.before.before.before.before in
-    let d = b.before.before.before in
-    let a = d.before.before.args in
-    let full = sym d.before.plain.ensures ∙ d.if1.false in
-    let one = sym b.before.two_products.ensures ∙ b.if2.false in
-    rw (b.before.before.weighted.ensures v r, r.3, r.4, split a.form a.step a.c v, full, one)
+    let b = c in
+    let d = b in
+    let a = d.args in
+    let full = sym d.plain.ensures ∙ d.if-plain.false in
+    let one = sym b.two_products.ensures ∙ b.if-two_products.false in
+    rw (b.weighted-sum.ensures v r, r.3, r.4, split a.form a.step a.c v, full, one)
 
-pub entry-of-spec : {M : Type 1} → statement M
-entry-of-spec = tie.close (tie.spec plain-requires returns weighted-requires two-products-requires returns-2 returns-3)
+pub entry_of_spec : {M : Type 1} → statement M
+entry_of_spec = tie.close (tie.spec plain-requires returns weighted-requires two-products-requires returns-2 returns-3)

@@ -17,86 +17,86 @@ use Rattle.workspace.proofs.stages.first_stage.Tie as tie
 abbrev rules : Float → Float → Rules
 rules step mu~ = (previous_two, λ x. x state) ∷ (previous_one, λ x. x state ⊕ step ⊗ mu~ ⊗ x first_derivative) ∷ []
 
-abbrev invariant-loop : tie.invariant-loop
+abbrev invariant-loop : tie.invariant-loop-i
 invariant-loop area₀ n step mu_tilde i₀ area i = Working n (rules step mu_tilde) area₀ area i
 
-abbrev decreases-loop : tie.decreases-loop
+abbrev decreases-loop : tie.decreases-loop-i
 decreases-loop area₀ n step mu_tilde i₀ area i = n - i
 
-loop-holds : tie.Need-loop-init invariant-loop decreases-loop
+loop-holds : tie.Need-loop-i-init invariant-loop decreases-loop
 loop-holds c = begin _ _ _ refl (omega arith)
 
-mul-initial : tie.Need-overflow-mul-initial invariant-loop decreases-loop
+mul-initial : tie.Need-overflow_mul-initial invariant-loop decreases-loop
 mul-initial c = omega arith
 
-add-initial : tie.Need-overflow-add-initial invariant-loop decreases-loop
+add-initial : tie.Need-overflow_add-initial invariant-loop decreases-loop
 add-initial c = omega arith
 
-mul-initial-2 : tie.Need-overflow-mul-initial-2 invariant-loop decreases-loop
+mul-initial-2 : tie.Need-offset_bounds-area-n invariant-loop decreases-loop
 mul-initial-2 c = omega arith
 
-slice-read-initial : tie.Need-slice-read-initial invariant-loop decreases-loop
+slice-read-initial : tie.Need-bounds-area-n invariant-loop decreases-loop
 slice-read-initial c = omega arith
 
-mul-first : tie.Need-overflow-mul-first invariant-loop decreases-loop
+mul-first : tie.Need-overflow_mul-first invariant-loop decreases-loop
 mul-first c = omega arith
 
-add-first : tie.Need-overflow-add-first invariant-loop decreases-loop
+add-first : tie.Need-overflow_add-first invariant-loop decreases-loop
 add-first c = omega arith
 
-mul-first-2 : tie.Need-overflow-mul-first-2 invariant-loop decreases-loop
+mul-first-2 : tie.Need-offset_bounds-area-n-in-loop-i invariant-loop decreases-loop
 mul-first-2 c = omega arith
 
-slice-read-first : tie.Need-slice-read-first invariant-loop decreases-loop
+slice-read-first : tie.Need-bounds-area-n-in-loop-i invariant-loop decreases-loop
 slice-read-first c = omega arith
 
-mul-area : tie.Need-overflow-mul-area invariant-loop decreases-loop
+mul-area : tie.Need-overflow_mul-area invariant-loop decreases-loop
 mul-area c = omega arith
 
-add-area : tie.Need-overflow-add-area invariant-loop decreases-loop
+add-area : tie.Need-overflow_add-area invariant-loop decreases-loop
 add-area c = omega arith
 
-mul-area-2 : tie.Need-overflow-mul-area-2 invariant-loop decreases-loop
+mul-area-2 : tie.Need-offset_bounds-area-n-in-loop-i-2 invariant-loop decreases-loop
 mul-area-2 c = omega arith
 
-slice-write-area : tie.Need-slice-write-area invariant-loop decreases-loop
+slice-write-area : tie.Need-bounds-area-n-in-loop-i-2 invariant-loop decreases-loop
 slice-write-area c = omega arith
 
-mul-area-3 : tie.Need-overflow-mul-area-3 invariant-loop decreases-loop
+mul-area-3 : tie.Need-overflow_mul-area-in-loop-i invariant-loop decreases-loop
 mul-area-3 c = omega arith
 
-add-area-2 : tie.Need-overflow-add-area-2 invariant-loop decreases-loop
+add-area-2 : tie.Need-overflow_add-area-in-loop-i invariant-loop decreases-loop
 add-area-2 c = omega arith
 
-mul-area-4 : tie.Need-overflow-mul-area-4 invariant-loop decreases-loop
+mul-area-4 : tie.Need-offset_bounds-area-n-in-loop-i-3 invariant-loop decreases-loop
 mul-area-4 c = omega arith
 
-slice-write-area-2 : tie.Need-slice-write-area-2 invariant-loop decreases-loop
+slice-write-area-2 : tie.Need-bounds-area-n-in-loop-i-3 invariant-loop decreases-loop
 slice-write-area-2 c = simp length-set (omega arith)
 
-add-i : tie.Need-overflow-add-i invariant-loop decreases-loop
+add-i : tie.Need-overflow_add-i invariant-loop decreases-loop
 add-i c = omega arith
 
-loop-less : tie.Need-loop-smaller invariant-loop decreases-loop
+loop-less : tie.Need-loop-i-smaller invariant-loop decreases-loop
 loop-less c = omega arith
 
-loop-again : tie.Need-loop-preserved invariant-loop decreases-loop
-loop-again c = turn (_ ∷ _ ∷ []) c.before.before.before.loop.invariant (omega arith) (refl, (refl, tt))
+loop-again : tie.Need-loop-i-preserved invariant-loop decreases-loop
+loop-again c = turn (_ ∷ _ ∷ []) c.loop-i.invariant (omega arith) (refl, (refl, tt))
 
-same_length : tie.Need-same-length invariant-loop decreases-loop
+same_length : tie.Need-shape_of-area invariant-loop decreases-loop
 same_length c = omega arith
 
 returns : tie.Need-returns invariant-loop decreases-loop
 unfolding first_stage
 returns c =
-    let a = c.before.before.args in
+    let a = c.args in
     let v = unpack a.n a.area.now in
-    becomes_as (finish c.before.loop.invariant c.loop-test.false)
+    becomes_as (finish c.loop-i.invariant c.loop-i-test.false)
     (ap (λ (x : List Float). v with previous_two ≔ x with previous_one ≔ each a.n v (λ y. y state ⊕ a.step ⊗ a.mu_tilde ⊗ y first_derivative))
     (each_same a.n v state (long_at a.n a.area.now state (omega arith))))
 
-pub first-stage-spec : {M : Type 1} → statement M
-first-stage-spec =
+pub first_stage_spec : {M : Type 1} → statement M
+first_stage_spec =
     tie.close
     (tie.spec
     invariant-loop

@@ -33,81 +33,81 @@ fits f b n older l told is h =
     let all : 12 * n ≤ l = subst (λ (k : ℕ). k * n ≤ l) (twelve f told) h in
     (omega arith, subst (λ (k : ℕ). (k + 1) * n ≤ l) (sym is) (omega (arith, room 12 (number b) n (number_below b))))
 
-facts-of-requires : tie.Need-facts-of-requires
+facts-of-requires : tie.Need-facts_of-own-requires
 facts-of-requires c κs = search rules
 
-enum_told : tie.Need-enum-told
+enum_told : tie.Need-enum_told-1
 enum_told c = search rules
 
-copy-vector-requires : tie.Need-copy-vector-requires
+copy-vector-requires : tie.Need-copy_vector-requires
 copy-vector-requires c κs =
-    let x = c.before.before.before.before.before.args in
+    let x = c.args in
     let e = eleven (kind x.setting) x.n in
     (omega arith, ((omega arith, omega arith), (omega arith, omega arith)))
 
-enum-told-2 : tie.Need-enum-told-2
+enum-told-2 : tie.Need-enum_told-in-Combined
 enum-told-2 c = search rules
 
-candidate-weights-requires : tie.Need-candidate-weights-requires
+candidate-weights-requires : tie.Need-candidate_weights-requires
 candidate-weights-requires c κs = search rules
 
 combine-requires : tie.Need-combine-requires
 combine-requires c κs =
-    let x = c.before.before.before.before.before.before.args in
+    let x = c.args in
     let e = eleven (kind x.setting) x.n in
     omega arith
 
-enum-told-3 : tie.Need-enum-told-3
+enum-told-3 : tie.Need-enum_told-in-WithOlder
 enum-told-3 c = search rules
 
-older-of-requires : tie.Need-older-of-requires
+older-of-requires : tie.Need-older_of-older-requires
 older-of-requires c κs = search rules
 
 mix-requires : tie.Need-mix-requires
 mix-requires c κs =
-    let x = c.before.before.before.before.before.before.args in
+    let x = c.args in
     let m = x.setting in
-    let told = sym (ap (λ (y : Facts). y.candidate) c.before.before.before.before.facts_of.ensures) ∙ c.before.before.enum-told3.given.1 in
-    fits (kind m) (older_of m) x.n _ _ told c.before.older_of.ensures c.before.before.before.before.before.before.requires
+    let told = sym (ap (λ (y : Facts). y.candidate) c.facts_of-own.ensures) ∙ c.in-WithOlder.is in
+    fits (kind m) (older_of m) x.n _ _ told c.older_of-older.ensures c.requires
 
-same_length : tie.Need-same-length
+same_length : tie.Need-shape_of-area-in-LastStage
 same_length c = search rules
 
-returns : tie.Need-returns
+returns : tie.Need-returns-in-LastStage
 unfolding candidate_in
 returns c =
-    let x = c.before.before.before.before.before.before.before.before.args in
-    becomes_as c.before.before.copy-vector.ensures
+    let x = c.args in
+    becomes_as c.copy_vector.ensures
     (kept_in _ _ x.setting x.n x.step x.s x.c x.row (unpack x.n x.area.now)
-    c.before.before.before.before.before.before.facts_of.ensures c.before.before.before.before.enum_told.given.1)
+    c.facts_of-own.ensures c.in-LastStage.is)
 
-same-length-2 : tie.Need-same-length-2
+same-length-2 : tie.Need-shape_of-area-in-Combined
 same-length-2 c = search rules
 
-returns-2 : tie.Need-returns-2
+returns-2 : tie.Need-returns-in-Combined
 unfolding candidate_in
 returns-2 c =
-    let x = c.before.before.before.before.before.before.before.before.before.args in
+    let x = c.args in
     let v = unpack x.n x.area.now in
-    becomes_as c.before.before.combine.ensures
-    (ap (λ (w : Weights). v with candidate ≔ each x.n v (combined_entry x.step w)) c.before.before.before.candidate_weights.ensures
-    ∙ kept_in _ _ x.setting x.n x.step x.s x.c x.row v c.before.before.before.before.before.before.before.facts_of.ensures
-    c.before.before.before.before.before.enum-told2.given.1)
+    becomes_as c.combine.ensures
+    (ap (λ (w : Weights). v with candidate ≔ each x.n v (combined_entry x.step w)) c.candidate_weights.ensures
+    ∙ kept_in _ _ x.setting x.n x.step x.s x.c x.row v c.facts_of-own.ensures
+    c.in-Combined.is)
 
-same-length-3 : tie.Need-same-length-3
+same-length-3 : tie.Need-shape_of-area-in-WithOlder
 same-length-3 c = search rules
 
-returns-3 : tie.Need-returns-3
+returns-3 : tie.Need-returns-in-WithOlder
 unfolding candidate_in
 returns-3 c =
-    let x = c.before.before.before.before.before.before.before.before.before.args in
+    let x = c.args in
     let v = unpack x.n x.area.now in
-    becomes_as (c.before.before.mix.ensures (older_of x.setting) (sym c.before.before.before.before.older_of.ensures))
-    (kept_in _ _ x.setting x.n x.step x.s x.c x.row v c.before.before.before.before.before.before.before.facts_of.ensures
-    c.before.before.before.before.before.enum-told3.given.1)
+    becomes_as (c.mix.ensures (older_of x.setting) (sym c.older_of-older.ensures))
+    (kept_in _ _ x.setting x.n x.step x.s x.c x.row v c.facts_of-own.ensures
+    c.in-WithOlder.is)
 
-pub keep-candidate-spec : {M : Type 1} → statement M
-keep-candidate-spec =
+pub keep_candidate_spec : {M : Type 1} → statement M
+keep_candidate_spec =
     tie.close
     (tie.spec
     facts-of-requires

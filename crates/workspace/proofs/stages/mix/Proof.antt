@@ -13,65 +13,65 @@ use Rattle.workspace.proofs.Columns.{Working, begin, turn, finish}
 use Rattle.workspace.proofs.stages.mix.Statement.{statement}
 use Rattle.workspace.proofs.stages.mix.Tie as tie
 
-abbrev invariant-loop : tie.invariant-loop
+abbrev invariant-loop : tie.invariant-loop-i
 invariant-loop area₀ n older gain from rest i₀ area i =
     ((b : Vector) → number b ≡ older → Working n ((candidate, mixed_entry b gain) ∷ []) area₀ area i)
     × (11 * n ≤ length area) × (older * n + n ≤ length area) × (length area ≡ length area₀)
 
-abbrev decreases-loop : tie.decreases-loop
+abbrev decreases-loop : tie.decreases-loop-i
 decreases-loop area₀ n older gain from rest i₀ area i = n - i
 
-mul-from : tie.Need-overflow-mul-from invariant-loop decreases-loop
+mul-from : tie.Need-overflow_mul-from invariant-loop decreases-loop
 mul-from c = omega arith
 
-loop-holds : tie.Need-loop-init invariant-loop decreases-loop
+loop-holds : tie.Need-loop-i-init invariant-loop decreases-loop
 loop-holds c = (λ b e. begin _ _ _ refl (omega arith), omega arith, omega arith, refl)
 
-add-before : tie.Need-overflow-add-before invariant-loop decreases-loop
+add-before : tie.Need-overflow_add-before invariant-loop decreases-loop
 add-before c = omega arith
 
-mul-before : tie.Need-overflow-mul-before invariant-loop decreases-loop
+mul-before : tie.Need-offset_bounds-area-from invariant-loop decreases-loop
 mul-before c = omega arith
 
-slice-read-before : tie.Need-slice-read-before invariant-loop decreases-loop
+slice-read-before : tie.Need-bounds-area-from invariant-loop decreases-loop
 slice-read-before c = omega arith
 
-mul-final-stage : tie.Need-overflow-mul-final-stage invariant-loop decreases-loop
+mul-final-stage : tie.Need-overflow_mul-final_stage invariant-loop decreases-loop
 mul-final-stage c = omega arith
 
-add-final-stage : tie.Need-overflow-add-final-stage invariant-loop decreases-loop
+add-final-stage : tie.Need-overflow_add-final_stage invariant-loop decreases-loop
 add-final-stage c = omega arith
 
-mul-final-stage-2 : tie.Need-overflow-mul-final-stage-2 invariant-loop decreases-loop
+mul-final-stage-2 : tie.Need-offset_bounds-area-n invariant-loop decreases-loop
 mul-final-stage-2 c = omega arith
 
-slice-read-final-stage : tie.Need-slice-read-final-stage invariant-loop decreases-loop
+slice-read-final-stage : tie.Need-bounds-area-n invariant-loop decreases-loop
 slice-read-final-stage c = omega arith
 
-mul-area : tie.Need-overflow-mul-area invariant-loop decreases-loop
+mul-area : tie.Need-overflow_mul-area invariant-loop decreases-loop
 mul-area c = omega arith
 
-add-area : tie.Need-overflow-add-area invariant-loop decreases-loop
+add-area : tie.Need-overflow_add-area invariant-loop decreases-loop
 add-area c = omega arith
 
-mul-area-2 : tie.Need-overflow-mul-area-2 invariant-loop decreases-loop
+mul-area-2 : tie.Need-offset_bounds-area-n-in-loop-i invariant-loop decreases-loop
 mul-area-2 c = omega arith
 
-slice-write-area : tie.Need-slice-write-area invariant-loop decreases-loop
+slice-write-area : tie.Need-bounds-area-n-in-loop-i invariant-loop decreases-loop
 slice-write-area c = omega arith
 
-add-i : tie.Need-overflow-add-i invariant-loop decreases-loop
+add-i : tie.Need-overflow_add-i invariant-loop decreases-loop
 add-i c = omega arith
 
-loop-less : tie.Need-loop-smaller invariant-loop decreases-loop
+loop-less : tie.Need-loop-i-smaller invariant-loop decreases-loop
 loop-less c = omega arith
 
-loop-again : tie.Need-loop-preserved invariant-loop decreases-loop
+loop-again : tie.Need-loop-i-preserved invariant-loop decreases-loop
 unfolding mixed_entry of_bits
 loop-again c =
-    let r = c.before.before.before in
-    let a = r.before.args in
-    let l = r.loop in (
+    let r = c in
+    let a = r.args in
+    let l = r.loop-i in (
       λ b e. turn (_ ∷ []) (l.invariant.0 b e) (omega arith)
           (ap (λ (k : ℕ). (one ⊖ a.gain) ⊗ get_or l.area (k * a.n + l.i) nan ⊕ a.gain ⊗ get_or l.area (number next_stage * a.n + l.i) nan) (sym e), tt),
       simp length-set (omega arith),
@@ -79,14 +79,14 @@ loop-again c =
       simp length-set l.invariant.3,
     )
 
-same_length : tie.Need-same-length invariant-loop decreases-loop
+same_length : tie.Need-shape_of-area invariant-loop decreases-loop
 same_length c = omega arith
 
 returns : tie.Need-returns invariant-loop decreases-loop
-returns c = λ b e. finish (c.before.loop.invariant.0 b e) c.loop-test.false
+returns c = λ b e. finish (c.loop-i.invariant.0 b e) c.loop-i-test.false
 
-pub mix-spec : {M : Type 1} → statement M
-mix-spec =
+pub mix_spec : {M : Type 1} → statement M
+mix_spec =
     tie.close
     (tie.spec
     invariant-loop

@@ -12,21 +12,21 @@ use native.Mathlib.Omega.{arith}
 use Rattle.workspace.proofs.stages.move_singly.Statement.{statement}
 use Rattle.workspace.proofs.stages.move_singly.Tie as tie
 
-move-rest-requires : tie.Need-move-rest-requires
+move-rest-requires : tie.Need-move_rest-requires
 move-rest-requires c κs = omega arith
 
-same_length : tie.Need-same-length
+same_length : tie.Need-shape_of-ten
 same_length c = omega arith
 
 returns : tie.Need-returns
 unfolding with_row_in
 returns c =
-    let x = c.before.before.before.before.before.before.args in
-    let p = c.before.before.before.before.before.before.requires in
+    let x = c.args in
+    let p = c.requires in
     let l = x.ten.now in
     let begun = begin_taking derivative x.derivative.now x.n l 10 (exchange_rules (entry_in x.form x.step x.c)) refl (omega arith) in
-    finish_taking _ _ _ _ p.1 (goes_on _ _ _ _ _ _ _ _ begun (omega arith) c.before.before.move-rest.ensures) (omega arith)
+    finish_taking _ _ _ _ p.1 (goes_on _ _ _ _ _ _ _ _ begun (omega arith) c.move_rest.ensures) (omega arith)
     ∙ exchange_law _ _ _ (long_at x.n l previous_two (omega arith)) (long_at x.n l previous_one (omega arith))
 
-pub move-singly-spec : {M : Type 1} → statement M
-move-singly-spec = tie.close (tie.spec move-rest-requires same_length returns)
+pub move_singly_spec : {M : Type 1} → statement M
+move_singly_spec = tie.close (tie.spec move-rest-requires same_length returns)

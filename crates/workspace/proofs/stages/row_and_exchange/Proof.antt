@@ -11,38 +11,38 @@ use native.Mathlib.Omega.{arith}
 use Rattle.workspace.proofs.stages.row_and_exchange.Statement.{statement}
 use Rattle.workspace.proofs.stages.row_and_exchange.Tie as tie
 
-row-form-requires : tie.Need-row-form-requires
+row-form-requires : tie.Need-row_form-form-requires
 row-form-requires c κs = search rules
 
-mul-end : tie.Need-overflow-mul-end
+mul-end : tie.Need-overflow_mul-end
 mul-end c = search rules
 
-sub-row-and-exchange-in : tie.Need-overflow-sub-row-and-exchange-in
+sub-row-and-exchange-in : tie.Need-slice_bounds-row_and_exchange_in-count
 sub-row-and-exchange-in c = search rules
 
-part-row-and-exchange-in-start : tie.Need-slice-bounds-row-and-exchange-in-start
+part-row-and-exchange-in-start : tie.Need-slice_bounds-row_and_exchange_in-start
 part-row-and-exchange-in-start c = search rules
 
-part-row-and-exchange-in-end : tie.Need-slice-bounds-row-and-exchange-in-end
+part-row-and-exchange-in-end : tie.Need-slice_bounds-row_and_exchange_in-end
 part-row-and-exchange-in-end c = search rules
 
-row-and-exchange-in-requires : tie.Need-row-and-exchange-in-requires
+row-and-exchange-in-requires : tie.Need-row_and_exchange_in-requires
 row-and-exchange-in-requires c κs = search rules
 
-same_length : tie.Need-same-length
+same_length : tie.Need-shape_of-area
 same_length c = search rules
 
 returns : tie.Need-returns
 returns c =
-    let x = c.before.before.before.before.before.before.before.args in
+    let x = c.args in
     let d = x.derivative.now in
     let form = (facts_of (kind x.setting)).row in
     let f : Vectors → Vectors = λ w. exchanged (with_row_in form x.n x.step x.c w d) in
-    ten x.n x.area.now (omega arith) f (exchange_beside form x.n x.step x.c d) c.before.before.row-and-exchange-in.new.0 (omega arith)
-    (rw (← c.before.before.before.before.row-form.ensures) c.before.before.row-and-exchange-in.ensures)
+    ten x.n x.area.now (omega arith) f (exchange_beside form x.n x.step x.c d) c.row_and_exchange_in.new.ten (omega arith)
+    (rw (← c.row_form-form.ensures) c.row_and_exchange_in.ensures)
 
-pub row-and-exchange-spec : {M : Type 1} → statement M
-row-and-exchange-spec =
+pub row_and_exchange_spec : {M : Type 1} → statement M
+row_and_exchange_spec =
     tie.close
     (tie.spec
     row-form-requires

@@ -4,33 +4,33 @@ use borrow.Author.Rules.{rules}
 use Rattle.workspace.proofs.stages.two_products.Statement.{statement}
 use Rattle.workspace.proofs.stages.two_products.Tie as tie
 
-enum_told : tie.Need-enum-told
+enum_told : tie.Need-enum_told-1
 enum_told c = search rules
 
-enum-told-2 : tie.Need-enum-told-2
+enum-told-2 : tie.Need-enum_told-in-OrthogonalRow
 enum-told-2 c = search rules
 
-enum-told-3 : tie.Need-enum-told-3
+enum-told-3 : tie.Need-enum_told-in-InitialFirstRow
 enum-told-3 c = search rules
 
-enum-told-4 : tie.Need-enum-told-4
+enum-told-4 : tie.Need-enum_told-in-PlainRow
 enum-told-4 c = search rules
 
-returns : tie.Need-returns
+returns : tie.Need-returns-in-ChebyshevRow
 unfolding two_products
-returns c = rw c.enum_told.given.1
+returns c = rw c.in-ChebyshevRow.is
 
-returns-2 : tie.Need-returns-2
+returns-2 : tie.Need-returns-in-OrthogonalRow
 unfolding two_products
-returns-2 c = rw c.enum-told2.given.1
+returns-2 c = rw c.in-OrthogonalRow.is
 
-returns-3 : tie.Need-returns-3
+returns-3 : tie.Need-returns-in-InitialFirstRow
 unfolding two_products
-returns-3 c = rw c.enum-told3.given.1
+returns-3 c = rw c.in-InitialFirstRow.is
 
-returns-4 : tie.Need-returns-4
+returns-4 : tie.Need-returns-in-PlainRow
 unfolding two_products
-returns-4 c = rw c.enum-told4.given.1
+returns-4 c = rw c.in-PlainRow.is
 
-pub two-products-spec : {M : Type 1} → statement M
-two-products-spec = tie.close (tie.spec enum_told enum-told-2 enum-told-3 enum-told-4 returns returns-2 returns-3 returns-4)
+pub two_products_spec : {M : Type 1} → statement M
+two_products_spec = tie.close (tie.spec enum_told enum-told-2 enum-told-3 enum-told-4 returns returns-2 returns-3 returns-4)
