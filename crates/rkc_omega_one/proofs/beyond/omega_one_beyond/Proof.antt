@@ -4,21 +4,21 @@ use Rattle.rkc_omega_one.specs.Beyond.{omega_one_beyond}
 use Rattle.rkc_omega_one.proofs.beyond.omega_one_beyond.Statement.{statement}
 use Rattle.rkc_omega_one.proofs.beyond.omega_one_beyond.Tie as tie
 
-capped-requires : tie.Need-capped-requires
+capped-requires : tie.Need-capped-i-requires
 capped-requires c κs = search rules
 
-row-of-requires : tie.Need-row-of-requires
+row-of-requires : tie.Need-row_of-row-requires
 row-of-requires c κs = search rules
 
-mul-result : tie.Need-overflow-mul-result
+mul-result : tie.Need-offset_bounds-row-j
 mul-result c = search rules
 
-array-read-result : tie.Need-array-read-result
+array-read-result : tie.Need-bounds-row-j
 array-read-result c = search rules
 
 returns : tie.Need-returns
 unfolding omega_one_beyond
-returns c = rw (c.row_of.ensures, c.before.capped.ensures)
+returns c = rw (c.row_of-row.ensures, c.capped-i.ensures)
 
-pub omega-one-beyond-spec : {M : Type 1} → statement M
-omega-one-beyond-spec = tie.close (tie.spec capped-requires row-of-requires mul-result array-read-result returns)
+pub omega_one_beyond_spec : {M : Type 1} → statement M
+omega_one_beyond_spec = tie.close (tie.spec capped-requires row-of-requires mul-result array-read-result returns)
