@@ -1,1 +1,3 @@
+#![tactic(auto)]
+
 // Exact fractions: definitions and laws only, no code.

@@ -1,13 +1,13 @@
 -- The smallest count whose threshold is at least r (`smallest`), found by halving where the thresholds are positive and rise (`found`): for every r, a NaN and
 -- the infinities too. And what makes a count the smallest (`is_smallest`) and where it lies (`smallest_from`, `smallest_to`), whether they rise or not.
 -- Assumes nothing.
-use mathlib.Core.Path.{◌≡◌, refl, ap, ◌∙◌, subst}
+use mathlib.Core.Path.{◌≡◌, subst}
 use mathlib.Core.Logic.{inl, inr}
 use mathlib.Core.Bool.{Bool, true, false, not, cond}
 use Prim.Native.Nat.{ℕ, zero, suc, ◌+◌, ◌-◌, ◌≤◌, ◌<◌}
 use native.Mathlib.Nat.{eq-or-lt_of_le, le_trans}
 use native.Mathlib.Omega.{arith}
-use lib.Dec.{T, T_not, not_T}
+use lib.Dec.{T, not_T}
 use lib.Ieee.{Float, le}
 use lib.Ieee.Bits.{is_true, is_false}
 use lib.Ieee.Positive.{positive}

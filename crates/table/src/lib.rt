@@ -1,4 +1,6 @@
 // What the tables of doubles by count share. A table is rows of 16 doubles, and a read takes the row whole.
+#![tactic(auto)]
+
 ghost use Rattle.std.specs.Prelude.{◌≡◌, ◌<◌, min};
 ghost use Rattle.table.specs.Rows.{NoneOf};
 
