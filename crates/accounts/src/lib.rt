@@ -1,1 +1,2 @@
 // What the report of a day accounts for: definitions and theorems only, no code.
+#![tactic(auto)]

@@ -1,5 +1,7 @@
 // The six calls for C: the record is lent, as its whole numbers and its doubles, and read and written in place; the answer
 // is a code and what that code carries, by name. Each says what driver's call of that name says.
+#![tactic(auto)]
+
 ghost use Rattle.std.specs.Prelude.{◌≡◌, true, false};
 ghost use Rattle.driver.specs.Calls as calls;
 ghost use Rattle.driver.specs.Promises.{stage_taken};

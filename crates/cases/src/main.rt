@@ -1,5 +1,7 @@
 // Figures that document 01 gives without a mark, and published ones, beside the coefficients of the proved code.
 // Each source is named where its figures are compared.
+#![tactic(auto)]
+
 mod worked;
 
 ghost use Rattle.std.specs.Prelude.{◌≡◌, ◌+◌, ◌-◌, ◌^◌, ◌≤◌, ◌<◌};

@@ -1,4 +1,6 @@
 // The coefficients of a stage's row: orthogonal.rs, and `run_rkc`, `run_rkmc2` and `run_tsrkc2` of chebyshev.rs.
+#![tactic(auto)]
+
 ghost use Rattle.std.specs.Prelude.{◌≡◌, ◌+◌, ◌≤◌, ◌<◌, ◌^◌};
 ghost use Rattle.family.specs.Family.{kind};
 ghost use Rattle.coefficients.specs.Rows as rows;

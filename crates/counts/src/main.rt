@@ -2,6 +2,8 @@
 // subnormal, huge and infinite radii, NaNs and negatives. data/counts was written by the Rust, RKG's formulas being those of document 02, CR 5
 // (bindings/oracle/src/bin/counts.rs): for each radius a word with its bits, and two words with the counts of families 1 to 4 and 5 to 8, two bytes a family,
 // the lowest the first's (0 for a family that is not carried).
+#![tactic(auto)]
+
 use stored::Tally;
 
 #[derive(Drop)]

@@ -1,4 +1,6 @@
 // What is written of the text of a day: the bytes, each an equation with a definition, and their handing to the output.
+#![tactic(auto)]
+
 ghost use Rattle.std.specs.Prelude.{◌≡◌, length, take, replicate};
 ghost use Rattle.ieee.specs.Double.{nought};
 ghost use Rattle.io.specs.Counts.{IsPrefixLen};

@@ -1,6 +1,8 @@
 // The texts that the arguments name, each with what is written of it as a day; at the end a line for each minute of four of
 // them, the first, the fourth, the fifth and the sixth.
 // The longest day is 24,588 bytes, and the first bad line of a longer text is among its first 65,536.
+#![tactic(auto)]
+
 use libc::STDOUT_FILENO;
 
 fn write_text(argument: usize, minutes: bool) {

@@ -1,5 +1,7 @@
 // Works out the roots, floors, ceilings, maxima and casts of stored doubles and compares each bit with what the file says: data/ was made by
 // vectors/doubles.rs. It writes how many of each were compared, and how many differ.
+#![tactic(auto)]
+
 ghost use Rattle.std.specs.Prelude.{◌≡◌, ◌+◌, ◌^◌, ◌<◌, eqb};
 ghost use Rattle.std.specs.Float.{binary64};
 ghost use Rattle.std.specs.Float.Ieee.{of_bits, to_bits, to_unsigned};

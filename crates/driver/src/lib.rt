@@ -1,6 +1,8 @@
 // driver.rs: the six calls. A record goes in by value and comes back by value; the area and the inputs
 // are slices; none of the six requires anything of its caller. `reply_in_stages` and `reply_elsewhere` are the two halves of
 // `reply`, for a caller that has asked `stage_taken`.
+#![tactic(auto)]
+
 ghost use Rattle.std.specs.Prelude.{◌≡◌, true, false, ◌<◌, ◌-◌, ◌*◌, ◌^◌, length};
 ghost use Rattle.family.specs.Family.{family_of};
 ghost use Rattle.workspace.specs.Vectors.{unpack, vector_count};

@@ -1,5 +1,7 @@
 // family.rs: the families, their permitted stage counts and their stage rules. A family is its number, 1 to 7; any other
 // number is taken as 5.
+#![tactic(auto)]
+
 ghost use Rattle.std.specs.Prelude.{◌≡◌, false, ◌+◌, ◌-◌, ◌^◌, min, max};
 ghost use Rattle.ieee.specs.Double.{nought};
 ghost use Rattle.table.specs.Smallest.{smallest};

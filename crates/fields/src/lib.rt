@@ -1,4 +1,6 @@
 // The fields of a text, each read from a place on and answered with its value and the place after it.
+#![tactic(auto)]
+
 ghost use Rattle.std.specs.Prelude.{◌≡◌, ◌^◌, ◌≤◌, ◌<◌, get_or};
 ghost use Rattle.fields.specs.Fields as spec;
 

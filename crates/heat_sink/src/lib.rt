@@ -1,4 +1,6 @@
 // One inverter's heat sink: a chain of temperatures, 0 the junction, and how fast each changes.
+#![tactic(auto)]
+
 ghost use Rattle.std.specs.Prelude.{◌≡◌, ◌<◌, length};
 ghost use Rattle.heat_sink.specs.Model as spec;
 

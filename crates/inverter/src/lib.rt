@@ -1,4 +1,6 @@
 // One inverter over a day: from the text of its readings to the hours above the rated junction temperature.
+#![tactic(auto)]
+
 ghost use Rattle.std.specs.Prelude.{◌≡◌, ◌≤◌, length, replicate};
 ghost use Rattle.ieee.specs.Double.{nought};
 ghost use Rattle.inverter.specs.Day as spec;

@@ -1,4 +1,6 @@
 // The record and the answer as they are lent to C: whole numbers and doubles, read and written in place.
+#![tactic(auto)]
+
 ghost use Rattle.std.specs.Prelude.{◌≡◌, length};
 ghost use Rattle.driver.specs.declared.Staged.TheVariants.{On, OnByTheta, Ended, NotFinite};
 ghost use Rattle.driver.specs.Calls.{no_figures};

@@ -1,4 +1,6 @@
 // The two functions at the end of workspace.rs that take a slice, `vector_norm` and `finite`; and the parts of a norm that `scaled_error_norm` shares.
+#![tactic(auto)]
+
 ghost use Rattle.std.specs.Prelude.{◌≡◌, false, map};
 ghost use Rattle.std.specs.Float.{inf};
 ghost use Rattle.std.specs.Float.Ieee.{eq};

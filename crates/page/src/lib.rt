@@ -1,4 +1,6 @@
 // Text put into a buffer of bytes, each function from a place on, answering the place after it.
+#![tactic(auto)]
+
 ghost use Rattle.std.specs.Prelude.{◌≡◌, ◌+◌, ◌≤◌, ◌<◌, length};
 ghost use Rattle.page.specs.Page as spec;
 

@@ -2,6 +2,8 @@
 // Rust's, bit for bit; in every finished answer s, k and r are the Rust's; after every call the record's three and its history
 // are those of the trace. data/traces was written by bindings/differential/src/bin/sample.rs; docs/VECTORS.md tells of which build of the Rust,
 // and where the definition stands in for it.
+#![tactic(auto)]
+
 ghost use Rattle.std.specs.Prelude.{◌≤◌};
 
 use calls::Made;

@@ -1,4 +1,6 @@
 // RKC's omega_one by stage count: to 200 for family 1, to 1000 for the start of family 8 (document 02, CR 7).
+#![tactic(auto)]
+
 ghost use Rattle.std.specs.Prelude.{◌≡◌};
 ghost use Rattle.rkc_omega_one.specs.Table as spec;
 

@@ -1,4 +1,6 @@
 // RKMC2's omega_one, by count. A count outside 3 to 1000 reads the nearest entry. Written by bindings/oracle (docs/VECTORS.md).
+#![tactic(auto)]
+
 ghost use Rattle.std.specs.Prelude.{◌≡◌, ◌<◌};
 ghost use Rattle.table.specs.Rows.{row};
 ghost use Rattle.rkmc2_omega_one.specs.Table as spec;

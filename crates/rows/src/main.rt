@@ -1,5 +1,7 @@
 // All coefficients of all families, TSRKC2's without a history, held against the Rust's: a digest for each family and count, then every row of one count.
 // The file stdout beside this was written by the Rust (bindings/oracle/src/bin/digests.rs).
+#![tactic(auto)]
+
 ghost use Rattle.std.specs.Prelude.{◌≡◌, ◌*◌, ◌%◌, ◌^◌, ◌<◌, ◌≤◌};
 
 use coefficients::Coefficients;

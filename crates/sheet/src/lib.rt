@@ -1,4 +1,6 @@
 // The text of a day: its first line and its readings.
+#![tactic(auto)]
+
 ghost use Rattle.std.specs.Prelude.{◌≡◌, [], length};
 ghost use Rattle.sheet.specs.Text as spec;
 

@@ -1,4 +1,6 @@
 // The public calls. `reply` is lent the counters; the others neither read nor change them, and are the driver's own.
+#![tactic(auto)]
+
 ghost use Rattle.driver.specs.Calls as calls;
 ghost use Rattle.driver.specs.Promises.{Meets, holding};
 

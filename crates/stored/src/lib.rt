@@ -1,5 +1,7 @@
 // Doubles as they are stored in files of test data: words of eight bytes, the lowest first, each the bit pattern of a double.
 // Programs read such files, work each record out anew and compare bit for bit.
+#![tactic(auto)]
+
 ghost use Rattle.std.specs.Prelude.{◌≡◌, ◌+◌, ◌%◌, ◌^◌, ◌<◌, ◌≤◌, true, length, if◌then◌else◌};
 ghost use Rattle.stored.specs.Stored as spec;
 

@@ -1,5 +1,7 @@
 // Loops over the calls whose speed bench/ measures, and the stage rules by themselves, whose compiled code bindings/run
 // searches for a division.
+#![tactic(auto)]
+
 ghost use Rattle.std.specs.Prelude.{◌≡◌, min};
 ghost use Rattle.family.specs.Family.{family_of, stage_count};
 ghost use Rattle.timed.specs.Left.{roots_over, root_chain};

@@ -1,4 +1,6 @@
 // TSRKC2's omega_zero_minus_one, by count. A count outside 2 to 1000 reads the nearest entry. Written by bindings/oracle (docs/VECTORS.md).
+#![tactic(auto)]
+
 ghost use Rattle.std.specs.Prelude.{◌≡◌, ◌<◌};
 ghost use Rattle.table.specs.Rows.{row};
 ghost use Rattle.tsrkc2_omega_zero_minus_one.specs.Table as spec;

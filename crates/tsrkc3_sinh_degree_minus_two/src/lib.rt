@@ -1,4 +1,6 @@
 // TSRKC3's sinh of (s - 2) acosh(1.25) / s, by count. A count outside 3 to 1000 reads the nearest entry. Written by bindings/oracle (docs/VECTORS.md).
+#![tactic(auto)]
+
 ghost use Rattle.std.specs.Prelude.{◌≡◌, ◌<◌};
 ghost use Rattle.table.specs.Rows.{row};
 ghost use Rattle.tsrkc3_sinh_degree_minus_two.specs.Table as spec;

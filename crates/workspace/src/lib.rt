@@ -1,4 +1,6 @@
 // workspace.rs: the vectors of the lent area, the power iteration's steps, the rows and the error.
+#![tactic(auto)]
+
 ghost use Rattle.std.specs.Prelude.{◌≡◌};
 ghost use Rattle.family.specs.Family.{family_of};
 ghost use Rattle.workspace.specs.Vectors.{vector_count};
