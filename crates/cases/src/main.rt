@@ -6,7 +6,7 @@ mod worked;
 
 ghost use Rattle.std.specs.Prelude.{◌≡◌, ◌+◌, ◌-◌, ◌^◌, ◌≤◌, ◌<◌};
 
-use libc::STDOUT_FILENO;
+use std::io;
 use stored::Tally;
 
 // How many doubles lie from one pattern to the other.
@@ -17,40 +17,47 @@ fn apart(a: u64, b: u64) -> u64
 }
 
 // A figure's name, and how many doubles the code's value lies from the nearest one to the figure.
-fn print_figure(name: &[u8], x: f64, figure: f64) {
-    io::write_all(STDOUT_FILENO, name);
-    io::write_all(STDOUT_FILENO, b": off by ");
-    io::print_decimal(
-        STDOUT_FILENO,
-        apart(ieee::bits_of(x), ieee::bits_of(figure)),
-    );
-    io::write_all(STDOUT_FILENO, b" in the last place\n");
+fn print_figure(rt: &impl Print, name: &[u8], x: f64, figure: f64) -> io::Result<()> {
+    let off = apart(ieee::bits_of(x), ieee::bits_of(figure));
+    rt.write_all(name)?;
+    print!(rt; ": off by {off} in the last place\n")
 }
 
-fn print_named(name: &[u8], t: Tally) {
-    io::write_all(STDOUT_FILENO, name);
-    io::write_all(STDOUT_FILENO, b": ");
-    stored::print_tally(t, b" compared, ");
+fn print_named(rt: &impl Print, name: &[u8], t: Tally) -> io::Result<()> {
+    rt.write_all(name)?;
+    rt.write_all(b": ")?;
+    stored::print_tally(rt, t, b" compared, ")
 }
 
 // Document 01, "orthogonal.rs": the example, RKL2 with s = 3.
-fn legendre_two_figures() {
+fn legendre_two_figures(rt: &impl Print) -> io::Result<()> {
     let c = coefficients::first_recurrence(family::without_history(3), 3);
     let two = coefficients::row_coefficients(family::without_history(3), 3, 2, c);
     let three = coefficients::row_coefficients(family::without_history(3), 3, 3, c);
     print_figure(
+        rt,
         b"RKL2 s = 3, omega_one, 2/5",
         coefficients::omega_one(family::without_history(3), 3),
         2.0 / 5.0,
-    );
-    print_figure(b"stage 2, mu, 3/2", two.mu, 3.0 / 2.0);
-    print_figure(b"stage 2, nu, -1/2", two.nu, -1.0 / 2.0);
-    print_figure(b"stage 2, mu_tilde, 3/5", two.mu_tilde, 3.0 / 5.0);
-    print_figure(b"stage 2, gamma_tilde, -2/5", two.gamma_tilde, -2.0 / 5.0);
-    print_figure(b"stage 3, mu, 25/12", three.mu, 25.0 / 12.0);
-    print_figure(b"stage 3, nu, -5/6", three.nu, -5.0 / 6.0);
-    print_figure(b"stage 3, mu_tilde, 5/6", three.mu_tilde, 5.0 / 6.0);
-    print_figure(b"stage 3, gamma_tilde, -5/9", three.gamma_tilde, -5.0 / 9.0);
+    )?;
+    print_figure(rt, b"stage 2, mu, 3/2", two.mu, 3.0 / 2.0)?;
+    print_figure(rt, b"stage 2, nu, -1/2", two.nu, -1.0 / 2.0)?;
+    print_figure(rt, b"stage 2, mu_tilde, 3/5", two.mu_tilde, 3.0 / 5.0)?;
+    print_figure(
+        rt,
+        b"stage 2, gamma_tilde, -2/5",
+        two.gamma_tilde,
+        -2.0 / 5.0,
+    )?;
+    print_figure(rt, b"stage 3, mu, 25/12", three.mu, 25.0 / 12.0)?;
+    print_figure(rt, b"stage 3, nu, -5/6", three.nu, -5.0 / 6.0)?;
+    print_figure(rt, b"stage 3, mu_tilde, 5/6", three.mu_tilde, 5.0 / 6.0)?;
+    print_figure(
+        rt,
+        b"stage 3, gamma_tilde, -5/9",
+        three.gamma_tilde,
+        -5.0 / 9.0,
+    )
 }
 
 // x is within one part in `parts` of y
@@ -147,10 +154,10 @@ fn reaches() -> Tally {
     t
 }
 
-fn main() {
-    worked::print_case();
-    legendre_two_figures();
-    print_named(b"RKC's stability interval, s = 2 to 200", intervals());
-    print_named(b"RKC's times, s = 2 to 200, stages 2 to s", times());
-    print_named(b"the reach of RKL1 and RKL2, s = 3 to 199", reaches());
+fn main(rt: HostRuntime) -> io::Result<()> {
+    worked::print_case(&rt)?;
+    legendre_two_figures(&rt)?;
+    print_named(&rt, b"RKC's stability interval, s = 2 to 200", intervals())?;
+    print_named(&rt, b"RKC's times, s = 2 to 200, stages 2 to s", times())?;
+    print_named(&rt, b"the reach of RKL1 and RKL2, s = 3 to 199", reaches())
 }

@@ -4,6 +4,8 @@
 // the lowest the first's (0 for a family that is not carried).
 #![tactic(auto)]
 
+use std::io;
+use std::io::Read;
 use stored::Tally;
 
 #[derive(Drop)]
@@ -65,44 +67,47 @@ fn room() -> [u8; 49152] {
 }
 
 // A buffer full of records, or what is left of them.
-fn with_part(tallies: Tallies, fd: i32) -> Part {
+fn with_part(tallies: Tallies, file: &mut impl Read) -> io::Result<Part> {
     let mut buf = room();
-    let n = io::read_full(fd, &mut buf);
+    let n = stored::read_full(file, &mut buf)?;
     let all = with_records(tallies, &buf[..n]);
-    Part {
+    Ok(Part {
         last: n < 49152,
         tallies: all,
-    }
+    })
 }
 
-fn of_file(fd: i32) -> Tallies {
+fn of_file(file: &mut impl Read) -> io::Result<Tallies> {
     let mut all = Tallies {
         compared: Tally { seen: 0, differ: 0 },
         overflowing: Tally { seen: 0, differ: 0 },
     };
     let mut parts: u64 = 1000;
     while parts > 0 {
-        let part = with_part(all, fd);
+        let part = with_part(all, file)?;
         all = part.tallies;
         if part.last {
-            return all;
+            return Ok(all);
         }
         parts -= 1;
     }
-    all
+    Ok(all)
 }
 
-fn main() {
-    let fd = os::open_read(b"counts");
-    if fd < 0 {
-        os::fail(b"counts");
-        return;
-    }
-    let all = of_file(fd);
-    libc::close(fd);
-    stored::print_tally(all.compared, b" counts of the test build of the Rust, ");
+fn main(rt: HostRuntime) -> io::Result<()> {
+    let Some(mut file) = stored::open(&rt, "counts")? else {
+        return Ok(());
+    };
+    let all = of_file(&mut file)?;
+    drop(file);
     stored::print_tally(
+        &rt,
+        all.compared,
+        b" counts of the test build of the Rust, ",
+    )?;
+    stored::print_tally(
+        &rt,
         all.overflowing,
         b" counts of 200 where the Rust's sum overflows, ",
-    );
+    )
 }

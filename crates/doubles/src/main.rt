@@ -8,6 +8,9 @@ ghost use Rattle.std.specs.Float.Ieee.{of_bits, to_bits, to_unsigned};
 ghost use Rattle.ieee.specs.Sqrt as root;
 ghost use Rattle.ieee.specs.Whole as whole;
 
+use std::io::Read;
+use std::rt::{Env, Files};
+use std::{env, io, str};
 use stored::Tally;
 
 #[derive(Drop)]
@@ -123,60 +126,75 @@ fn none() -> Tally {
     Tally { seen: 0, differ: 0 }
 }
 
-fn read_roots(fd: i32) -> Roots {
+fn read_roots(file: &mut impl Read) -> io::Result<Roots> {
     let mut buf = [0u8; 393216];
-    let n = io::read_full(fd, &mut buf);
+    let n = stored::read_full(file, &mut buf)?;
     let t = Roots {
         fast: none(),
         by_digits: none(),
     };
-    roots_in(&buf[..n], t)
+    Ok(roots_in(&buf[..n], t))
 }
 
-fn read_parts(fd: i32) -> Parts {
+fn read_parts(file: &mut impl Read) -> io::Result<Parts> {
     let mut buf = [0u8; 393216];
-    let n = io::read_full(fd, &mut buf);
+    let n = stored::read_full(file, &mut buf)?;
     let t = Parts {
         floor: none(),
         ceil: none(),
         max: none(),
         cast: none(),
     };
-    parts_in(&buf[..n], t)
+    Ok(parts_in(&buf[..n], t))
 }
 
 // ---- the program
 
-// The file named by an argument; below 0 where there is none.
-fn open(argument: usize) -> i32 {
-    let mut path = io::buffer();
-    let length = os::arg(argument, &mut path);
-    if os::errno() != 0 {
-        os::fail(b"path");
-        return -1;
+// Linux's numbers: there is no such argument; it is too long to be a path.
+const EINVAL: i32 = 22;
+
+const ENAMETOOLONG: i32 = 36;
+
+// An argument as text, put at the start of buf.
+fn argument<'a>(rt: &impl Env, i: usize, buf: &'a mut [u8]) -> io::Result<&'a str> {
+    let length = match rt.arg(i, buf) {
+        Ok(length) => length,
+        Err(env::FillError::NotPresent) => return Err(io::Error::from_raw_os_error(EINVAL)),
+        Err(env::FillError::TooLong) => return Err(io::Error::from_raw_os_error(ENAMETOOLONG)),
+    };
+    match str::from_utf8(&buf[..length]) {
+        Ok(text) => Ok(text),
+        Err(_) => Err(io::Error::from(io::ErrorKind::InvalidFilename)),
     }
-    let fd = os::open_read(&path[..length]);
-    if fd < 0 {
-        os::fail(&path[..length]);
-    }
-    fd
 }
 
-fn main() {
-    let roots = open(1);
-    let parts = open(2);
-    if roots < 0 {
-        return;
+// The file named by an argument; none where there is none.
+fn open<R: Env + Files + Eprint>(rt: &R, i: usize) -> io::Result<Option<R::File>> {
+    let mut path = [0u8; 4096];
+    match argument(rt, i, &mut path) {
+        Ok(path) => stored::open(rt, path),
+        Err(error) => {
+            stored::fail(rt, "path", error)?;
+            Ok(None)
+        }
     }
-    if parts < 0 {
-        return;
-    }
-    let r = read_roots(roots);
-    stored::print_tally(r.fast, b" roots, ");
-    stored::print_tally(r.by_digits, b" roots by digits, ");
-    let p = read_parts(parts);
-    stored::print_tally(p.floor, b" floors, ");
-    stored::print_tally(p.ceil, b" ceilings, ");
-    stored::print_tally(p.max, b" maxima, ");
-    stored::print_tally(p.cast, b" casts to u64, ");
+}
+
+fn main(rt: HostRuntime) -> io::Result<()> {
+    let roots = open(&rt, 1)?;
+    let parts = open(&rt, 2)?;
+    let Some(mut roots) = roots else {
+        return Ok(());
+    };
+    let Some(mut parts) = parts else {
+        return Ok(());
+    };
+    let r = read_roots(&mut roots)?;
+    stored::print_tally(&rt, r.fast, b" roots, ")?;
+    stored::print_tally(&rt, r.by_digits, b" roots by digits, ")?;
+    let p = read_parts(&mut parts)?;
+    stored::print_tally(&rt, p.floor, b" floors, ")?;
+    stored::print_tally(&rt, p.ceil, b" ceilings, ")?;
+    stored::print_tally(&rt, p.max, b" maxima, ")?;
+    stored::print_tally(&rt, p.cast, b" casts to u64, ")
 }

@@ -16,7 +16,7 @@ use Rattle.driver.specs.Calls.{no_figures, figures_in, in_phase, at_stage}
 use Rattle.driver.specs.Promises.{outcome_of}
 use Rattle.lent.specs.declared.Answer.{Answer}
 use Rattle.lent.specs.Lent.{wholes_long, doubles_long, lent, left_with, staged_outcome}
-use Rattle.lent.specs.Numbers.{History, Record, Answered, brought, meaning, history_number, written, told, number_in, time_in, in_numbers, stands, handed_back}
+use Rattle.lent.specs.Numbers.{History, Record, Answered, brought, meaning, history_number, written, told, number_in, time_in, stands, handed_back}
 
 -- ---- a list by its elements
 

@@ -10,10 +10,9 @@ use native.Mathlib.Omega.{arith}
 use borrow.Author.Tests.{lt-ltb, le-ltb, lt-leb, ltb-true, ltb-false}
 use lib.Arith.{digits_lt}
 use lib.Dec.{T, ltb, eqb, eqb→eq}
-use lib.ListN.{length, take, drop, get_or}
+use lib.ListN.{take, drop, get_or}
 use lib.Seq.{drop-cons}
 use Rattle.fields.specs.Fields.{digit, digit_at, digits_from}
-use Rattle.fields.specs.declared.Field.{Field}
 use Rattle.fields.specs.declared.Field.TheVariants.{Value, Bad}
 use Rattle.fields.proofs.Reading.{digit_within, digit_on, digit_missing, digit_off, digits_full}
 use Rattle.page.specs.Page.{glyph, digits}

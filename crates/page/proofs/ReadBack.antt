@@ -14,7 +14,7 @@ use lib.ListN.{length, get_or, length-append, get_or-append}
 use lib.Seq.{append_snoc, get_or-append-add, get_or_at}
 use Rattle.fields.specs.Fields.{digit, digit_at, digits_from, ended_by, word_field, number_field}
 use Rattle.fields.specs.declared.Field.{Field}
-use Rattle.fields.specs.declared.Field.TheVariants.{Value, Bad}
+use Rattle.fields.specs.declared.Field.TheVariants.{Value}
 use Rattle.fields.proofs.Reading.{digit_on, digit_off, digits_full, first_not_zero, ended}
 use Rattle.page.specs.Page.{glyph, digits, places, decimal, word}
 use Rattle.page.proofs.Digits.{length_digits}

@@ -6,7 +6,7 @@ ghost use Rattle.std.specs.Prelude.{◌≡◌, ◌*◌, ◌%◌, ◌^◌, ◌<�
 
 use coefficients::Coefficients;
 use family::Setting;
-use libc::STDOUT_FILENO;
+use std::io;
 
 // FNV-1a's product, to 64 bits: by 2 ^ 40 + 0x1b3.
 fn times_prime(h: u64) -> u64
@@ -62,55 +62,58 @@ fn digest(family: u64, s: u64) -> u64
 }
 
 // "family s"
-fn print_count(family: u64, s: u64) {
-    io::print_decimal(STDOUT_FILENO, family);
-    io::write_all(STDOUT_FILENO, b" ");
-    io::print_decimal(STDOUT_FILENO, s);
+fn print_count(rt: &impl Print, family: u64, s: u64) -> io::Result<()> {
+    print!(rt; "{family} {s}")
 }
 
-fn print_word(word: u64) {
-    io::write_all(STDOUT_FILENO, b" ");
-    io::print_hex(STDOUT_FILENO, word, 16);
+fn print_word(rt: &impl Print, word: u64) -> io::Result<()> {
+    print!(rt; " {word:016x}")
 }
 
-fn print_double(x: f64) {
-    print_word(ieee::bits_of(x));
+fn print_double(rt: &impl Print, x: f64) -> io::Result<()> {
+    print_word(rt, ieee::bits_of(x))
 }
 
 // A line for each permitted count: family, s, digest.
-fn print_digests(family: u64) {
+fn print_digests(rt: &impl Print, family: u64) -> io::Result<()> {
     let mut s: u64 = 2;
     while s <= family::MOST_STAGES {
         if family::permitted(family, s) {
-            print_count(family, s);
-            print_word(digest(family, s));
-            io::write_all(STDOUT_FILENO, b"\n");
+            print_count(rt, family, s)?;
+            print_word(rt, digest(family, s))?;
+            print!(rt; "\n")?;
         }
         s += 1;
     }
+    Ok(())
 }
 
-fn print_coefficients(row: Coefficients) {
-    print_double(row.mu);
-    print_double(row.nu);
-    print_double(row.mu_tilde);
-    print_double(row.gamma_tilde);
-    print_double(row.theta);
+fn print_coefficients(rt: &impl Print, row: Coefficients) -> io::Result<()> {
+    print_double(rt, row.mu)?;
+    print_double(rt, row.nu)?;
+    print_double(rt, row.mu_tilde)?;
+    print_double(rt, row.gamma_tilde)?;
+    print_double(rt, row.theta)
 }
 
 // family, s, j, mu, nu, mu_tilde, gamma_tilde, theta, omega_one, first_mu_tilde
-fn print_row(setting: Setting, s: u64, j: u64, row: Coefficients) {
-    print_count(setting.family, s);
-    io::write_all(STDOUT_FILENO, b" ");
-    io::print_decimal(STDOUT_FILENO, j);
-    print_coefficients(row);
-    print_double(coefficients::omega_one(setting, s));
-    print_double(coefficients::first_mu_tilde(setting, s));
-    io::write_all(STDOUT_FILENO, b"\n");
+fn print_row(
+    rt: &impl Print,
+    setting: Setting,
+    s: u64,
+    j: u64,
+    row: Coefficients,
+) -> io::Result<()> {
+    print_count(rt, setting.family, s)?;
+    print!(rt; " {j}")?;
+    print_coefficients(rt, row)?;
+    print_double(rt, coefficients::omega_one(setting, s))?;
+    print_double(rt, coefficients::first_mu_tilde(setting, s))?;
+    print!(rt; "\n")
 }
 
 // A line for each stage.
-fn print_rows(family: u64, s: u64)
+fn print_rows(rt: &impl Print, family: u64, s: u64) -> io::Result<()>
     requires { (2 ≤ s) × (s < 2 ^ 16) }
 {
     let setting = family::without_history(family);
@@ -118,25 +121,26 @@ fn print_rows(family: u64, s: u64)
     let mut j: u64 = 2;
     while j <= s {
         let row = coefficients::row_coefficients(setting, s, j, c);
-        print_row(setting, s, j, row);
+        print_row(rt, setting, s, j, row)?;
         c = coefficients::next_recurrence(setting, c, row);
         j += 1;
     }
+    Ok(())
 }
 
-fn main() {
-    print_digests(1);
-    print_digests(2);
-    print_digests(3);
-    print_digests(4);
-    print_digests(5);
-    print_digests(6);
-    print_digests(7);
-    print_rows(1, 9);
-    print_rows(2, 9);
-    print_rows(3, 9);
-    print_rows(4, 9);
-    print_rows(5, 9);
-    print_rows(6, 9);
-    print_rows(7, 9);
+fn main(rt: HostRuntime) -> io::Result<()> {
+    print_digests(&rt, 1)?;
+    print_digests(&rt, 2)?;
+    print_digests(&rt, 3)?;
+    print_digests(&rt, 4)?;
+    print_digests(&rt, 5)?;
+    print_digests(&rt, 6)?;
+    print_digests(&rt, 7)?;
+    print_rows(&rt, 1, 9)?;
+    print_rows(&rt, 2, 9)?;
+    print_rows(&rt, 3, 9)?;
+    print_rows(&rt, 4, 9)?;
+    print_rows(&rt, 5, 9)?;
+    print_rows(&rt, 6, 9)?;
+    print_rows(&rt, 7, 9)
 }

@@ -3,9 +3,12 @@
 #![tactic(auto)]
 
 ghost use Rattle.std.specs.Prelude.{◌≡◌, ◌+◌, ◌%◌, ◌^◌, ◌<◌, ◌≤◌, true, length, if◌then◌else◌};
+ghost use Rattle.std.specs.Io.{ReadsAtMost};
 ghost use Rattle.stored.specs.Stored as spec;
 
-use libc::STDOUT_FILENO;
+use std::io::Read;
+use std::rt::Files;
+use std::{fs, io};
 
 // how many records were compared, and how many differ
 #[derive(Drop)]
@@ -62,10 +65,41 @@ pub fn tallied(tally: Tally, right: bool) -> Tally
     }
 }
 
+// Tells on the error stream what failed, as the caller names it, and why.
+pub fn fail(rt: &impl Eprint, what: &str, error: io::Error) -> io::Result<()> {
+    eprintln!(rt; "{what}: {error}")
+}
+
+// The file at path, to be read; none where it can't be opened, which is told on the error stream.
+pub fn open<R: Files + Eprint>(rt: &R, path: &str) -> io::Result<Option<R::File>> {
+    match fs::open(rt, path) {
+        Ok(file) => Ok(Some(file)),
+        Err(error) => {
+            fail(rt, path, error)?;
+            Ok(None)
+        }
+    }
+}
+
+// Reads until buf is full or the file ends, and tells how many bytes now stand at the start of buf.
+pub fn read_full(file: &mut impl Read, buf: &mut [u8]) -> io::Result<usize>
+    ensures { ReadsAtMost result buf.new }
+{
+    let mut done = 0;
+    while done < buf.len() {
+        let n = file.read(&mut buf[done..])?;
+        if n == 0 {
+            return Ok(done);
+        }
+        done += n;
+    }
+    Ok(done)
+}
+
 // How many were compared, what they are, and how many differ.
-pub fn print_tally(tally: Tally, what: &[u8]) {
-    io::print_decimal(STDOUT_FILENO, tally.seen);
-    io::write_all(STDOUT_FILENO, what);
-    io::print_decimal(STDOUT_FILENO, tally.differ);
-    io::write_all(STDOUT_FILENO, b" differ\n");
+pub fn print_tally(rt: &impl Print, tally: Tally, what: &[u8]) -> io::Result<()> {
+    rt.print(tally.seen)?;
+    rt.write_all(what)?;
+    rt.print(tally.differ)?;
+    rt.write_all(b" differ\n")
 }

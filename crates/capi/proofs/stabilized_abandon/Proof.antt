@@ -5,10 +5,10 @@ use borrow.Author.Rules.{rules}
 use Rattle.capi.proofs.stabilized_abandon.Statement.{statement}
 use Rattle.capi.proofs.stabilized_abandon.Tie as tie
 
-read-requires : tie.Need-read-requires
+read-requires : tie.Need-read-kept-requires
 read-requires c κs = search rules
 
-abandon-requires : tie.Need-abandon-requires
+abandon-requires : tie.Need-abandon-next-requires
 abandon-requires c κs = search rules
 
 leave-requires : tie.Need-leave-requires
@@ -16,9 +16,9 @@ leave-requires c κs = search rules
 
 returns : tie.Need-returns
 returns c =
-    let t = c.before.before.before in
-    keeps_lent _ (abandon) t.before.read.ensures t.abandon.ensures c.leave.ensures
+    let t = c in
+    keeps_lent _ (abandon) t.read-kept.ensures t.abandon-next.ensures c.leave.ensures
 
-pub stabilized-abandon-spec : {M : Type 1} → statement M
-stabilized-abandon-spec =
+pub stabilized_abandon_spec : {M : Type 1} → statement M
+stabilized_abandon_spec =
     tie.close (tie.spec read-requires abandon-requires leave-requires returns)

@@ -5,26 +5,26 @@ use borrow.Author.Rules.{rules}
 use Rattle.capi.proofs.stabilized_accept_with_callback.Statement.{statement}
 use Rattle.capi.proofs.stabilized_accept_with_callback.Tie as tie
 
-read-requires : tie.Need-read-requires
+read-requires : tie.Need-read-kept-requires
 read-requires c κs = search rules
 
-accept-with-callback-requires : tie.Need-accept-with-callback-requires
+accept-with-callback-requires : tie.Need-accept_with_callback-next-requires
 accept-with-callback-requires c κs = search rules
 
 leave-requires : tie.Need-leave-requires
 leave-requires c κs = search rules
 
-same_length : tie.Need-same-length
+same_length : tie.Need-shape_of-area
 same_length c = search rules
 
 returns : tie.Need-returns
 returns c =
-    let t = c.before.before.before.before.before in
-    let a = t.before.before.before.before.before.before.before.args in
+    let t = c in
+    let a = t.args in
     keeps_lent _ (λ (h : Held). accept_with_callback h a.state.now a.time)
-    t.before.before.read.ensures t.accept_with_callback.ensures c.leave.ensures
+    t.read-kept.ensures t.accept_with_callback-next.ensures c.leave.ensures
 
-pub stabilized-accept-with-callback-spec : {M : Type 1} → statement M
-stabilized-accept-with-callback-spec =
+pub stabilized_accept_with_callback_spec : {M : Type 1} → statement M
+stabilized_accept_with_callback_spec =
     tie.close
     (tie.spec read-requires accept-with-callback-requires leave-requires same_length returns)

@@ -6,30 +6,30 @@ use borrow.Author.Rules.{rules}
 use Rattle.capi.proofs.stabilized_attempt.Statement.{statement}
 use Rattle.capi.proofs.stabilized_attempt.Tie as tie
 
-read-requires : tie.Need-read-requires
+read-requires : tie.Need-read-kept-requires
 read-requires c κs = search rules
 
-brought-requires : tie.Need-brought-requires
+brought-requires : tie.Need-brought-arguments-requires
 brought-requires c κs = search rules
 
-attempt-requires : tie.Need-attempt-requires
+attempt-requires : tie.Need-attempt-next-requires
 attempt-requires c κs = search rules
 
-leave-with-requires : tie.Need-leave-with-requires
+leave-with-requires : tie.Need-leave_with-requires
 leave-with-requires c κs = search rules
 
-same_length : tie.Need-same-length
+same_length : tie.Need-shape_of-area
 same_length c = search rules
 
 returns : tie.Need-returns
 returns c =
-    let t = c.before.before.before.before.before in
-    let k = t.before.before.brought in
+    let t = c in
+    let k = t.brought-arguments in
     bringing (λ (b : Brought) (h : Held). attempt h b) k.ensures
-    (keeps_lent _ (λ (h : Held). attempt h k.result) t.before.before.before.read.ensures t.attempt.ensures c.leave-with.ensures)
+    (keeps_lent _ (λ (h : Held). attempt h k.result) t.read-kept.ensures t.attempt-next.ensures c.leave_with.ensures)
 
-pub stabilized-attempt-spec : {M : Type 1} → statement M
-stabilized-attempt-spec =
+pub stabilized_attempt_spec : {M : Type 1} → statement M
+stabilized_attempt_spec =
     tie.close
     (tie.spec
     read-requires

@@ -5,40 +5,40 @@ use borrow.Author.Rules.{rules}
 use Rattle.capi.proofs.stabilized_reply.Statement.{statement}
 use Rattle.capi.proofs.stabilized_reply.Tie as tie
 
-place-requires : tie.Need-place-requires
+place-requires : tie.Need-place-found-requires
 place-requires c κs = search rules
 
-stage-taken-requires : tie.Need-stage-taken-requires
+stage-taken-requires : tie.Need-stage_taken-requires
 stage-taken-requires c κs = search rules
 
-lent-reply-in-stages-requires : tie.Need-lent-reply-in-stages-requires
+lent-reply-in-stages-requires : tie.Need-lent_reply_in_stages-requires
 lent-reply-in-stages-requires c κs =
-    let t = c.before.before.before.before in
-    let a = t.before.before.before.before.before.before.before.before.before.args in
-    as_tested a.wholes.now (counting a.evaluations.now a.finished-attempts.now) a.area.now a.derivative.now
-    t.before.before.before.place.ensures t.before.stage_taken.ensures t.if1.true
+    let t = c in
+    let a = t.args in
+    as_tested a.wholes.now (counting a.evaluations.now a.finished_attempts.now) a.area.now a.derivative.now
+    t.place-found.ensures t.stage_taken.ensures t.if-stage_taken.true
 
-same_length : tie.Need-same-length
+same_length : tie.Need-shape_of-area-then-stage_taken
 same_length c = search rules
 
-returns : tie.Need-returns
-returns c = c.before.before.lent-reply-in-stages.ensures
+returns : tie.Need-returns-then-stage_taken
+returns c = c.lent_reply_in_stages.ensures
 
-lent-reply-elsewhere-requires : tie.Need-lent-reply-elsewhere-requires
+lent-reply-elsewhere-requires : tie.Need-lent_reply_elsewhere-requires
 lent-reply-elsewhere-requires c κs =
-    let t = c.before.before.before.before.before in
-    let a = t.before.before.before.before.before.before.before.before.before.args in
-    as_tested a.wholes.now (counting a.evaluations.now a.finished-attempts.now) a.area.now a.derivative.now
-    t.before.before.before.place.ensures t.before.stage_taken.ensures t.if1.false
+    let t = c in
+    let a = t.args in
+    as_tested a.wholes.now (counting a.evaluations.now a.finished_attempts.now) a.area.now a.derivative.now
+    t.place-found.ensures t.stage_taken.ensures t.if-stage_taken.false
 
-same-length-2 : tie.Need-same-length-2
+same-length-2 : tie.Need-shape_of-area
 same-length-2 c = search rules
 
-returns-2 : tie.Need-returns-2
-returns-2 c = c.before.before.lent-reply-elsewhere.ensures
+returns-2 : tie.Need-returns
+returns-2 c = c.lent_reply_elsewhere.ensures
 
-pub stabilized-reply-spec : {M : Type 1} → statement M
-stabilized-reply-spec =
+pub stabilized_reply_spec : {M : Type 1} → statement M
+stabilized_reply_spec =
     tie.close
     (tie.spec
     place-requires

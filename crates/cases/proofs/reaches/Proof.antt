@@ -4,35 +4,35 @@ use borrow.Author.Rules.{rules}
 use Rattle.cases.proofs.reaches.Statement.{statement}
 use Rattle.cases.proofs.reaches.Tie as tie
 
-abbrev invariant-loop : tie.invariant-loop
+abbrev invariant-loop : tie.invariant-loop-s
 invariant-loop t₀ s₀ t s = s ≤ 201
 
-abbrev decreases-loop : tie.decreases-loop
+abbrev decreases-loop : tie.decreases-loop-s
 decreases-loop t₀ s₀ t s = 201 - s
 
-loop-holds : tie.Need-loop-init invariant-loop decreases-loop
+loop-holds : tie.Need-loop-s-init invariant-loop decreases-loop
 loop-holds c = search rules
 
-reach-agrees-requires : tie.Need-reach-agrees-requires invariant-loop decreases-loop
+reach-agrees-requires : tie.Need-reach_agrees-requires invariant-loop decreases-loop
 reach-agrees-requires c κs = search rules
 
-tallied-requires : tie.Need-tallied-requires invariant-loop decreases-loop
+tallied-requires : tie.Need-tallied-t-requires invariant-loop decreases-loop
 tallied-requires c κs = search rules
 
-add-s : tie.Need-overflow-add-s invariant-loop decreases-loop
+add-s : tie.Need-overflow_add-s invariant-loop decreases-loop
 add-s c = search rules
 
-loop-less : tie.Need-loop-smaller invariant-loop decreases-loop
+loop-less : tie.Need-loop-s-smaller invariant-loop decreases-loop
 loop-less c = search rules
 
-loop-again : tie.Need-loop-preserved invariant-loop decreases-loop
+loop-again : tie.Need-loop-s-preserved invariant-loop decreases-loop
 loop-again c = search rules
 
 returns : tie.Need-returns invariant-loop decreases-loop
 returns c = search rules
 
-pub reaches-spec : {M : Type 1} → statement M
-reaches-spec =
+pub reaches_spec : {M : Type 1} → statement M
+reaches_spec =
     tie.close
     (tie.spec
     invariant-loop

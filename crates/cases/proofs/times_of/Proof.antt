@@ -4,47 +4,47 @@ use borrow.Author.Rules.{rules}
 use Rattle.cases.proofs.times_of.Statement.{statement}
 use Rattle.cases.proofs.times_of.Tie as tie
 
-abbrev invariant-loop : tie.invariant-loop
+abbrev invariant-loop : tie.invariant-loop-j
 invariant-loop s setting t₀ c₀ j₀ t c j = (2 ≤ j) × (j ≤ s + 1) × (s < 2 ^ 16)
 
-abbrev decreases-loop : tie.decreases-loop
+abbrev decreases-loop : tie.decreases-loop-j
 decreases-loop s setting t₀ c₀ j₀ t c j = s + 1 - j
 
-without-history-requires : tie.Need-without-history-requires invariant-loop decreases-loop
+without-history-requires : tie.Need-without_history-setting-requires invariant-loop decreases-loop
 without-history-requires c κs = search rules
 
-first-recurrence-requires : tie.Need-first-recurrence-requires invariant-loop decreases-loop
+first-recurrence-requires : tie.Need-first_recurrence-c-requires invariant-loop decreases-loop
 first-recurrence-requires c κs = search rules
 
-loop-holds : tie.Need-loop-init invariant-loop decreases-loop
+loop-holds : tie.Need-loop-j-init invariant-loop decreases-loop
 loop-holds c = search rules
 
-row-coefficients-requires : tie.Need-row-coefficients-requires invariant-loop decreases-loop
+row-coefficients-requires : tie.Need-row_coefficients-row-requires invariant-loop decreases-loop
 row-coefficients-requires c κs = search rules
 
-time-agrees-requires : tie.Need-time-agrees-requires invariant-loop decreases-loop
+time-agrees-requires : tie.Need-time_agrees-requires invariant-loop decreases-loop
 time-agrees-requires c κs = search rules
 
-tallied-requires : tie.Need-tallied-requires invariant-loop decreases-loop
+tallied-requires : tie.Need-tallied-t-requires invariant-loop decreases-loop
 tallied-requires c κs = search rules
 
-next-recurrence-requires : tie.Need-next-recurrence-requires invariant-loop decreases-loop
+next-recurrence-requires : tie.Need-next_recurrence-c-requires invariant-loop decreases-loop
 next-recurrence-requires c κs = search rules
 
-add-j : tie.Need-overflow-add-j invariant-loop decreases-loop
+add-j : tie.Need-overflow_add-j invariant-loop decreases-loop
 add-j c = search rules
 
-loop-less : tie.Need-loop-smaller invariant-loop decreases-loop
+loop-less : tie.Need-loop-j-smaller invariant-loop decreases-loop
 loop-less c = search rules
 
-loop-again : tie.Need-loop-preserved invariant-loop decreases-loop
+loop-again : tie.Need-loop-j-preserved invariant-loop decreases-loop
 loop-again c = search rules
 
 returns : tie.Need-returns invariant-loop decreases-loop
 returns c = search rules
 
-pub times-of-spec : {M : Type 1} → statement M
-times-of-spec =
+pub times_of_spec : {M : Type 1} → statement M
+times_of_spec =
     tie.close
     (tie.spec
     invariant-loop

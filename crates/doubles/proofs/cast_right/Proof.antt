@@ -7,14 +7,14 @@ use borrow.Author.Rules.{rules}
 use Rattle.doubles.proofs.cast_right.Statement.{statement}
 use Rattle.doubles.proofs.cast_right.Tie as tie
 
-float-of-requires : tie.Need-float-of-requires
+float-of-requires : tie.Need-float_of-requires
 float-of-requires c κs = search rules
 
-saturating-u64-requires : tie.Need-saturating-u64-requires
+saturating-u64-requires : tie.Need-saturating_u64-requires
 saturating-u64-requires c κs = search rules
 
 returns : tie.Need-returns
-returns c = ap (λ (n : ℕ). eqb n c.before.before.args.want) (c.saturating-u64.ensures ∙ ap (to_unsigned 64) c.before.float_of.ensures)
+returns c = ap (λ (n : ℕ). eqb n c.before.before.args.want) (c.saturating_u64.ensures ∙ ap (to_unsigned 64) c.before.float_of.ensures)
 
-pub cast-right-spec : {M : Type 1} → statement M
-cast-right-spec = tie.close (tie.spec float-of-requires saturating-u64-requires returns)
+pub cast_right_spec : {M : Type 1} → statement M
+cast_right_spec = tie.close (tie.spec float-of-requires saturating-u64-requires returns)

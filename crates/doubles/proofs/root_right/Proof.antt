@@ -8,18 +8,18 @@ use borrow.Author.Rules.{rules}
 use Rattle.doubles.proofs.root_right.Statement.{statement}
 use Rattle.doubles.proofs.root_right.Tie as tie
 
-float-of-requires : tie.Need-float-of-requires
+float-of-requires : tie.Need-float_of-requires
 float-of-requires c κs = search rules
 
 sqrt-requires : tie.Need-sqrt-requires
 sqrt-requires c κs = search rules
 
-bits-of-requires : tie.Need-bits-of-requires
+bits-of-requires : tie.Need-bits_of-requires
 bits-of-requires c κs = search rules
 
 returns : tie.Need-returns
 returns c = ap (λ (n : ℕ). eqb n c.before.before.before.args.want) (c.bits_of.ensures
     ∙ ap (to_bits binary64) (c.before.sqrt.ensures ∙ ap sqrt c.before.before.float_of.ensures))
 
-pub root-right-spec : {M : Type 1} → statement M
-root-right-spec = tie.close (tie.spec float-of-requires sqrt-requires bits-of-requires returns)
+pub root_right_spec : {M : Type 1} → statement M
+root_right_spec = tie.close (tie.spec float-of-requires sqrt-requires bits-of-requires returns)

@@ -6,47 +6,47 @@ use borrow.Author.Rules.{rules}
 use Rattle.doubles.proofs.roots_in.Statement.{statement}
 use Rattle.doubles.proofs.roots_in.Tie as tie
 
-abbrev invariant-loop : tie.invariant-loop
+abbrev invariant-loop : tie.invariant-loop-i
 invariant-loop s n t₀ i₀ t i = (i ≤ n) × (n ≡ length s / 16)
 
-abbrev decreases-loop : tie.decreases-loop
+abbrev decreases-loop : tie.decreases-loop-i
 decreases-loop s n t₀ i₀ t i = n - i
 
-loop-holds : tie.Need-loop-init invariant-loop decreases-loop
+loop-holds : tie.Need-loop-i-init invariant-loop decreases-loop
 loop-holds c = search rules
 
-mul-word : tie.Need-overflow-mul-word invariant-loop decreases-loop
+mul-word : tie.Need-overflow_mul-i invariant-loop decreases-loop
 mul-word c = search rules
 
 word-requires : tie.Need-word-requires invariant-loop decreases-loop
 word-requires c κs = search rules
 
-mul-word-2 : tie.Need-overflow-mul-word-2 invariant-loop decreases-loop
+mul-word-2 : tie.Need-overflow_mul-i-in-loop-i invariant-loop decreases-loop
 mul-word-2 c = search rules
 
-add-word : tie.Need-overflow-add-word invariant-loop decreases-loop
+add-word : tie.Need-overflow_add-i invariant-loop decreases-loop
 add-word c = search rules
 
-word-requires-2 : tie.Need-word-requires-2 invariant-loop decreases-loop
+word-requires-2 : tie.Need-word-requires-in-loop-i invariant-loop decreases-loop
 word-requires-2 c κs = search rules
 
-root-record-requires : tie.Need-root-record-requires invariant-loop decreases-loop
+root-record-requires : tie.Need-root_record-t-requires invariant-loop decreases-loop
 root-record-requires c κs = search rules
 
-add-i : tie.Need-overflow-add-i invariant-loop decreases-loop
+add-i : tie.Need-overflow_add-i-in-loop-i invariant-loop decreases-loop
 add-i c = search rules
 
-loop-less : tie.Need-loop-smaller invariant-loop decreases-loop
+loop-less : tie.Need-loop-i-smaller invariant-loop decreases-loop
 loop-less c = search rules
 
-loop-again : tie.Need-loop-preserved invariant-loop decreases-loop
+loop-again : tie.Need-loop-i-preserved invariant-loop decreases-loop
 loop-again c = search rules
 
 returns : tie.Need-returns invariant-loop decreases-loop
 returns c = search rules
 
-pub roots-in-spec : {M : Type 1} → statement M
-roots-in-spec =
+pub roots_in_spec : {M : Type 1} → statement M
+roots_in_spec =
     tie.close
     (tie.spec
     invariant-loop

@@ -5,7 +5,7 @@ use Rattle.fields.specs.Fields.{digit}
 use Rattle.fields.proofs.digit_at.Statement.{statement}
 use Rattle.fields.proofs.digit_at.Tie as tie
 
-byte-at-requires : tie.Need-byte-at-requires
+byte-at-requires : tie.Need-byte_at-requires
 byte-at-requires c κs = search rules
 
 wide-requires : tie.Need-wide-requires
@@ -17,5 +17,5 @@ digit-requires c κs = search rules
 returns : tie.Need-returns
 returns c = c.digit.ensures ∙ ap digit (c.before.wide.ensures ∙ c.before.before.byte_at.ensures)
 
-pub digit-at-spec : {M : Type 1} → statement M
-digit-at-spec = tie.close (tie.spec byte-at-requires wide-requires digit-requires returns)
+pub digit_at_spec : {M : Type 1} → statement M
+digit_at_spec = tie.close (tie.spec byte-at-requires wide-requires digit-requires returns)

@@ -5,23 +5,23 @@ use borrow.Author.Rules.{rules}
 use Rattle.fields.proofs.ended_at.Statement.{statement}
 use Rattle.fields.proofs.ended_at.Tie as tie
 
-shared-slice-read-if2 : tie.Need-shared-slice-read-if2
+shared-slice-read-if2 : tie.Need-bounds-text-at
 shared-slice-read-if2 c = search rules
 
-add-t10 : tie.Need-overflow-add-t10
+add-t10 : tie.Need-overflow_add-result
 add-t10 c = search rules
 
-returns : tie.Need-returns
+returns : tie.Need-returns-then-text-at
 unfolding ended_at
-returns c = simp (lt-ltb _ _ c.before.before.if1.true, eq-eqb _ _ c.if2.true)
+returns c = simp (lt-ltb _ _ c.before.before.if-at-text.true, eq-eqb _ _ c.if-text-at.true)
 
-returns-2 : tie.Need-returns-2
+returns-2 : tie.Need-returns-else-text-at
 unfolding ended_at
-returns-2 c = simp (lt-ltb _ _ c.before.before.if1.true, ne_eqb _ _ c.if2.false)
+returns-2 c = simp (lt-ltb _ _ c.before.before.if-at-text.true, ne_eqb _ _ c.if-text-at.false)
 
-returns-3 : tie.Need-returns-3
+returns-3 : tie.Need-returns-else-at-text
 unfolding ended_at
-returns-3 c = simp (le-ltb _ _ c.if1.false)
+returns-3 c = simp (le-ltb _ _ c.if-at-text.false)
 
-pub ended-at-spec : {M : Type 1} → statement M
-ended-at-spec = tie.close (tie.spec shared-slice-read-if2 add-t10 returns returns-2 returns-3)
+pub ended_at_spec : {M : Type 1} → statement M
+ended_at_spec = tie.close (tie.spec shared-slice-read-if2 add-t10 returns returns-2 returns-3)

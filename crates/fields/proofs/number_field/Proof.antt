@@ -1,6 +1,5 @@
 -- `fields::number_field` meets its contract: the test is that of the definition. Assumes nothing.
 use mathlib.Core.Path.{◌≡◌, sym, ap, ◌∙◌}
-use Prim.Native.Nat.{ℕ}
 use lib.Dec.{lit≤, lit<}
 use Rattle.fields.specs.Fields.{digit_at, ended_by}
 use Rattle.fields.specs.declared.Field.{Field}
@@ -9,25 +8,25 @@ use borrow.Author.Rules.{rules}
 use Rattle.fields.proofs.number_field.Statement.{statement}
 use Rattle.fields.proofs.number_field.Tie as tie
 
-digit-at-requires : tie.Need-digit-at-requires
+digit-at-requires : tie.Need-digit_at-requires
 digit-at-requires c κs = search rules
 
-returns : tie.Need-returns
-returns c = sym (first_zero _ _ _ _ (sym c.before.digit_at.ensures ∙ c.if1.true))
+returns : tie.Need-returns-then-digit_at-eq0
+returns c = sym (first_zero _ _ _ _ (sym c.before.digit_at.ensures ∙ c.if-digit_at-eq0.true))
 
 digits-requires : tie.Need-digits-requires
 digits-requires c κs = ((lit< tt, lit≤ tt), decimal_fits _ c.before.before.before.requires)
 
-ended-by-requires : tie.Need-ended-by-requires
+ended-by-requires : tie.Need-ended_by-requires
 ended-by-requires c κs = search rules
 
-returns-2 : tie.Need-returns-2
+returns-2 : tie.Need-returns
 returns-2 c =
     let a = c.before.before.before.before.before.args in
-    let h : digit_at a.text.now a.at ≡ 0 → ⊥ = λ z. c.before.before.if1.false (c.before.before.before.digit_at.ensures ∙ z) in
+    let h : digit_at a.text.now a.at ≡ 0 → ⊥ = λ z. c.before.before.if-digit_at-eq0.false (c.before.before.before.digit_at.ensures ∙ z) in
     c.ended_by.ensures ∙ ap (λ (f : Field). ended_by a.end a.text.now f) c.before.digits.ensures
     ∙ sym (first_not_zero _ _ _ _ h)
 
-pub number-field-spec : {M : Type 1} → statement M
-number-field-spec =
+pub number_field_spec : {M : Type 1} → statement M
+number_field_spec =
     tie.close (tie.spec digit-at-requires returns digits-requires ended-by-requires returns-2)

@@ -9,7 +9,7 @@ use Rattle.fields.proofs.word_field.Tie as tie
 digits-requires : tie.Need-digits-requires
 digits-requires c κs = search rules
 
-ended-by-requires : tie.Need-ended-by-requires
+ended-by-requires : tie.Need-ended_by-requires
 ended-by-requires c κs = search rules
 
 returns : tie.Need-returns
@@ -17,5 +17,5 @@ unfolding word_field
 returns c = let a = c.before.before.before.args in
     c.ended_by.ensures ∙ ap (λ (f : Field). ended_by a.end a.text.now f) c.before.digits.ensures
 
-pub word-field-spec : {M : Type 1} → statement M
-word-field-spec = tie.close (tie.spec digits-requires ended-by-requires returns)
+pub word_field_spec : {M : Type 1} → statement M
+word_field_spec = tie.close (tie.spec digits-requires ended-by-requires returns)

@@ -5,37 +5,37 @@ use Rattle.heat_sink.specs.Model.{out_of, along}
 use Rattle.heat_sink.proofs.out_of.Statement.{statement}
 use Rattle.heat_sink.proofs.out_of.Tie as tie
 
-add-j : tie.Need-overflow-add-j
+add-j : tie.Need-overflow_add-j
 add-j c = search rules
 
-mul-result : tie.Need-overflow-mul-result
+mul-result : tie.Need-offset_bounds-point-i
 mul-result c = search rules
 
-shared-slice-read-result : tie.Need-shared-slice-read-result
+shared-slice-read-result : tie.Need-bounds-point-i
 shared-slice-read-result c = search rules
 
-mul-result-2 : tie.Need-overflow-mul-result-2
+mul-result-2 : tie.Need-offset_bounds-point-j
 mul-result-2 c = search rules
 
-shared-slice-read-result-2 : tie.Need-shared-slice-read-result-2
+shared-slice-read-result-2 : tie.Need-bounds-point-j
 shared-slice-read-result-2 c = search rules
 
-returns : tie.Need-returns
+returns : tie.Need-returns-then-j-point
 unfolding out_of along
-returns c = simp (lt-ltb _ _ c.before.before.before.if1.true)
+returns c = simp (lt-ltb _ _ c.before.before.before.if-j-point.true)
 
-mul-result-3 : tie.Need-overflow-mul-result-3
+mul-result-3 : tie.Need-offset_bounds-point-i-2
 mul-result-3 c = search rules
 
-shared-slice-read-result-3 : tie.Need-shared-slice-read-result-3
+shared-slice-read-result-3 : tie.Need-bounds-point-i-2
 shared-slice-read-result-3 c = search rules
 
-returns-2 : tie.Need-returns-2
+returns-2 : tie.Need-returns
 unfolding out_of
-returns-2 c = simp (le-ltb _ _ c.before.before.before.if1.false)
+returns-2 c = simp (le-ltb _ _ c.before.before.before.if-j-point.false)
 
-pub out-of-spec : {M : Type 1} → statement M
-out-of-spec =
+pub out_of_spec : {M : Type 1} → statement M
+out_of_spec =
     tie.close
     (tie.spec
     add-j

@@ -4,38 +4,38 @@ use borrow.Author.Rules.{rules}
 use Rattle.lent.proofs.ask_stage_by_theta.Statement.{statement}
 use Rattle.lent.proofs.ask_stage_by_theta.Tie as tie
 
-without-figures-requires : tie.Need-without-figures-requires
+without-figures-requires : tie.Need-without_figures-answer-requires
 without-figures-requires c κs = search rules
 
-slice-write-wholes : tie.Need-slice-write-wholes
+slice-write-wholes : tie.Need-bounds-wholes-2
 slice-write-wholes c = search rules
 
-slice-write-wholes-2 : tie.Need-slice-write-wholes-2
+slice-write-wholes-2 : tie.Need-bounds-wholes-6
 slice-write-wholes-2 c = search rules
 
-slice-read-doubles : tie.Need-slice-read-doubles
+slice-read-doubles : tie.Need-bounds-doubles-15
 slice-read-doubles c = search rules
 
-slice-write-doubles : tie.Need-slice-write-doubles
+slice-write-doubles : tie.Need-bounds-doubles-17
 slice-write-doubles c = search rules
 
-slice-write-doubles-2 : tie.Need-slice-write-doubles-2
+slice-write-doubles-2 : tie.Need-bounds-doubles-15-2
 slice-write-doubles-2 c = search rules
 
-same_length : tie.Need-same-length
+same_length : tie.Need-shape_of-wholes
 same_length c = search rules
 
-same-length-2 : tie.Need-same-length-2
+same-length-2 : tie.Need-shape_of-doubles
 same-length-2 c = search rules
 
 returns : tie.Need-returns
 returns c =
-    let e = c.before.before.before.before in
+    let e = c in
     let a = e.args in
-    moved a.time a.stage a.theta c.before.without-figures.ensures a.wholes.now a.doubles.now e.requires.0 e.requires.1
+    moved a.time a.stage a.theta c.without_figures-answer.ensures a.wholes.now a.doubles.now e.requires.0 e.requires.1
 
-pub ask-stage-by-theta-spec : {M : Type 1} → statement M
-ask-stage-by-theta-spec =
+pub ask_stage_by_theta_spec : {M : Type 1} → statement M
+ask_stage_by_theta_spec =
     tie.close
     (tie.spec
     without-figures-requires

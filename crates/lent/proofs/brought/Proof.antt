@@ -8,5 +8,5 @@ returns : tie.Need-returns
 unfolding brought
 returns c = refl
 
-pub brought-spec : {M : Type 1} → statement M
-brought-spec = tie.close (tie.spec returns)
+pub brought_spec : {M : Type 1} → statement M
+brought_spec = tie.close (tie.spec returns)

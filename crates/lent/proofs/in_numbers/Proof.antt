@@ -9,55 +9,55 @@ use Rattle.lent.specs.Numbers.{number_in, time_in, in_numbers}
 use Rattle.lent.proofs.in_numbers.Statement.{statement}
 use Rattle.lent.proofs.in_numbers.Tie as tie
 
-enum-known-answer : tie.Need-enum-known-answer
+enum-known-answer : tie.Need-enum_known-answer
 enum-known-answer c = search rules
 
-without-figures-requires : tie.Need-without-figures-requires
+without-figures-requires : tie.Need-without_figures-requires
 without-figures-requires c κs = search rules
 
-enum-known-answer-2 : tie.Need-enum-known-answer-2
+enum-known-answer-2 : tie.Need-enum_known-answer-in-Finished-1
 enum-known-answer-2 c = search rules
 
-enum_told : tie.Need-enum-told
+enum_told : tie.Need-enum_told-1
 enum_told c = search rules
 
-without-figures-requires-2 : tie.Need-without-figures-requires-2
+without-figures-requires-2 : tie.Need-without_figures-requires-in-Ready
 without-figures-requires-2 c κs = search rules
 
-enum-known-answer-3 : tie.Need-enum-known-answer-3
+enum-known-answer-3 : tie.Need-enum_known-answer-in-Refused-1
 enum-known-answer-3 c = search rules
 
-without-figures-requires-3 : tie.Need-without-figures-requires-3
+without-figures-requires-3 : tie.Need-without_figures-requires-in-Refused
 without-figures-requires-3 c κs = search rules
 
-enum-told-2 : tie.Need-enum-told-2
+enum-told-2 : tie.Need-enum_told-in-Empty
 enum-told-2 c = search rules
 
-without-figures-requires-4 : tie.Need-without-figures-requires-4
+without-figures-requires-4 : tie.Need-without_figures-requires-in-Empty
 without-figures-requires-4 c κs = search rules
 
-returns : tie.Need-returns
+returns : tie.Need-returns-in-Evaluate
 unfolding case_number number_in time_in figures_in of_bits
-returns c = c.without-figures.ensures ∙ ap (λ (a : Case). in_numbers a) (sym c.before.before.answer.given.1)
+returns c = c.without_figures.ensures ∙ ap (λ (a : Case). in_numbers a) (sym c.in-Evaluate.is)
 
-returns-2 : tie.Need-returns-2
+returns-2 : tie.Need-returns-in-Finished
 unfolding case_number number_in time_in figures_in of_bits
-returns-2 c = ap (λ (a : Case). in_numbers a) (sym c.before.answer2.given.1)
+returns-2 c = ap (λ (a : Case). in_numbers a) (sym c.in-Finished.is)
 
-returns-3 : tie.Need-returns-3
+returns-3 : tie.Need-returns-in-Ready
 unfolding case_number number_in time_in figures_in of_bits
-returns-3 c = c.without-figures2.ensures ∙ ap (λ (a : Case). in_numbers a) (sym c.before.enum_told.given.1)
+returns-3 c = c.without_figures-in-Ready.ensures ∙ ap (λ (a : Case). in_numbers a) (sym c.in-Ready.is)
 
-returns-4 : tie.Need-returns-4
+returns-4 : tie.Need-returns-in-Refused
 unfolding case_number number_in time_in figures_in of_bits
-returns-4 c = c.without-figures3.ensures ∙ ap (λ (a : Case). in_numbers a) (sym c.before.before.answer3.given.1)
+returns-4 c = c.without_figures-in-Refused.ensures ∙ ap (λ (a : Case). in_numbers a) (sym c.in-Refused.is)
 
-returns-5 : tie.Need-returns-5
+returns-5 : tie.Need-returns-in-Empty
 unfolding case_number number_in time_in figures_in of_bits
-returns-5 c = c.without-figures4.ensures ∙ ap (λ (a : Case). in_numbers a) (sym c.before.enum-told2.given.1)
+returns-5 c = c.without_figures-in-Empty.ensures ∙ ap (λ (a : Case). in_numbers a) (sym c.in-Empty.is)
 
-pub in-numbers-spec : {M : Type 1} → statement M
-in-numbers-spec =
+pub in_numbers_spec : {M : Type 1} → statement M
+in_numbers_spec =
     tie.close
     (tie.spec
     enum-known-answer

@@ -5,19 +5,19 @@ use borrow.Author.Rules.{rules}
 use Rattle.lent.proofs.refuse_candidate.Statement.{statement}
 use Rattle.lent.proofs.refuse_candidate.Tie as tie
 
-without-figures-requires : tie.Need-without-figures-requires
+without-figures-requires : tie.Need-without_figures-answer-requires
 without-figures-requires c κs = search rules
 
-slice-write-wholes : tie.Need-slice-write-wholes
+slice-write-wholes : tie.Need-bounds-wholes-2
 slice-write-wholes c = search rules
 
-same_length : tie.Need-same-length
+same_length : tie.Need-shape_of-wholes
 same_length c = search rules
 
 returns : tie.Need-returns
 unfolding of_bits
-returns c = let a = c.before.before.args in
-    emptied c.without-figures.ensures a.wholes.now a.doubles.now c.before.before.requires
+returns c = let a = c.args in
+    emptied c.without_figures-answer.ensures a.wholes.now a.doubles.now c.requires
 
-pub refuse-candidate-spec : {M : Type 1} → statement M
-refuse-candidate-spec = tie.close (tie.spec without-figures-requires slice-write-wholes same_length returns)
+pub refuse_candidate_spec : {M : Type 1} → statement M
+refuse_candidate_spec = tie.close (tie.spec without-figures-requires slice-write-wholes same_length returns)

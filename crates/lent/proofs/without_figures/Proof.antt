@@ -8,5 +8,5 @@ returns : tie.Need-returns
 unfolding of_bits
 returns c = refl
 
-pub without-figures-spec : {M : Type 1} → statement M
-without-figures-spec = tie.close (tie.spec returns)
+pub without_figures_spec : {M : Type 1} → statement M
+without_figures_spec = tie.close (tie.spec returns)

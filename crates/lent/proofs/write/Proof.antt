@@ -4,18 +4,18 @@ use borrow.Author.Rules.{rules}
 use Rattle.lent.proofs.write.Statement.{statement}
 use Rattle.lent.proofs.write.Tie as tie
 
-phase-number-requires : tie.Need-phase-number-requires
+phase-number-requires : tie.Need-phase_number-phase-requires
 phase-number-requires c κs = search rules
 
-element-copy-out-history-number : tie.Need-element-copy-out-history-number
+element-copy-out-history-number : tie.Need-bounds-wholes-7
 element-copy-out-history-number c = search rules
 
-history-number-requires : tie.Need-history-number-requires
+history-number-requires : tie.Need-history_number-history-requires
 history-number-requires c κs = search rules
 
 returns : tie.Need-returns
 unfolding written
-returns c = rw (c.before.before.before.before.before.before.phase_number.ensures, c.before.before.history_number.ensures)
+returns c = rw (c.phase_number-phase.ensures, c.history_number-history.ensures)
 
 pub write_spec : {M : Type 1} → statement M
 write_spec =

@@ -5,26 +5,26 @@ use borrow.Author.Rules.{rules}
 use Rattle.page.proofs.glyph.Statement.{statement}
 use Rattle.page.proofs.glyph.Tie as tie
 
-cast-result : tie.Need-overflow-cast-result
+cast-result : tie.Need-overflow_cast-result
 cast-result c = search rules
 
-add-result : tie.Need-overflow-add-result
+add-result : tie.Need-overflow_add-result
 add-result c = search rules
 
-cast-result-2 : tie.Need-overflow-cast-result-2
+cast-result-2 : tie.Need-overflow_cast-result-else-d-lt10
 cast-result-2 c = search rules
 
-add-result-2 : tie.Need-overflow-add-result-2
+add-result-2 : tie.Need-overflow_add-result-else-d-lt10
 add-result-2 c = search rules
 
-returns : tie.Need-returns
+returns : tie.Need-returns-then-d-lt10
 unfolding spec.glyph
-returns c = simp (lt-ltb _ 10 c.if1.true)
+returns c = simp (lt-ltb _ 10 c.if-d-lt10.true)
 
-returns-2 : tie.Need-returns-2
+returns-2 : tie.Need-returns-else-d-lt10
 unfolding spec.glyph
-returns-2 c = simp (le-ltb _ 10 c.if1.false)
+returns-2 c = simp (le-ltb _ 10 c.if-d-lt10.false)
 
-pub glyph-spec : {M : Type 1} → statement M
-glyph-spec =
+pub glyph_spec : {M : Type 1} → statement M
+glyph_spec =
     tie.close (tie.spec cast-result add-result cast-result-2 add-result-2 returns returns-2)

@@ -7,24 +7,24 @@ use Rattle.page.proofs.Digits.{places_on, places_last, tenth}
 use Rattle.page.proofs.places.Statement.{statement}
 use Rattle.page.proofs.places.Tie as tie
 
-abbrev invariant-loop : tie.invariant-loop
+abbrev invariant-loop : tie.invariant-loop-rest
 invariant-loop n k₀ rest₀ k rest = (1 ≤ k) × (k ≤ 20) × (rest < 10 ^ (21 - k)) × (spec.places 20 n ≡ spec.places (21 - k) rest + (k - 1))
 
-abbrev decreases-loop : tie.decreases-loop
+abbrev decreases-loop : tie.decreases-loop-rest
 decreases-loop n k₀ rest₀ k rest = rest
 
-loop-holds : tie.Need-loop-init invariant-loop decreases-loop
+loop-holds : tie.Need-loop-rest-init invariant-loop decreases-loop
 loop-holds c = (omega arith, omega arith, omega arith, omega arith)
 
-add-k : tie.Need-overflow-add-k invariant-loop decreases-loop
-add-k c = omega (arith, c.before.loop.invariant.1)
+add-k : tie.Need-overflow_add-k invariant-loop decreases-loop
+add-k c = omega (arith, c.before.loop-rest.invariant.1)
 
-loop-less : tie.Need-loop-smaller invariant-loop decreases-loop
-loop-less c = omega (arith, c.loop-test.true)
+loop-less : tie.Need-loop-rest-smaller invariant-loop decreases-loop
+loop-less c = omega (arith, c.loop-rest-test.true)
 
-loop-again : tie.Need-loop-preserved invariant-loop decreases-loop
-loop-again c = let l = c.before.loop in
-    let h : 10 ≤ l.rest = omega (arith, c.loop-test.true) in
+loop-again : tie.Need-loop-rest-preserved invariant-loop decreases-loop
+loop-again c = let l = c.before.loop-rest in
+    let h : 10 ≤ l.rest = omega (arith, c.loop-rest-test.true) in
     let t = tenth (21 - l.k) l.rest h l.invariant.2 in
     let e : 21 - l.k - 1 ≡ 21 - (l.k + 1) = omega arith in
     let p = places_on (21 - l.k) l.rest (omega (arith, t.0)) h in
@@ -36,9 +36,9 @@ loop-again c = let l = c.before.loop in
     )
 
 returns : tie.Need-returns invariant-loop decreases-loop
-returns c = let l = c.before.loop in
-    let p = places_last (21 - l.k) l.rest (omega (arith, l.invariant.1)) c.loop-test.false in
+returns c = let l = c.before.loop-rest in
+    let p = places_last (21 - l.k) l.rest (omega (arith, l.invariant.1)) c.loop-rest-test.false in
     (omega (arith, l.invariant.0, l.invariant.3, p), l.invariant.1)
 
-pub places-spec : {M : Type 1} → statement M
-places-spec = tie.close (tie.spec invariant-loop decreases-loop loop-holds add-k loop-less loop-again returns)
+pub places_spec : {M : Type 1} → statement M
+places_spec = tie.close (tie.spec invariant-loop decreases-loop loop-holds add-k loop-less loop-again returns)

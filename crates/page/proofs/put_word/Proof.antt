@@ -4,14 +4,14 @@ use Rattle.page.proofs.Putting.{puts_word}
 use Rattle.page.proofs.put_word.Statement.{statement}
 use Rattle.page.proofs.put_word.Tie as tie
 
-put-digits-requires : tie.Need-put-digits-requires
+put-digits-requires : tie.Need-put_digits-requires
 put-digits-requires c κs = search rules
 
-same_length : tie.Need-same-length
+same_length : tie.Need-shape_of-page
 same_length c = search rules
 
 returns : tie.Need-returns
-returns c = puts_word c.before.before.before.before.before.args.n c.before.before.put-digits.ensures
+returns c = puts_word c.before.before.before.before.before.args.n c.before.before.put_digits.ensures
 
-pub put-word-spec : {M : Type 1} → statement M
-put-word-spec = tie.close (tie.spec put-digits-requires same_length returns)
+pub put_word_spec : {M : Type 1} → statement M
+put_word_spec = tie.close (tie.spec put-digits-requires same_length returns)

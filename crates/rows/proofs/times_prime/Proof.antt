@@ -4,22 +4,22 @@ use native.Mathlib.Nat.{mul-add-mod_self_left}
 use Rattle.rows.proofs.times_prime.Statement.{statement}
 use Rattle.rows.proofs.times_prime.Tie as tie
 
-mul-upper : tie.Need-overflow-mul-upper
+mul-upper : tie.Need-overflow_mul-upper
 mul-upper c = search rules
 
-mul-upper-2 : tie.Need-overflow-mul-upper-2
+mul-upper-2 : tie.Need-overflow_mul-upper-2
 mul-upper-2 c = search rules
 
-add-upper : tie.Need-overflow-add-upper
+add-upper : tie.Need-overflow_add-upper
 add-upper c = search rules
 
-mul-wrapping-add-u64 : tie.Need-overflow-mul-wrapping-add-u64
+mul-wrapping-add-u64 : tie.Need-overflow_mul-upper-3
 mul-wrapping-add-u64 c = search rules
 
-mul-wrapping-add-u64-2 : tie.Need-overflow-mul-wrapping-add-u64-2
+mul-wrapping-add-u64-2 : tie.Need-overflow_mul-low
 mul-wrapping-add-u64-2 c = search rules
 
-wrapping-add-u64-requires : tie.Need-wrapping-add-u64-requires
+wrapping-add-u64-requires : tie.Need-wrapping_add_u64-requires
 wrapping-add-u64-requires c κs = search rules
 
 split : (h : ℕ) → h * 1099511628211 ≡ 2 ^ 64 * (h / 4294967296 * 256 + (h / 4294967296 * 435 + h % 4294967296 * 256) / 4294967296)
@@ -33,13 +33,13 @@ split h = go (h / 4294967296) (h % 4294967296) ((h / 4294967296 * 435 + h % 4294
 
 returns : tie.Need-returns
 returns c =
-    let h = c.before.args.h in
+    let h = c.args.h in
     let t = h / 4294967296 * 435 + h % 4294967296 * 256 in
-    c.wrapping-add-u64.ensures ∙ sym (ap (λ (n : ℕ). n % 2 ^ 64) (split h) ∙ mul-add-mod_self_left (2 ^ 64) (h / 4294967296 * 256 + t / 4294967296)
+    c.wrapping_add_u64.ensures ∙ sym (ap (λ (n : ℕ). n % 2 ^ 64) (split h) ∙ mul-add-mod_self_left (2 ^ 64) (h / 4294967296 * 256 + t / 4294967296)
     (t % 4294967296 * 4294967296 + h % 4294967296 * 435))
 
-pub times-prime-spec : {M : Type 1} → statement M
-times-prime-spec =
+pub times_prime_spec : {M : Type 1} → statement M
+times_prime_spec =
     tie.close
     (tie.spec
     mul-upper

@@ -8,13 +8,13 @@ use Rattle.sheet.proofs.if_sound.Tie as tie
 sound-requires : tie.Need-sound-requires
 sound-requires c κs = search rules
 
-returns : tie.Need-returns
+returns : tie.Need-returns-then-sound
 unfolding if_sound
-returns c = simp (sym c.before.sound.ensures ∙ c.if1.true)
+returns c = simp (sym c.before.sound.ensures ∙ c.if-sound.true)
 
-returns-2 : tie.Need-returns-2
+returns-2 : tie.Need-returns
 unfolding if_sound
-returns-2 c = simp (sym c.before.sound.ensures ∙ c.if1.false)
+returns-2 c = simp (sym c.before.sound.ensures ∙ c.if-sound.false)
 
-pub if-sound-spec : {M : Type 1} → statement M
-if-sound-spec = tie.close (tie.spec sound-requires returns returns-2)
+pub if_sound_spec : {M : Type 1} → statement M
+if_sound_spec = tie.close (tie.spec sound-requires returns returns-2)

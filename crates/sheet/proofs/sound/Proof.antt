@@ -7,12 +7,12 @@ use Rattle.sheet.proofs.sound.Tie as tie
 known-requires : tie.Need-known-requires
 known-requires c κs = search rules
 
-finite-constants-requires : tie.Need-finite-constants-requires
+finite-constants-requires : tie.Need-finite_constants-requires
 finite-constants-requires c κs = search rules
 
 returns : tie.Need-returns
 unfolding sound
 returns c = rw (c.finite_constants.ensures, c.before.before.before.known.ensures)
 
-pub sound-spec : {M : Type 1} → statement M
-sound-spec = tie.close (tie.spec known-requires finite-constants-requires returns)
+pub sound_spec : {M : Type 1} → statement M
+sound_spec = tie.close (tie.spec known-requires finite-constants-requires returns)

@@ -11,41 +11,41 @@ use borrow.Author.Rules.{rules}
 use Rattle.timed.proofs.timed_root_chain.Statement.{statement}
 use Rattle.timed.proofs.timed_root_chain.Tie as tie
 
-abbrev invariant-loop : tie.invariant-loop
+abbrev invariant-loop : tie.invariant-loop-i
 invariant-loop x a₀ i₀ a i = (i ≤ length x) × (a ≡ root_chain (take i x))
 
-abbrev decreases-loop : tie.decreases-loop
+abbrev decreases-loop : tie.decreases-loop-i
 decreases-loop x a₀ i₀ a i = length x - i
 
-loop-holds : tie.Need-loop-init invariant-loop decreases-loop
+loop-holds : tie.Need-loop-i-init invariant-loop decreases-loop
 unfolding root_chain of_bits
 loop-holds c = (omega arith, refl)
 
-mul-sqrt : tie.Need-overflow-mul-sqrt invariant-loop decreases-loop
+mul-sqrt : tie.Need-offset_bounds-x-i invariant-loop decreases-loop
 mul-sqrt c = search rules
 
-shared-slice-read-sqrt : tie.Need-shared-slice-read-sqrt invariant-loop decreases-loop
+shared-slice-read-sqrt : tie.Need-bounds-x-i invariant-loop decreases-loop
 shared-slice-read-sqrt c = search rules
 
-sqrt-requires : tie.Need-sqrt-requires invariant-loop decreases-loop
+sqrt-requires : tie.Need-sqrt-a-requires invariant-loop decreases-loop
 sqrt-requires c κs = search rules
 
-add-i : tie.Need-overflow-add-i invariant-loop decreases-loop
+add-i : tie.Need-overflow_add-i invariant-loop decreases-loop
 add-i c = search rules
 
-loop-less : tie.Need-loop-smaller invariant-loop decreases-loop
+loop-less : tie.Need-loop-i-smaller invariant-loop decreases-loop
 loop-less c = search rules
 
-loop-again : tie.Need-loop-preserved invariant-loop decreases-loop
+loop-again : tie.Need-loop-i-preserved invariant-loop decreases-loop
 loop-again c =
-    let l = c.before.before.before.loop in
-    (omega arith, chain_turn c.before.before.before.before.before.args.x.now l.i (omega arith) l.invariant.1 c.sqrt.ensures)
+    let l = c.loop-i in
+    (omega arith, chain_turn c.args.x.now l.i (omega arith) l.invariant.1 c.sqrt-a.ensures)
 
 returns : tie.Need-returns invariant-loop decreases-loop
-returns c = c.before.loop.invariant.1 ∙ ap root_chain (take_all _ _ c.loop-test.false)
+returns c = c.loop-i.invariant.1 ∙ ap root_chain (take_all _ _ c.loop-i-test.false)
 
-pub timed-root-chain-spec : {M : Type 1} → statement M
-timed-root-chain-spec =
+pub timed_root_chain_spec : {M : Type 1} → statement M
+timed_root_chain_spec =
     tie.close
     (tie.spec
     invariant-loop
