@@ -1,5 +1,5 @@
 /* Ten steps of a cooling rod of eight cells, each with its error norm, stages s, passes k and scaled radius r. Build and run:
- *   rt staticlib capi
+ *   bash bindings/library capi
  *   cc -std=c11 bindings/c/example.c target/staticlib/libcapi.a -o target/example && target/example
  */
 #include "stabilized.h"

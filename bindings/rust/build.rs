@@ -1,4 +1,4 @@
-//! Links the proved engine: libcapi.a, which `rt staticlib capi` writes. STABILIZED_LIBRARY names another folder for it.
+//! Links the proved engine: libcapi.a, which `bash bindings/library capi` writes. STABILIZED_LIBRARY names another folder for it.
 use std::env;
 use std::path::{Path, PathBuf};
 
@@ -11,7 +11,7 @@ fn main() {
     let library = folder.join("libcapi.a");
     assert!(
         library.exists(),
-        "{} is not there: run `rt staticlib capi` first",
+        "{} is not there: run `bash bindings/library capi` first",
         library.display()
     );
     println!("cargo:rerun-if-changed={}", library.display());

@@ -1,7 +1,7 @@
 // What the comparison has come to: what was seen, and how much of it differs.
-use libc::STDOUT_FILENO;
+use std::io;
 
-#[derive(Drop)]
+#[derive(Clone, Copy)]
 pub struct Comparison {
     pub sessions: u64,
     pub calls: u64,
@@ -92,69 +92,70 @@ pub fn count(seen: &mut [u64; 280], call: u64, answer: u64) {
     }
 }
 
-fn say(text: &[u8]) {
-    io::write_all(STDOUT_FILENO, text);
+fn say(rt: &impl Print, text: &[u8]) -> io::Result<()> {
+    rt.write_all(text)
 }
 
-fn number(n: u64) {
-    io::print_decimal(STDOUT_FILENO, n);
+fn number(rt: &impl Print, n: u64) -> io::Result<()> {
+    rt.print(n)
 }
 
-fn call_name(call: usize) {
+fn call_name(rt: &impl Print, call: usize) -> io::Result<()> {
     match call {
-        1 => say(b"start"),
-        2 => say(b"attempt"),
-        3 => say(b"reply"),
-        4 => say(b"accept"),
-        5 => say(b"accept with a callback"),
-        _ => say(b"abandon"),
+        1 => say(rt, b"start"),
+        2 => say(rt, b"attempt"),
+        3 => say(rt, b"reply"),
+        4 => say(rt, b"accept"),
+        5 => say(rt, b"accept with a callback"),
+        _ => say(rt, b"abandon"),
     }
 }
 
-fn answer_name(answer: usize) {
+fn answer_name(rt: &impl Print, answer: usize) -> io::Result<()> {
     match answer {
-        33 => say(b", evaluate: "),
-        34 => say(b", finished with a finite scaled radius: "),
-        35 => say(b", ready: "),
-        36 => say(b", turned away with a number above 31: "),
-        37 => say(b", empty: "),
-        38 => say(b", finished with the scaled radius NaN: "),
-        39 => say(b", finished with an infinite scaled radius: "),
+        33 => say(rt, b", evaluate: "),
+        34 => say(rt, b", finished with a finite scaled radius: "),
+        35 => say(rt, b", ready: "),
+        36 => say(rt, b", turned away with a number above 31: "),
+        37 => say(rt, b", empty: "),
+        38 => say(rt, b", finished with the scaled radius NaN: "),
+        39 => say(rt, b", finished with an infinite scaled radius: "),
         refused => {
-            say(b", turned away with ");
-            number(refused as u64);
-            say(b": ");
+            say(rt, b", turned away with ")?;
+            number(rt, refused as u64)?;
+            say(rt, b": ")
         }
     }
 }
 
-fn print_seen(seen: &[u64; 280]) {
+fn print_seen(rt: &impl Print, seen: &[u64; 280]) -> io::Result<()> {
     let mut at: usize = 0;
     while at < 280 {
         if seen[at] > 0 {
-            call_name(at / 40);
-            answer_name(at % 40);
-            number(seen[at]);
-            say(b"\n");
+            call_name(rt, at / 40)?;
+            answer_name(rt, at % 40)?;
+            number(rt, seen[at])?;
+            say(rt, b"\n")?;
         }
         at += 1;
     }
+    Ok(())
 }
 
-pub fn print(comparison: Comparison, seen: &[u64; 280]) {
-    print_seen(seen);
-    number(comparison.sessions);
-    say(b" sessions, ");
-    number(comparison.calls);
-    say(b" calls, ");
-    number(comparison.doubles);
-    say(b" doubles of areas\n");
-    number(comparison.answers);
-    say(b" answers, ");
-    number(comparison.counts);
-    say(b" counts, ");
-    number(comparison.records);
-    say(b" records in s, k, r or the history, ");
-    number(comparison.entries);
-    say(b" doubles of areas differ\n");
+pub fn print(rt: &impl Print, comparison: Comparison, seen: &[u64; 280]) -> io::Result<()> {
+    print_seen(rt, seen)?;
+    number(rt, comparison.sessions)?;
+    say(rt, b" sessions, ")?;
+    number(rt, comparison.calls)?;
+    say(rt, b" calls, ")?;
+    number(rt, comparison.doubles)?;
+    say(rt, b" doubles of areas\n")?;
+    number(rt, comparison.answers)?;
+    say(rt, b" answers, ")?;
+    number(rt, comparison.counts)?;
+    say(rt, b" counts, ")?;
+    number(rt, comparison.records)?;
+    say(rt, b" records in s, k, r or the history, ")?;
+    number(rt, comparison.entries)?;
+    say(rt, b" doubles of areas differ\n")
 }

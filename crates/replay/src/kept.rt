@@ -2,7 +2,7 @@
 use crate::trace;
 use driver::{Figures, Record};
 
-#[derive(Drop)]
+#[derive(Clone, Copy)]
 pub struct Kept {
     pub stages: u64,
     pub passes: u64,

@@ -10,6 +10,7 @@ use calls::Made;
 use comparison::{Comparison, Right};
 use driver::{Answer, Counters, History, Record};
 use kept::Kept;
+use std::io;
 
 mod calls;
 mod comparison;
@@ -277,16 +278,14 @@ fn room() -> [u8; 1048576] {
     [0; 1048576]
 }
 
-fn main() {
-    let fd = os::open_read(b"traces");
-    if fd < 0 {
-        os::fail(b"traces");
-        return;
-    }
+fn main(rt: HostRuntime) -> io::Result<()> {
+    let Some(mut file) = stored::open(&rt, "traces")? else {
+        return Ok(());
+    };
     let mut bytes = room();
-    let n = io::read_full(fd, &mut bytes);
-    libc::close(fd);
+    let n = stored::read_full(&mut file, &mut bytes)?;
+    drop(file);
     let mut seen = [0; 280];
     let all = all_sessions(&bytes[..n], &mut seen);
-    comparison::print(all, &seen);
+    comparison::print(&rt, all, &seen)
 }

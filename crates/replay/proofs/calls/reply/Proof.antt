@@ -3,16 +3,16 @@ use Rattle.std.proofs.Common.{sym, length-take-le, rules}
 use Rattle.replay.proofs.calls.reply.Statement.{statement}
 use Rattle.replay.proofs.calls.reply.Tie as tie
 
-bring-requires : tie.Need-bring-requires
+bring-requires : tie.Need-bring-k-requires
 bring-requires c κs = search rules
 
-slice-reshare-prefix-reply : tie.Need-slice-reshare-prefix-reply
+slice-reshare-prefix-reply : tie.Need-slice_bounds-reply-end
 slice-reshare-prefix-reply c = search rules
 
-slice-aggregate-reply : tie.Need-slice-aggregate-reply
-slice-aggregate-reply c = sym (length-take-le _ _ c.before.before.before.before.bring.ensures)
+slice-aggregate-reply : tie.Need-slice_bounds-reply-end-2
+slice-aggregate-reply c = sym (length-take-le _ _ c.bring-k.ensures)
 
-reply-requires : tie.Need-reply-requires
+reply-requires : tie.Need-reply-replied-requires
 reply-requires c κs = search rules
 
 on-requires : tie.Need-on-requires
@@ -21,17 +21,17 @@ on-requires c κs = search rules
 on-requires-2 : tie.Need-on-requires-2
 on-requires-2 c κs = search rules
 
-same_length : tie.Need-same-length
+same_length : tie.Need-shape_of-area
 same_length c = search rules
 
-same-length-2 : tie.Need-same-length-2
+same-length-2 : tie.Need-shape_of-brought
 same-length-2 c = search rules
 
 returns : tie.Need-returns
 returns c = search rules
 
-pub reply-spec : {M : Type 1} → statement M
-reply-spec =
+pub reply_spec : {M : Type 1} → statement M
+reply_spec =
     tie.close
     (tie.spec
     bring-requires

@@ -3,34 +3,34 @@ use Rattle.std.proofs.Common.{sym, length-take-le, rules}
 use Rattle.replay.proofs.calls.start.Statement.{statement}
 use Rattle.replay.proofs.calls.start.Tie as tie
 
-word-requires : tie.Need-word-requires
+word-requires : tie.Need-word-family-requires
 word-requires c κs = search rules
 
 on-requires : tie.Need-on-requires
 on-requires c κs = search rules
 
-word-requires-2 : tie.Need-word-requires-2
+word-requires-2 : tie.Need-word-n-requires
 word-requires-2 c κs = search rules
 
 on-requires-2 : tie.Need-on-requires-2
 on-requires-2 c κs = search rules
 
-double-requires : tie.Need-double-requires
+double-requires : tie.Need-double-time-requires
 double-requires c κs = search rules
 
 on-requires-3 : tie.Need-on-requires-3
 on-requires-3 c κs = search rules
 
-bring-requires : tie.Need-bring-requires
+bring-requires : tie.Need-bring-k-requires
 bring-requires c κs = search rules
 
-slice-reshare-prefix-start : tie.Need-slice-reshare-prefix-start
+slice-reshare-prefix-start : tie.Need-slice_bounds-start-end
 slice-reshare-prefix-start c = search rules
 
-slice-aggregate-start : tie.Need-slice-aggregate-start
-slice-aggregate-start c = sym (length-take-le _ _ c.before.before.before.before.bring.ensures)
+slice-aggregate-start : tie.Need-slice_bounds-start-end-2
+slice-aggregate-start c = sym (length-take-le _ _ c.bring-k.ensures)
 
-start-requires : tie.Need-start-requires
+start-requires : tie.Need-start-next-requires
 start-requires c κs = search rules
 
 on-requires-4 : tie.Need-on-requires-4
@@ -39,13 +39,13 @@ on-requires-4 c κs = search rules
 on-requires-5 : tie.Need-on-requires-5
 on-requires-5 c κs = search rules
 
-of-next-requires : tie.Need-of-next-requires
+of-next-requires : tie.Need-of_next-requires
 of-next-requires c κs = search rules
 
-same_length : tie.Need-same-length
+same_length : tie.Need-shape_of-area
 same_length c = search rules
 
-same-length-2 : tie.Need-same-length-2
+same-length-2 : tie.Need-shape_of-brought
 same-length-2 c = search rules
 
 returns : tie.Need-returns
