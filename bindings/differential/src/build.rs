@@ -171,7 +171,7 @@ impl Table {
 fn stored_sinh() -> u64 {
     let file = crates().join("coefficients/specs/Rows.antt");
     let text = read(&file);
-    let begin = "sinh-acosh-t-star = ofBits binary64 0x";
+    let begin = "sinh_acosh_t_star = of_bits binary64 0x";
     let at = text.find(begin).expect(begin) + begin.len();
     u64::from_str_radix(&text[at..at + 16], 16).expect("hexadecimal digits")
 }

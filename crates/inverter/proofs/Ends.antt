@@ -9,7 +9,7 @@ use borrow.Author.Tests.{ltb-true}
 use lib.Dec.{ltb, eqb}
 use lib.Ieee.{Float}
 use Rattle.ieee.specs.Double.{◌⊕◌}
-use Rattle.family.specs.Family.{family_of, most_stages}
+use Rattle.family.specs.Family.{most_stages}
 use Rattle.workspace.specs.declared.Arguments.{Arguments}
 use Rattle.workspace.specs.Vectors.{Vectors, number, unpack, all_finite, state, candidate}
 use Rattle.workspace.specs.Kernel.{turned, radius_of, ended, scaled, with_row, exchanged, with_candidate}

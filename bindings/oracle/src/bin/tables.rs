@@ -152,7 +152,6 @@ impl Table {
             .replace("<title>", self.title)
             .replace("<request>", self.request)
             .replace("<name>", self.name)
-            .replace("<spec>", &self.name.replace('_', "-"))
             .replace("<arms>", &self.arms())
             .replace("<bits>", &self.bits());
         numbers.into_iter().fold(named, |text, (place, number)| {
@@ -195,15 +194,16 @@ fn decimal(value: f64) -> String {
 
 const CODE: &str = "\
 // <title>, by count. A count outside <first> to <last> reads the nearest entry. Written by bindings/oracle (docs/VECTORS.md).
-ghost use mathlib.Core.Path.{_≡_};
-ghost use Prim.Native.Nat.{_<_};
-ghost use Rattle·table.specs.Rows.{row};
-ghost use Rattle·<crate>·specs.specs.Table as spec;
+#![tactic(auto)]
+
+ghost use Rattle.std.specs.Prelude.{◌≡◌, ◌<◌};
+ghost use Rattle.table.specs.Rows.{row};
+ghost use Rattle.<crate>.specs.Table as spec;
 
 // The counts <width> k to <width> k + <width-1>. No number below <rows> is left for the last arm.
 fn row_of(k: u64) -> [f64; <width>]
-    requires { ⌜ k < <rows> ⌝ }
-    ensures { λ r. ⌜ r ≡ row spec.bits k ⌝ }
+    requires { k < <rows> }
+    ensures { result ≡ row spec.bits k }
 {
     match k {
 <arms>        _ => table::absent(k, <rows>),
@@ -211,7 +211,7 @@ fn row_of(k: u64) -> [f64; <width>]
 }
 
 pub fn <name>(s: u64) -> f64
-    ensures { λ r. ⌜ r ≡ spec.<spec> s ⌝ }
+    ensures { result ≡ spec.<name> s }
 {
     let i = table::capped(s, <last>);
     let row = row_of(i / <width>);
@@ -223,69 +223,67 @@ pub fn <name>(s: u64) -> f64
 const SPECS: &str = "\
 -- <title>: a table of document 02, <request>, with the doubles of the named build (docs/VECTORS.md). Bit patterns, <width> counts a row,
 -- a row's first count above it. A count outside <first> to <last> has the nearest entry.
-use Prim.Native.Nat.{ℕ, min}
-use mathlib.Core.List.{List, [], _∷_}
-use lib.Ieee.{Float}
-use Rattle·table.specs.Rows.{entry}
+use Rattle.std.specs.Prelude.{ℕ, min, List, [], ◌∷◌, Float}
+use Rattle.table.specs.Rows.{entry}
 
 abbrev pub bits : List (List ℕ)
 bits =
 <bits>    []
 
-unfoldable pub <spec> : ℕ → Float
-<spec> s = entry bits (min s <last>)
+unfoldable pub <name> : ℕ → Float
+<name> s = entry bits (min s <last>)
 ";
 
 const PROOF: &str = "\
 -- `<name>` meets its contract: the row is that of the count, and so is the place in it. Assumes nothing.
-use borrow.Author.Needs.{needs}
-use Rattle·<crate>·specs.specs.Table.{<spec>}
-use Rattle·<crate>·proofs.proofs.<name>.Statement.{statement}
-use Rattle·<crate>·proofs.proofs.<name>.Tie as tie
+use borrow.Author.Rules.{rules}
+use Rattle.<crate>.specs.Table.{<name>}
+use Rattle.<crate>.proofs.<name>.Statement.{statement}
+use Rattle.<crate>.proofs.<name>.Tie as tie
 
-capped-requires : tie.Need-capped-requires
-capped-requires c κs = search needs
+capped-requires : tie.Need-capped-i-requires
+capped-requires c κs = search rules
 
-row-of-requires : tie.Need-row-of-requires
-row-of-requires c κs = search needs
+row-of-requires : tie.Need-row_of-row-requires
+row-of-requires c κs = search rules
 
-mul-result : tie.Need-mul-result
-mul-result c = search needs
+mul-result : tie.Need-offset_bounds-row-j
+mul-result c = search rules
 
-array-read-result : tie.Need-array-read-result
-array-read-result c = search needs
+array-read-result : tie.Need-bounds-row-j
+array-read-result c = search rules
 
 returns : tie.Need-returns
-unfolding <spec>
-returns c = rw (c .row-of .ensures, c .before .capped .ensures)
+unfolding <name>
+returns c = rw (c.row_of-row.ensures, c.before.capped-i.ensures)
 
-pub <spec>-spec : {M : Type 1} → statement M
-<spec>-spec = tie.close (tie.spec capped-requires row-of-requires mul-result array-read-result returns)
+pub <name>_spec : {M : Type 1} → statement M
+<name>_spec = tie.close (tie.spec capped-requires row-of-requires mul-result array-read-result returns)
 ";
 
 const AT_LEAST_ONE: Rule = Rule {
     file: "AtLeastOne",
     text: "\
 -- Every entry is at least 1. Computed once for the whole table. Assumes nothing.
-use Prim.Native.Nat.{ℕ, _+_, _≤_, _<_}
+use Prim.Native.Nat.{ℕ, ◌+◌, ◌≤◌, ◌<◌}
 use mathlib.Core.Bool.{Bool}
 use native.Mathlib.Omega.{arith}
 use lib.Dec.{T}
-use lib.Ieee.{le, ofBits}
-use Rattle·ieee.specs.Double.{one}
-use Rattle·ieee.proofs.Every.{every, among}
-use Rattle·<crate>·specs.specs.Table.{<spec>}
+use lib.Ieee.{le, of_bits}
+use Rattle.ieee.specs.Double.{one}
+use Rattle.ieee.proofs.Every.{every, among}
+use Rattle.<crate>.specs.Table.{<name>}
 
 test : ℕ → Bool
-test s = le one (<spec> s)
+test s = le one (<name> s)
 
 passes : T (every test <entries> <first>)
-unfolding every test <spec> ofBits le
+unfolding every test <name> of_bits le
 passes = tt
 
-pub at-least-one : (s : ℕ) → <first> ≤ s → s ≤ <last> → T (le one (<spec> s))
+pub at_least_one : (s : ℕ) → <first> ≤ s → s ≤ <last> → T (le one (<name> s))
 unfolding test
-at-least-one s l h = among test <entries> <first> s passes l (omega arith)
+at_least_one s l h = among test <entries> <first> s passes l (omega arith)
 ",
 };
 
@@ -293,25 +291,25 @@ const ABOVE_ZERO: Rule = Rule {
     file: "AboveZero",
     text: "\
 -- Every entry is above 0. Computed once for the whole table. Assumes nothing.
-use Prim.Native.Nat.{ℕ, _+_, _≤_, _<_}
+use Prim.Native.Nat.{ℕ, ◌+◌, ◌≤◌, ◌<◌}
 use mathlib.Core.Bool.{Bool}
 use native.Mathlib.Omega.{arith}
 use lib.Dec.{T}
-use lib.Ieee.{lt, ofBits}
-use Rattle·ieee.specs.Double.{nought}
-use Rattle·ieee.proofs.Every.{every, among}
-use Rattle·<crate>·specs.specs.Table.{<spec>}
+use lib.Ieee.{lt, of_bits}
+use Rattle.ieee.specs.Double.{nought}
+use Rattle.ieee.proofs.Every.{every, among}
+use Rattle.<crate>.specs.Table.{<name>}
 
 test : ℕ → Bool
-test s = lt nought (<spec> s)
+test s = lt nought (<name> s)
 
 passes : T (every test <entries> <first>)
-unfolding every test <spec> ofBits lt
+unfolding every test <name> of_bits lt
 passes = tt
 
-pub above-zero : (s : ℕ) → <first> ≤ s → s ≤ <last> → T (lt nought (<spec> s))
+pub above_zero : (s : ℕ) → <first> ≤ s → s ≤ <last> → T (lt nought (<name> s))
 unfolding test
-above-zero s l h = among test <entries> <first> s passes l (omega arith)
+above_zero s l h = among test <entries> <first> s passes l (omega arith)
 ",
 };
 
@@ -319,41 +317,41 @@ const RISING: Rule = Rule {
     file: "Rising",
     text: "\
 -- The entries rise strictly, and are above 0. Computed once for the whole table. Assumes nothing.
-use mathlib.Core.Path.{_≡_, sym, subst}
+use mathlib.Core.Path.{◌≡◌, sym, subst}
 use mathlib.Core.Logic.{inl, inr}
-use Prim.Native.Nat.{ℕ, suc, _+_, _≤_, _<_}
-use native.Mathlib.Nat.{eq-or-lt-of-le}
-use mathlib.Core.Bool.{Bool, _&&_}
+use Prim.Native.Nat.{ℕ, suc, ◌+◌, ◌≤◌, ◌<◌}
+use native.Mathlib.Nat.{eq-or-lt_of_le}
+use mathlib.Core.Bool.{Bool, ◌&&◌}
 use native.Mathlib.Omega.{arith}
 use lib.Dec.{T}
-use lib.Ieee.{lt, ofBits}
-use lib.Ieee.Fits.{and-l, and-r}
+use lib.Ieee.{lt, of_bits}
+use lib.Ieee.Fits.{and_l, and_r}
 use lib.Ieee.Positive.{positive}
-use Rattle·ieee.proofs.Every.{every, among}
-use Rattle·<crate>·specs.specs.Table.{<spec>}
+use Rattle.ieee.proofs.Every.{every, among}
+use Rattle.<crate>.specs.Table.{<name>}
 
 test : ℕ → Bool
-test s = positive (<spec> s) && lt (<spec> s) (<spec> (suc s))
+test s = positive (<name> s) && lt (<name> s) (<name> (suc s))
 
 passes : T (every test <pairs> <first>)
-unfolding every test <spec> ofBits lt
+unfolding every test <name> of_bits lt
 passes = tt
 
-passes-at : (s : ℕ) → <first> ≤ s → s ≤ <before-last> → T (positive (<spec> s) && lt (<spec> s) (<spec> (suc s)))
+passes_at : (s : ℕ) → <first> ≤ s → s ≤ <before-last> → T (positive (<name> s) && lt (<name> s) (<name> (suc s)))
 unfolding test
-passes-at s l h = among test <pairs> <first> s passes l (omega arith)
+passes_at s l h = among test <pairs> <first> s passes l (omega arith)
 
-pub rises : (s : ℕ) → <first> ≤ s → s ≤ <before-last> → T (lt (<spec> s) (<spec> (suc s)))
-rises s l h = and-r (positive (<spec> s)) (lt (<spec> s) (<spec> (suc s))) (passes-at s l h)
+pub rises : (s : ℕ) → <first> ≤ s → s ≤ <before-last> → T (lt (<name> s) (<name> (suc s)))
+rises s l h = and_r (positive (<name> s)) (lt (<name> s) (<name> (suc s))) (passes_at s l h)
 
-last-above-zero : T (positive (<spec> <last>))
-unfolding <spec> ofBits
-last-above-zero = tt
+last_above_zero : T (positive (<name> <last>))
+unfolding <name> of_bits
+last_above_zero = tt
 
-pub above-zero : (s : ℕ) → <first> ≤ s → s ≤ <last> → T (positive (<spec> s))
-above-zero s l h = elim (eq-or-lt-of-le h) [
-  | inl e ↦ subst (λ (i : ℕ). T (positive (<spec> i))) (sym e) last-above-zero
-  | inr m ↦ and-l (positive (<spec> s)) (lt (<spec> s) (<spec> (suc s))) (passes-at s l (omega arith))
+pub above_zero : (s : ℕ) → <first> ≤ s → s ≤ <last> → T (positive (<name> s))
+above_zero s l h = elim (eq-or-lt_of_le h) [
+  | inl e ↦ subst (λ (i : ℕ). T (positive (<name> i))) (sym e) last_above_zero
+  | inr m ↦ and_l (positive (<name> s)) (lt (<name> s) (<name> (suc s))) (passes_at s l (omega arith))
 ]
 ",
 };

@@ -5,15 +5,15 @@ use Rattle.inverter.specs.Day.{arguments}
 use Rattle.inverter.proofs.minute.arguments.Statement.{statement}
 use Rattle.inverter.proofs.minute.arguments.Tie as tie
 
-time-of-requires : tie.Need-time-of-requires
+time-of-requires : tie.Need-time_of-requires
 time-of-requires c κs = search rules
 
-double-of-requires : tie.Need-double-of-requires
+double-of-requires : tie.Need-double_of-requires
 double-of-requires c κs = search rules
 
 returns : tie.Need-returns
 unfolding arguments of_bits
-returns c = rw (c.before.time_of.ensures, c.double-of.ensures)
+returns c = rw (c.before.time_of.ensures, c.double_of.ensures)
 
-pub arguments-spec : {M : Type 1} → statement M
-arguments-spec = tie.close (tie.spec time-of-requires double-of-requires returns)
+pub arguments_spec : {M : Type 1} → statement M
+arguments_spec = tie.close (tie.spec time-of-requires double-of-requires returns)

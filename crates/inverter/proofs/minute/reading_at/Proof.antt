@@ -4,13 +4,13 @@ use Rattle.inverter.specs.Day.{reading_at}
 use Rattle.inverter.proofs.minute.reading_at.Statement.{statement}
 use Rattle.inverter.proofs.minute.reading_at.Tie as tie
 
-returns : tie.Need-returns
+returns : tie.Need-returns-then-k-eq-CANDIDATE
 unfolding reading_at
-returns c = simp (eq-eqb _ _ c.if1.true)
+returns c = simp (eq-eqb _ _ c.if-k-eq-CANDIDATE.true)
 
-returns-2 : tie.Need-returns-2
+returns-2 : tie.Need-returns-else-k-eq-CANDIDATE
 unfolding reading_at
-returns-2 c = simp (ne_eqb _ _ c.if1.false)
+returns-2 c = simp (ne_eqb _ _ c.if-k-eq-CANDIDATE.false)
 
-pub reading-at-spec : {M : Type 1} → statement M
-reading-at-spec = tie.close (tie.spec returns returns-2)
+pub reading_at_spec : {M : Type 1} → statement M
+reading_at_spec = tie.close (tie.spec returns returns-2)

@@ -4,15 +4,15 @@ use Rattle.inverter.specs.Day.{time_of}
 use Rattle.inverter.proofs.minute.time_of.Statement.{statement}
 use Rattle.inverter.proofs.minute.time_of.Tie as tie
 
-mul-double-of : tie.Need-overflow-mul-double-of
+mul-double-of : tie.Need-overflow_mul-minute
 mul-double-of c = search rules
 
-double-of-requires : tie.Need-double-of-requires
+double-of-requires : tie.Need-double_of-requires
 double-of-requires c κs = search rules
 
 returns : tie.Need-returns
 unfolding time_of
-returns c = c.double-of.ensures
+returns c = c.double_of.ensures
 
-pub time-of-spec : {M : Type 1} → statement M
-time-of-spec = tie.close (tie.spec mul-double-of double-of-requires returns)
+pub time_of_spec : {M : Type 1} → statement M
+time_of_spec = tie.close (tie.spec mul-double-of double-of-requires returns)

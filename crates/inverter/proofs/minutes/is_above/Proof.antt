@@ -11,5 +11,5 @@ returns : tie.Need-returns
 unfolding is_above
 returns c = rw c.before.finished.ensures
 
-pub is-above-spec : {M : Type 1} → statement M
-is-above-spec = tie.close (tie.spec finished-requires returns)
+pub is_above_spec : {M : Type 1} → statement M
+is_above_spec = tie.close (tie.spec finished-requires returns)

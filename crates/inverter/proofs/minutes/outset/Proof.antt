@@ -4,12 +4,12 @@ use Rattle.inverter.specs.Day.{no_count}
 use Rattle.inverter.proofs.minutes.outset.Statement.{statement}
 use Rattle.inverter.proofs.minutes.outset.Tie as tie
 
-new-record-requires : tie.Need-new-record-requires
+new-record-requires : tie.Need-new_record-requires
 new-record-requires c κs = search rules
 
 returns : tie.Need-returns
 unfolding no_count
 returns c = rw c.new_record.ensures
 
-pub outset-spec : {M : Type 1} → statement M
-outset-spec = tie.close (tie.spec new-record-requires returns)
+pub outset_spec : {M : Type 1} → statement M
+outset_spec = tie.close (tie.spec new-record-requires returns)
