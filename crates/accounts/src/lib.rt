@@ -1,2 +1,3 @@
-// What the report of a day accounts for: definitions and theorems only, no code.
 #![tactic(auto)]
+
+// What the report of a day accounts for: definitions and theorems only, no code.
