@@ -1,5 +1,5 @@
 -- The numbers that the six calls are turned away with, sorted by what a call then leaves. Document 01, "When a call is turned away", and document 02, CR 6. A
--- new number comes in here and in the list of its call (`Numbers-of` in session/specs/Refusals): the statements of driver, session, lent and accounts go by
+-- new number comes in here and in the list of its call (`numbers_of` in session/specs/Refusals): the statements of driver, session, lent and accounts go by
 -- the lists and not by a range.
 use Rattle.std.specs.Prelude.{ℕ, Bool, false, ◌||◌, List, [], ◌∷◌, ◌++◌, eqb}
 

@@ -1,5 +1,5 @@
 -- The stage counts serve every finite r that is not below 0 (`serves`), and every count of every family is permitted (`stage_count_permitted`). Assumes
--- nothing. ⊕ ⊗ are operations on doubles: they round.
+-- nothing.
 use mathlib.Core.Path.{◌≡◌, refl, sym, ap, ◌∙◌, subst}
 use mathlib.Core.Logic.{◌⊎◌, inl, inr}
 use Prim.Native.Nat.{ℕ, zero, suc, ◌+◌, ◌-◌, ◌*◌, ◌≤◌, ◌<◌}
@@ -9,21 +9,21 @@ use native.Mathlib.Omega.{arith}
 use mathlib.Core.Bool.{Bool, true, false, cond, true≢false}
 use lib.IntN.{ℤ, pos}
 use lib.Dec.{T, ltb, lt→ltb}
-use lib.Ieee.{Float, nan, inf, fin, up, down, lt, le, add, mul}
-use lib.Ieee.Fits.{up_pos, down_pos}
+use lib.Ieee.{Float, nan, inf, fin, up, down, lt, le}
+use lib.Ieee.Fits.{up_pos}
 use lib.Ieee.Bits.{is_true}
 use lib.Ieee.Positive.{num, den, den_pos}
 use lib.Ieee.Scale.{finite}
-use Rattle.ieee.specs.Double.{◌⊕◌, ◌⊗◌, nought}
+use Rattle.ieee.specs.Double.{nought}
 use Rattle.ieee.specs.Sqrt.{sqrt}
 use Rattle.ieee.specs.Whole as Whole
 use Rattle.ieee.proofs.Monotone.{NonNeg, infinite, number, le_of_cross}
 use Rattle.ieee.proofs.Logic.{le_or_le}
-use Rattle.ieee.proofs.Value.{round_none}
 use Rattle.family.specs.Family.{Family, Orthogonal, Legendre1, Legendre2, Gegenbauer1, Gegenbauer2, made_of, largest_count, permitted, before_limits}
 use Rattle.family.specs.Family.{facts_of, radius_for, number_of_stages, limited, stage_count}
 use Rattle.family.specs.Reach.{reach_num, reach_den, parts, Serves}
-use Rattle.family.proofs.Rule.{offset, slope, inner, after, rule_is, more_from, less_to, nearest_nonneg}
+use Rattle.family.proofs.InnerZero.{inner_zero}
+use Rattle.family.proofs.Rule.{after, rule_is, more_from, less_to, nearest_nonneg}
 use Rattle.family.proofs.Thresholds.{high, deep, past, full, Above, Below, thresholds}
 use Rattle.family.proofs.Limits.{limits}
 
@@ -105,20 +105,6 @@ module _ (f : Orthogonal) (quotient r : Float) (p : NonNeg r) (i : T (finite r))
       go {s} (inr h) t = inr (covers s t h)
 
 -- ---- −0 counts as 0
-minus_zero : (n : ℕ) (d : ℤ) (e : ℤ) → fin false n d ⊗ fin true 0 e ≡ fin true 0 (pos 0)
-unfolding mul
-minus_zero n d e = round_none true (n * up d * (0 * up e)) (down d * down e) (mul-pos (down_pos d) (down_pos e)) (flat (n * up d) (up e))
-  where
-    flat : (a u : ℕ) → a * (0 * u) ≡ 0
-    flat a u = omega arith
-
-inner_zero : (f : Orthogonal) (e : ℤ) → inner f (fin true 0 e) ≡ inner f nought
-unfolding inner offset slope add mul
-inner_zero Legendre1 e = ap (λ (z : Float). fin false 1 (pos 0) ⊕ z) (minus_zero 1 (pos 2) e)
-inner_zero Legendre2 e = ap (λ (z : Float). fin false 9 (pos 0) ⊕ z) (minus_zero 1 (pos 3) e)
-inner_zero Gegenbauer1 e = ap (λ (z : Float). fin false 9 (pos 0) ⊕ z) (minus_zero 1 (pos 3) e)
-inner_zero Gegenbauer2 e = ap (λ (z : Float). fin false 25 (pos 0) ⊕ z) (minus_zero 3 (pos 2) e)
-
 rule_zero : (f : Orthogonal) (q : Float) (e : ℤ) → before_limits (made_of f) q (fin true 0 e) ≡ before_limits (made_of f) q nought
 rule_zero f q e = rule_is f q (fin true 0 e) ∙ ap (λ (x : Float). after f (sqrt x)) (inner_zero f e) ∙ sym (rule_is f q nought)
 

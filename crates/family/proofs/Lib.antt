@@ -2,6 +2,7 @@ pub mod Numbers
 pub mod Range
 pub mod Divided
 pub mod Rule
+pub mod InnerZero
 pub mod Limits
 pub mod Saturated
 pub mod Thresholds
