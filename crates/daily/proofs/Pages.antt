@@ -1,13 +1,10 @@
--- The whole text: what is put from the start on is counted, and of a report it is the definition's. From the definitions, and from the theorem of a day's
--- accounts.
+-- The whole text, which of a report is the definition's. From the definitions, and from the theorem of a day's accounts.
 use mathlib.Core.Path.{◌≡◌, sym, ap, subst, ◌∙◌}
 use mathlib.Core.List.{List}
 use Prim.Native.Nat.{ℕ}
-use native.Mathlib.Omega.{arith}
-use lib.ListN.{length, take, replicate, length-take}
+use lib.ListN.{replicate}
 use lib.Ieee.{Float}
 use Rattle.ieee.specs.Double.{nought}
-use Rattle.io.specs.Counts.{IsPrefixLen}
 use Rattle.page.specs.Page.{Puts}
 use Rattle.inverter.specs.declared.Total.{Total}
 use Rattle.inverter.specs.declared.DayResult.{DayResult}
@@ -18,11 +15,6 @@ use Rattle.daily.specs.Written.{no_lists, report, day_text, minutes_text, day_pa
 
 pub puts_same : {p q x y : List ℕ} {at r : ℕ} → x ≡ y → Puts p at x q r → Puts p at y q r
 puts_same {p} {q} {x} {y} {at} {r} e h = subst (λ (l : List ℕ). Puts p at l q r) e h
-
-pub puts_counts : {p q x : List ℕ} {r : ℕ} → Puts p 0 x q r → IsPrefixLen r q
-puts_counts {p} {q} {x} {r} h =
-    let e : r ≡ length (take r q) = omega (arith, h.place, ap length h.bytes) in
-    (omega (arith, e, length-take r q), e)
 
 -- the lists before the day is read
 pub blank_lists : {refusals stages passes : List ℕ} {junctions radii : List Float} → refusals ≡ replicate 1440 0 → junctions ≡ replicate 1440 nought

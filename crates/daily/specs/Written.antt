@@ -1,6 +1,6 @@
 -- What the programs write of a day, byte for byte: the total, the counts and a line for each refused minute, or else a line for each minute with its junction,
 -- s, k and r; or the line that makes the text no day. README, "Two commands". Definitions only.
-use Rattle.std.specs.Prelude.{ℕ, zero, suc, ◌*◌, ◌/◌, ◌%◌, cond, List, [], ◌∷◌, ◌++◌, eqb, get_or, replicate, Float}
+use Rattle.std.specs.Prelude.{ℕ, zero, suc, ◌*◌, ◌/◌, ◌%◌, ◌≡◌, ◌≤◌, cond, List, [], ◌∷◌, ◌++◌, eqb, get_or, length, replicate, take, Float}
 use Rattle.std.specs.Float.{nan, binary64}
 use Rattle.std.specs.Float.Ieee.{to_bits}
 use Rattle.ieee.specs.Double.{nought}
@@ -140,3 +140,9 @@ day_page text = day_text (report text).result (report text).lists.refusals
 
 unfoldable pub minutes_page : List ℕ → List ℕ
 minutes_page text = minutes_text (report text).result (report text).lists
+
+-- ---- the buffer it is put into
+
+-- its first n bytes are in bounds, and n in number
+abbrev pub IsPrefixLen : ℕ → List ℕ → Type 0
+IsPrefixLen n xs = (n ≤ length xs) × (n ≡ length (take n xs))

@@ -1,13 +1,15 @@
 // What is written of the text of a day: the bytes, each an equation with a definition, and their handing to the output.
 #![tactic(auto)]
 
-ghost use Rattle.std.specs.Prelude.{◌≡◌, length, take, replicate};
+ghost use Rattle.std.specs.Prelude.{◌≡◌, length, take, replicate, IfOk, OnOk, IfSome};
+ghost use Rattle.std.specs.Io.KnownBytes.{Appends};
 ghost use Rattle.ieee.specs.Double.{nought};
-ghost use Rattle.io.specs.Counts.{IsPrefixLen};
 ghost use Rattle.daily.specs.Written as spec;
 
 use inverter::DayResult;
-use libc::STDOUT_FILENO;
+use std::alloc::Global;
+use std::io;
+use std::io::{Read, Write};
 
 mod lines;
 
@@ -32,7 +34,7 @@ fn blank() -> [u8; 110000]
 
 // The total and each refused minute, or the line that makes the text no day; how many bytes that is.
 pub fn day_page(text: &[u8], out: &mut [u8; 110000]) -> usize
-    ensures prefix_len { IsPrefixLen result out.new }
+    ensures prefix_len { spec.IsPrefixLen result out.new }
     ensures out_after { take result out.new ≡ spec.day_page text.now }
 {
     let mut refusals = no_numbers();
@@ -56,7 +58,7 @@ pub fn day_page(text: &[u8], out: &mut [u8; 110000]) -> usize
 // Of each minute the junction temperature at its end, s, k and r, a line each; or the line that makes the text no day; how
 // many bytes.
 pub fn minutes_page(text: &[u8], out: &mut [u8; 110000]) -> usize
-    ensures prefix_len { IsPrefixLen result out.new }
+    ensures prefix_len { spec.IsPrefixLen result out.new }
     ensures out_after { take result out.new ≡ spec.minutes_page text.now }
 {
     let mut refusals = no_numbers();
@@ -79,16 +81,32 @@ pub fn minutes_page(text: &[u8], out: &mut [u8; 110000]) -> usize
     }
 }
 
+// The longest day is 24,588 bytes, and the first bad line of a longer text is among its first 65,536.
+const MOST_READ: u64 = 65536;
+
+// The bytes of a text, the first 65,536 of a longer one.
+pub fn read_text<R: Read + Drop>(alloc: Global, from: R) -> io::Result<Vec<u8>>
+    ensures { IfOk result (λ text. IfSome (R.remaining from) (λ bytes. text.items ≡ take 65536 bytes)) }
+{
+    let mut text = Vec::new(alloc);
+    from.take(MOST_READ).read_to_end(&mut text)?;
+    Ok(text)
+}
+
 // Writes the first of these, all of it at once.
-pub fn day(text: &[u8]) {
+pub fn day<W: Write>(text: &[u8], to: &mut W) -> io::Result<()>
+    ensures { OnOk result (Appends (W.contents to.old) (W.contents to.new) (spec.day_page text.now)) }
+{
     let mut out = blank();
     let n = day_page(text, &mut out);
-    io::write_all(STDOUT_FILENO, &out[..n]);
+    to.write_all(&out[..n])
 }
 
 // Writes the second.
-pub fn minutes(text: &[u8]) {
+pub fn minutes<W: Write>(text: &[u8], to: &mut W) -> io::Result<()>
+    ensures { OnOk result (Appends (W.contents to.old) (W.contents to.new) (spec.minutes_page text.now)) }
+{
     let mut out = blank();
     let n = minutes_page(text, &mut out);
-    io::write_all(STDOUT_FILENO, &out[..n]);
+    to.write_all(&out[..n])
 }

@@ -1,11 +1,9 @@
-// The day on standard input: its total, or the line that makes it no day. The longest day is 24,588 bytes, and the first
-// bad line of a longer text is among its first 65,536.
+// The day on standard input: its total, or the line that makes it no day.
 #![tactic(auto)]
 
-use libc::STDIN_FILENO;
+use std::io;
 
-fn main() {
-    let mut text = io::large_buffer();
-    let n = io::read_full(STDIN_FILENO, &mut text);
-    daily::day(&text[..n]);
+fn main(rt: HostRuntime) -> io::Result<()> {
+    let text = daily::read_text(rt.alloc(), rt.stdin())?;
+    daily::day(&text, &mut rt.stdout())
 }

@@ -8,5 +8,5 @@ returns : tie.Need-returns
 unfolding of_bits
 returns c = refl
 
-pub no-doubles-spec : {M : Type 1} → statement M
-no-doubles-spec = tie.close (tie.spec returns)
+pub no_doubles_spec : {M : Type 1} → statement M
+no_doubles_spec = tie.close (tie.spec returns)

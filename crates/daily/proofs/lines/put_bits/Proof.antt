@@ -7,18 +7,18 @@ use borrow.Author.Rules.{rules}
 use Rattle.daily.proofs.lines.put_bits.Statement.{statement}
 use Rattle.daily.proofs.lines.put_bits.Tie as tie
 
-bits-of-requires : tie.Need-bits-of-requires
+bits-of-requires : tie.Need-bits_of-requires
 bits-of-requires c κs = search rules
 
-put-word-requires : tie.Need-put-word-requires
+put-word-requires : tie.Need-put_word-requires
 put-word-requires c κs = search rules
 
-same_length : tie.Need-same-length
+same_length : tie.Need-shape_of-out
 same_length c = search rules
 
 returns : tie.Need-returns
 unfolding bits_text
 returns c = puts_same (ap word c.before.before.before.bits_of.ensures) c.before.before.put_word.ensures
 
-pub put-bits-spec : {M : Type 1} → statement M
-put-bits-spec = tie.close (tie.spec bits-of-requires put-word-requires same_length returns)
+pub put_bits_spec : {M : Type 1} → statement M
+put_bits_spec = tie.close (tie.spec bits-of-requires put-word-requires same_length returns)
