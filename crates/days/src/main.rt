@@ -5,10 +5,9 @@
 ghost use Rattle.daily.specs.Written.{IsPrefixLen};
 
 use std::env::{Env, FillError};
-use std::fs;
 use std::fs::File;
-use std::io;
 use std::io::{Eprint, Write};
+use std::{fs, io};
 
 // How many arguments the program was started with, its own name among them.
 fn arg_count(rt: &HostRuntime) -> usize {
