@@ -68,6 +68,7 @@ pub mod OnAbandon
 -- of what lists of calls come to (Concluded).
 pub mod Later
 pub mod Outcomes
+pub mod Left
 pub mod Underway
 pub mod Latest
 pub mod Trails

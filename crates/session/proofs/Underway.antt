@@ -1,21 +1,20 @@
 -- An attempt under way, as record and counters tell it: an attempt that is taken begins it, and each reply that is taken goes on with it, up to finished.
 -- And what an answer "finished" leaves; the family and the n stand but for a start. From the outcomes of a call, and Signs (r is not below 0).
--- ⊗ ⊘ are operations on doubles: they round.
+-- ⊘ is an operation on doubles: it rounds.
 use mathlib.Core.Path.{◌≡◌, refl, sym, ap, ◌∙◌, subst}
 use mathlib.Core.Bool.{Bool, true, false}
 use mathlib.Core.List.{List}
 use Prim.Native.Nat.{ℕ, ◌+◌, ◌-◌, ◌≤◌}
 use native.Mathlib.Omega.{arith}
 use lib.Ieee.{Float}
-use Rattle.ieee.specs.Double.{◌⊗◌, ◌⊘◌, root_epsilon, nought, one}
-use Rattle.ieee.specs.Whole.{max}
+use Rattle.ieee.specs.Double.{◌⊘◌, nought}
 use Rattle.family.specs.Family.{family_of, stage_count}
 use Rattle.family.proofs.Range.{permitted_range}
 use Rattle.family.proofs.Counts.{stage_count_permitted}
 use Rattle.coefficients.specs.Rows.{carried, carried_of}
 use Rattle.coefficients.proofs.Carried.{carried_next}
 use Rattle.workspace.specs.declared.Arguments.{Arguments}
-use Rattle.workspace.specs.Vectors.{Vectors, unpack, vector_norm, eigenvector, state}
+use Rattle.workspace.specs.Vectors.{Vectors, unpack, vector_norm, eigenvector}
 use Rattle.workspace.specs.Kernel.{perturbation_of, radius_of, scaled}
 use Rattle.workspace.proofs.Areas.{unpack_pack}
 use Rattle.driver.specs.declared.Phase.{Phase}
@@ -30,6 +29,7 @@ use Rattle.session.proofs.Truth.{differ}
 use Rattle.session.proofs.Lengths.{its_family}
 use Rattle.session.proofs.Signs.{Plus, not_below, perturbation_plus, radius_plus, scaled_plus}
 use Rattle.session.proofs.Outcomes.{radius_after, BothStay, Outcome, away, starts, attempts, spoils, readies}
+use Rattle.session.proofs.Left.{perturbation_same, left_same}
 use Rattle.session.proofs.Outcomes.{iterates, begins, goes_on, asks_candidate, finishes, accepts, calls_back, abandons}
 
 -- ---- the phases of an attempt
@@ -90,17 +90,6 @@ pub record Underway (g : Held) (a : Arguments) (m : ℕ) (x : Held) : Type 0 whe
   pub arguments_are : x.kept.arguments ≡ a
   pub evaluations_are : x.counters.evaluations ≡ g.counters.evaluations + m
   pub position : Position g m x x.kept.phase
-
--- the perturbation is told by the state, and r by the state and the eigenvector
-perturbation_same : (v w : Vectors) → w state ≡ v state → perturbation_of v ≡ perturbation_of w
-unfolding perturbation_of
-perturbation_same v w e = ap (λ (y : List Float). root_epsilon ⊗ max (vector_norm y) one) (sym e)
-
-left_same : (a : Arguments) (v w : Vectors) → BothStay v w → radius_left a v ≡ radius_left a w
-unfolding radius_left radius_of
-left_same a v w b =
-    ap (λ (p : Float). scaled a.step (vector_norm (v eigenvector) ⊘ p)) (perturbation_same v w b.state_stays)
-    ∙ ap (λ (y : List Float). scaled a.step (vector_norm y ⊘ perturbation_of w)) (sym b.eigenvector_stays)
 
 found_same : (r : Record) (w v : Vectors) → r.iteration.perturbation ≡ perturbation_of v → v eigenvector ≡ w eigenvector
     → radius_after r w ≡ radius_left r.arguments v
