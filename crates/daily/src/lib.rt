@@ -1,15 +1,14 @@
 // What is written of the text of a day: the bytes, each an equation with a definition, and their handing to the output.
 #![tactic(auto)]
 
-ghost use Rattle.std.specs.Prelude.{◌≡◌, length, take, replicate, IfOk, OnOk, IfSome};
+ghost use Rattle.std.specs.Prelude.{◌≡◌, length, take, replicate, OnOk};
 ghost use Rattle.std.specs.Io.KnownBytes.{Appends};
 ghost use Rattle.ieee.specs.Double.{nought};
 ghost use Rattle.daily.specs.Written as spec;
 
 use inverter::DayResult;
-use std::alloc::Global;
 use std::io;
-use std::io::{Read, Write};
+use std::io::Write;
 
 mod lines;
 
@@ -79,18 +78,6 @@ pub fn minutes_page(text: &[u8], out: &mut [u8; 110000]) -> usize
         }
         DayResult::Malformed { line } => lines::put_malformed(out, line),
     }
-}
-
-// The longest day is 24,588 bytes, and the first bad line of a longer text is among its first 65,536.
-const MOST_READ: u64 = 65536;
-
-// The bytes of a text, the first 65,536 of a longer one.
-pub fn read_text<R: Read + Drop>(alloc: Global, from: R) -> io::Result<Vec<u8>>
-    ensures { IfOk result (λ text. IfSome (R.remaining from) (λ bytes. text.items ≡ take 65536 bytes)) }
-{
-    let mut text = Vec::new(alloc);
-    from.take(MOST_READ).read_to_end(&mut text)?;
-    Ok(text)
 }
 
 // Writes the first of these, all of it at once.
