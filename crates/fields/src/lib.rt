@@ -25,6 +25,7 @@ fn wide(c: u8) -> u64
 }
 
 // The value of a digit, 16 for any other byte.
+#[tactic(auto, unfolding(crate::specs::Fields::digit))]
 fn digit(c: u64) -> u64
     ensures { result ≡ spec.digit c }
 {

@@ -226,6 +226,7 @@ pub fn place(wholes: &[u64; WHOLES]) -> Record
 // ---- leaving
 
 // The number of a history, of which `found` was the number before: it stands where it means the same.
+#[tactic(auto, unfolding(crate::specs::Numbers::history_number))]
 fn history_number(found: u64, present: bool) -> u64
     ensures { result ≡ numbers.history_number found present }
 {
