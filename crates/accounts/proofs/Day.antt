@@ -18,7 +18,7 @@ use Rattle.sheet.specs.Text as Text
 use Rattle.sheet.specs.Text.{minutes_a_day}
 use Rattle.sheet.proofs.Soundness.{day_minutes}
 use Rattle.inverter.specs.declared.Total.{Total}
-use Rattle.inverter.specs.declared.DayResult.TheVariants.{Day}
+use Rattle.std.specs.Prelude.{Ok}
 use Rattle.inverter.specs.Day.{one_if, whole_minute, upcoming, finished, junction, is_above, refusal, minute_counted, Minutes, Entries, longer}
 use Rattle.inverter.specs.Day.{SoFar, held, with_minute, run, no_count, outset, first_area, total_of, total, reported, day, Reports}
 use Rattle.inverter.proofs.Run.{one_most}
@@ -143,7 +143,7 @@ after_accounts t a =
     }
 
 module _ (text : List ℕ) (before : Minutes) (r : Total) where
-  parsed_accounts : (p : Text.Parsed) → Text.parsed text ≡ p → (reported p before).result ≡ Day r → Accounts r (reported p before).lists
+  parsed_accounts : (p : Text.Parsed) → Text.parsed text ≡ p → (reported p before).result ≡ Ok r → Accounts r (reported p before).lists
   unfolding reported
   parsed_accounts (Text.Day m readings) e o =
       let t = run m 0 readings (outset (first_area m)) in
@@ -154,6 +154,6 @@ module _ (text : List ℕ) (before : Minutes) (r : Total) where
   parsed_accounts (Text.BadAt line) e o = let z : ◌≡◌ {A = ℕ} 0 1 = cc in absurd (omega arith)
 
   -- of a report that gives a total, whatever the lists held before
-  pub accounts : {left : Minutes} → Reports (day text before) (Day r) left → Accounts r left
+  pub accounts : {left : Minutes} → Reports (day text before) (Ok r) left → Accounts r left
   unfolding day
   accounts h = subst (Accounts r) (sym h.lists) (parsed_accounts (Text.parsed text) refl (sym h.results))

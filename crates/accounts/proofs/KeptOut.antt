@@ -15,7 +15,7 @@ use Rattle.driver.specs.Calls.{Held, may_accept}
 use Rattle.heat_sink.specs.declared.Inverter.{Inverter}
 use Rattle.sheet.specs.Text as Text
 use Rattle.inverter.specs.declared.Total.{Total}
-use Rattle.inverter.specs.declared.DayResult.TheVariants.{Day}
+use Rattle.std.specs.Prelude.{Ok}
 use Rattle.inverter.specs.Day.{whole_minute, upcoming, junction, refusal, minute_counted, Minutes, longer, SoFar, held, with_minute, run, no_count, outset}
 use Rattle.inverter.specs.Day.{first_area, total_of, total, reported, day, Reports}
 use Rattle.inverter.specs.Finite.{kept_out}
@@ -128,11 +128,11 @@ module _ (m : Inverter) where
 
 -- of a report of a day, whatever the lists held before
 module _ (text : List ℕ) (before : Minutes) (m : Inverter) (readings : List Float) (r : Total) where
-  pub keeps_out : {left : Minutes} → Text.parsed text ≡ Text.Day m readings → Reports (day text before) (Day r) left → KeepsOut m readings r left
+  pub keeps_out : {left : Minutes} → Text.parsed text ≡ Text.Day m readings → Reports (day text before) (Ok r) left → KeepsOut m readings r left
   unfolding day reported
   keeps_out {left} parsed h =
       let t = run m 0 readings (outset (first_area m)) in
-      let results : Day r ≡ Day (total t) = h.results ∙ ap (λ (p : Text.Parsed). (reported p before).result) parsed in
+      let results : Ok r ≡ Ok (total t) = h.results ∙ ap (λ (p : Text.Parsed). (reported p before).result) parsed in
       let same : total t ≡ r = cc in
       let lists : t.lists ≡ left = sym (h.lists ∙ ap (λ (p : Text.Parsed). (reported p before).lists) parsed) in
       subst (λ (x : Total). KeepsOut m readings x left) same (subst (KeepsOut m readings (total t)) lists (day_keeps_out m readings))

@@ -9,7 +9,7 @@ ghost use Rattle.lent.specs.Numbers as numbers;
 ghost use Rattle.lent.specs.Lent.{lent, place_of, left_with};
 ghost use Rattle.capi.specs.Promises.{KeepsLent, KeepsAsFound, Replies, counting};
 
-use driver::{Counters, Next};
+use driver::Counters;
 use lent::{Answer, DOUBLES, WHOLES};
 
 #[unsafe(no_mangle)]
@@ -97,10 +97,7 @@ fn lent_reply_elsewhere(
     let replied = driver::reply_elsewhere(kept, counters, area, derivative);
     *evaluations = replied.counters.evaluations;
     *finished_attempts = replied.counters.finished_attempts;
-    let answer = replied.answer;
-    let record = replied.record;
-    let next = Next { answer, record };
-    lent::leave(wholes, doubles, next)
+    lent::leave(wholes, doubles, replied.next())
 }
 
 #[unsafe(no_mangle)]

@@ -9,7 +9,8 @@ use lib.Dec.{T}
 use lib.Ieee.{Float, le, lt}
 use Rattle.ieee.specs.Double.{nought, one}
 use Rattle.family.specs.declared.Setting.{Setting}
-use Rattle.family.specs.Family.{RKMC2, TSRKC2, facts_of}
+use Rattle.family.specs.declared.Family.TheVariants.{RKMC2, TSRKC2}
+use Rattle.family.specs.Family.{facts_of}
 use Rattle.rkmc2_omega_zero.specs.Table as rkmc2-zero
 use Rattle.rkmc2_omega_one.specs.Table as rkmc2-one
 use Rattle.rkmc2_omega_zero.proofs.AtLeastOne.{at_least_one}

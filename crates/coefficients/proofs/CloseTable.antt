@@ -25,7 +25,8 @@ use Rattle.fractions.proofs.Values.{nat, nat_+, nat_*, Is, is_nonneg, divided, i
 use Rattle.coefficients.specs.Chebyshev.{chebyshev, first, second, omega_zero, omega_one}
 use Rattle.ieee.specs.Close.{sign, Close}
 use Rattle.coefficients.specs.Table as Table
-use Rattle.family.specs.Family.{RKC, facts_of}
+use Rattle.family.specs.declared.Family.TheVariants.{RKC}
+use Rattle.family.specs.Family.{facts_of}
 use Rattle.coefficients.specs.Rows as Rows
 use Rattle.coefficients.specs.Rows.{carried_of, recurrence_of, first_polynomials, first_polynomials_in, omega_one_of, next_of}
 use Rattle.coefficients.specs.Rows.{next_polynomials, polynomials_on}

@@ -1,5 +1,5 @@
-mod Bits
-mod Small
+mod Stars
+mod Late
 mod Doubles
 mod RowTable
 pub mod CloseRows

@@ -8,7 +8,9 @@ use Rattle.ieee.specs.Sqrt.{sqrt}
 use Rattle.family.specs.declared.Setting.{Setting}
 use Rattle.family.specs.declared.RowForm.{RowForm}
 use Rattle.family.specs.declared.RowForm.TheVariants.{ChebyshevRow, OrthogonalRow, InitialFirstRow, PlainRow}
-use Rattle.family.specs.Family.{Family, RKC, RKL1, RKL2, RKG1, RKG2, RKMC2, TSRKC2, facts_of, kind}
+use Rattle.family.specs.declared.Family.{Family}
+use Rattle.family.specs.declared.Family.TheVariants.{RKC, RKL1, RKL2, RKG1, RKG2, RKMC2, TSRKC2}
+use Rattle.family.specs.Family.{facts_of, kind}
 use Rattle.family.specs.Family.{Orthogonal, Legendre1, Legendre2, Gegenbauer1, Gegenbauer2}
 use Rattle.coefficients.specs.Table.{omega}
 use Rattle.rkmc2_omega_zero.specs.Table as rkmc2-zero
@@ -97,6 +99,22 @@ first_polynomials w1 s = record {
   value_previous = omega_zero s;
   value_previous_two = one;
   first_previous = one;
+  first_previous_two = nought;
+  second_previous = nought;
+  second_previous_two = nought;
+  gain = nought;
+}
+
+-- what the three begin with
+abbrev pub value_begun : Float → Float → Polynomials
+value_begun w0 w1 = record {
+  omega_zero = w0;
+  omega_one = w1;
+  b_previous = nought;
+  b_previous_two = nought;
+  value_previous = w0;
+  value_previous_two = one;
+  first_previous = nought;
   first_previous_two = nought;
   second_previous = nought;
   second_previous_two = nought;

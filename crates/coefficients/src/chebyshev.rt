@@ -1,13 +1,12 @@
 // `run_rkc` of chebyshev.rs: omega_zero, omega_one, and the recurrence of the Chebyshev polynomials.
 ghost use Rattle.std.specs.Prelude.{◌≡◌};
-ghost use Rattle.family.specs.Family.{RKC};
 ghost use Rattle.coefficients.specs.Rows as rows;
 ghost use Rattle.coefficients.specs.Table.{omega};
 
-use crate::{Advance, Coefficients, Polynomials, Recurrence};
+use crate::{Coefficients, Polynomials, Recurrence};
 
-// omega_one for s = 2 to 200. A read at an index that is not a constant copies the table to the stack, so an attempt reads
-// it once, when its stages begin.
+// omega_one for s = 2 to 200. A const is what the order names (docs/DECISIONS.md, 11). A read copies it to the stack, so an
+// attempt reads it once, when its stages begin.
 const OMEGA_ONE: [f64; 199] = [
     1.03846153846154,
     0.38564784888314274,
@@ -214,15 +213,10 @@ const OMEGA_ONE: [f64; 199] = [
 pub fn omega_one(s: u64) -> f64
     ensures { result ≡ omega s }
 {
-    if s <= 2 {
-        return OMEGA_ONE[0];
-    }
-    if s >= 200 {
-        return OMEGA_ONE[198];
-    }
-    OMEGA_ONE[(s - 2) as usize]
+    OMEGA_ONE[s.min(200).saturating_sub(2) as usize]
 }
 
+#[tactic(auto, using(family::proofs::Constants::constants), unfolding(crate::specs::Rows::omega_zero, ieee::specs::Double::square))]
 pub fn omega_zero(s: u64) -> f64
     ensures { result ≡ rows.omega_zero s }
 {
@@ -230,6 +224,7 @@ pub fn omega_zero(s: u64) -> f64
     1.0 + 2.0 / 13.0 / (x * x)
 }
 
+#[tactic(auto, using(family::proofs::Constants::constants), unfolding(crate::specs::Rows::b_first, ieee::specs::Double::square))]
 pub fn first_b(s: u64) -> f64
     ensures { result ≡ rows.b_first s }
 {
@@ -237,51 +232,41 @@ pub fn first_b(s: u64) -> f64
     1.0 / (x * x)
 }
 
+#[tactic(auto, using(family::proofs::Constants::constants), unfolding(crate::specs::Rows::first_polynomials))]
 pub fn first_polynomials(omega: f64, s: u64) -> Polynomials
     ensures { result ≡ rows.first_polynomials omega s }
 {
-    let w = omega_zero(s);
     let b = first_b(s);
     Polynomials {
-        omega_zero: w,
-        omega_one: omega,
         b_previous: b,
         b_previous_two: b,
-        value_previous: w,
-        value_previous_two: 1.0,
         first_previous: 1.0,
-        first_previous_two: 0.0,
-        second_previous: 0.0,
-        second_previous_two: 0.0,
-        gain: 0.0,
+        ..Polynomials::begin(omega_zero(s), omega)
     }
 }
 
 // The polynomials of this stage, from those of the two before.
+#[tactic(auto, using(family::proofs::Constants::constants), unfolding(crate::specs::Rows::polynomials_on, crate::specs::Rows::tsrkc2_polynomials_on, crate::specs::Rows::b_of, crate::specs::Rows::first_of, crate::specs::Rows::second_of, ieee::specs::Double::square))]
 pub fn next_polynomials(p: Polynomials) -> Polynomials
     ensures { result ≡ rows.polynomials_on p }
 {
     let w = p.omega_zero;
-    let value = 2.0 * w * p.value_previous - p.value_previous_two;
     let first = 2.0 * w * p.first_previous - p.first_previous_two + 2.0 * p.value_previous;
     let second = 2.0 * w * p.second_previous - p.second_previous_two + 4.0 * p.first_previous;
     Polynomials {
-        omega_zero: p.omega_zero,
-        omega_one: p.omega_one,
         b_previous: second / (first * first),
         b_previous_two: p.b_previous,
-        value_previous: value,
-        value_previous_two: p.value_previous,
         first_previous: first,
         first_previous_two: p.first_previous,
         second_previous: second,
         second_previous_two: p.second_previous,
-        gain: p.gain,
+        ..p.with_next_value()
     }
 }
 
 // The row, from b of its stage and what is carried.
-fn row_from(b: f64, c: Recurrence) -> Coefficients
+#[tactic(auto, using(family::proofs::Constants::constants), unfolding(crate::specs::Rows::chebyshev))]
+pub fn row(b: f64, c: Recurrence) -> Coefficients
     requires { b ≡ rows.b_of c.polynomials }
     ensures { result ≡ rows.chebyshev c }
 {
@@ -296,31 +281,6 @@ fn row_from(b: f64, c: Recurrence) -> Coefficients
         nu,
         mu_tilde,
         gamma_tilde: nu_tilde,
-        theta: mu * c.theta_previous + nu * c.theta_previous_two + mu_tilde * (1.0 - nu_tilde),
+        theta: c.theta(mu, nu, mu_tilde * (1.0 - nu_tilde)),
     }
-}
-
-// The row, from what is carried.
-pub fn row(c: Recurrence) -> Coefficients
-    ensures { result ≡ rows.chebyshev c }
-{
-    let p = c.polynomials;
-    let after = next_polynomials(p);
-    row_from(after.b_previous, c)
-}
-
-// The row and what is carried on from it, with the polynomials worked out once.
-pub fn advance(c: Recurrence) -> Advance
-    ensures row_value { result.row ≡ rows.chebyshev c }
-    ensures after_value { result.after ≡ rows.next_of RKC c result.row }
-{
-    let p = c.polynomials;
-    let polynomials = next_polynomials(p);
-    let row = row_from(polynomials.b_previous, c);
-    let after = Recurrence {
-        theta_previous: row.theta,
-        theta_previous_two: c.theta_previous,
-        polynomials,
-    };
-    Advance { row, after }
 }

@@ -4,110 +4,67 @@
 // the lowest the first's (0 for a family that is not carried).
 #![tactic(auto)]
 
+use family::Family;
 use std::io;
 use std::io::Read;
 use stored::Tally;
 
-#[derive(Drop)]
-pub struct Tallies {
-    pub compared: Tally,
-    pub overflowing: Tally,
+#[derive(Clone, Copy, Default)]
+struct Tallies {
+    compared: Tally,
+    overflowing: Tally,
 }
 
-// Where the Rust's sum overflows it gives no count, 0, and the count is to be 200.
-fn with_count(tallies: Tallies, family: u64, radius: f64, theirs: u64) -> Tallies {
-    let ours = family::stages(family, 0.0, radius);
-    let compared = tallies.compared;
-    let overflowing = tallies.overflowing;
-    if theirs == 0 {
-        Tallies {
-            compared: compared,
-            overflowing: stored::tallied(overflowing, ours == 200),
-        }
-    } else {
-        Tallies {
-            compared: stored::tallied(compared, ours == theirs),
-            overflowing: overflowing,
+impl Tallies {
+    // Where the Rust's sum overflows it gives no count, the file's 0, and the count is to be 200.
+    fn add(&mut self, ours: u64, theirs: u16) {
+        if theirs == 0 {
+            self.overflowing.add(ours == 200);
+        } else {
+            self.compared.add(ours == u64::from(theirs));
         }
     }
-}
 
-fn with_radius(tallies: Tallies, radius: f64, first: u64, second: u64) -> Tallies {
-    let a = with_count(tallies, 1, radius, first % 0x1_0000);
-    let b = with_count(a, 2, radius, first / 0x1_0000 % 0x1_0000);
-    let c = with_count(b, 3, radius, first / 0x1_0000_0000 % 0x1_0000);
-    let d = with_count(c, 4, radius, first / 0x1_0000_0000_0000);
-    let e = with_count(d, 5, radius, second % 0x1_0000);
-    with_count(e, 6, radius, second / 0x1_0000 % 0x1_0000)
-}
-
-// All whole records of s.
-fn with_records(tallies: Tallies, s: &[u8]) -> Tallies {
-    let mut all = tallies;
-    let mut i: usize = 0;
-    while i < s.len() / 24 {
-        let radius = ieee::float_of(stored::word(s, 3 * i));
-        let first = stored::word(s, 3 * i + 1);
-        let second = stored::word(s, 3 * i + 2);
-        all = with_radius(all, radius, first, second);
-        i += 1;
-    }
-    all
-}
-
-#[derive(Drop)]
-pub struct Part {
-    pub last: bool,
-    pub tallies: Tallies,
-}
-
-// Room for 2,048 records.
-fn room() -> [u8; 49152] {
-    [0; 49152]
-}
-
-// A buffer full of records, or what is left of them.
-fn with_part(tallies: Tallies, file: &mut impl Read) -> io::Result<Part> {
-    let mut buf = room();
-    let n = stored::read_full(file, &mut buf)?;
-    let all = with_records(tallies, &buf[..n]);
-    Ok(Part {
-        last: n < 49152,
-        tallies: all,
-    })
-}
-
-fn of_file(file: &mut impl Read) -> io::Result<Tallies> {
-    let mut all = Tallies {
-        compared: Tally { seen: 0, differ: 0 },
-        overflowing: Tally { seen: 0, differ: 0 },
-    };
-    let mut parts: u64 = 1000;
-    while parts > 0 {
-        let part = with_part(all, file)?;
-        all = part.tallies;
-        if part.last {
-            return Ok(all);
+    fn add_record(&mut self, record: &[u8; 24]) {
+        let radius = ieee::float_of(stored::word(record, 0));
+        let (counts, _) = record[8..].as_chunks::<2>();
+        for (family, count) in (1..=6).zip(counts) {
+            let ours = Family::from(family).stages(0.0, radius);
+            self.add(ours, u16::from_le_bytes(*count));
         }
-        parts -= 1;
     }
-    Ok(all)
+
+    // All whole records of s.
+    fn add_records(&mut self, s: &[u8]) {
+        let (records, _) = s.as_chunks::<24>();
+        for record in records {
+            self.add_record(record);
+        }
+    }
+
+    // Up to 1,000 buffers of 2,048 records; what stands after them in a longer file is not read.
+    fn of_file(file: &mut impl Read) -> io::Result<Tallies> {
+        let mut tallies = Tallies::default();
+        let mut buf = [0; 2048 * 24];
+        for _ in 0..1000 {
+            let n = stored::read_full(file, &mut buf)?;
+            tallies.add_records(&buf[..n]);
+            if n < buf.len() {
+                break;
+            }
+        }
+        Ok(tallies)
+    }
 }
 
 fn main(rt: HostRuntime) -> io::Result<()> {
     let Some(mut file) = stored::open(&rt, "counts")? else {
         return Ok(());
     };
-    let all = of_file(&mut file)?;
+    let all = Tallies::of_file(&mut file)?;
     drop(file);
-    stored::print_tally(
-        &rt,
-        all.compared,
-        b" counts of the test build of the Rust, ",
-    )?;
-    stored::print_tally(
-        &rt,
-        all.overflowing,
-        b" counts of 200 where the Rust's sum overflows, ",
-    )
+    all.compared
+        .print(&rt, "counts of the test build of the Rust")?;
+    all.overflowing
+        .print(&rt, "counts of 200 where the Rust's sum overflows")
 }

@@ -1,107 +1,20 @@
--- The lines that are written: how long they are at most, and the lines of some minutes and one more. From their definitions alone.
+-- The lines of some minutes and of one more. From their definitions alone.
 use mathlib.Core.Path.{◌≡◌, refl, sym, ap, ◌∙◌}
 use mathlib.Core.Bool.{Bool, true, false, cond}
-use mathlib.Core.List.{List, [], ◌∷◌, ◌++◌, append_assoc, append-nil}
-use Prim.Native.Nat.{ℕ, ◌+◌, ◌*◌, ◌/◌, ◌%◌, ◌≤◌, ◌<◌}
+use mathlib.Core.List.{List, [], ◌∷◌, ◌++◌, map, append_assoc, append-nil}
+use Prim.Native.Nat.{ℕ, ◌+◌, ◌<◌, ◌≤◌}
 use native.Mathlib.Numerals.{add-one}
 use native.Mathlib.Omega.{arith}
-use borrow.Author.Tests.{eq-eqb, ne_eqb}
 use lib.Dec.{eqb}
-use lib.ListN.{length, take, get_or, length-append}
-use lib.Seq.{take-suc, length-take-le}
-use lib.Ieee.{Float, nan, binary64, to_bits}
-use Rattle.page.specs.Page.{decimal, digits}
-use Rattle.page.proofs.Digits.{length_digits, length_decimal, length_word}
-use Rattle.inverter.specs.declared.Total.{Total}
+use lib.ListN.{length, take, get_or, length-map}
+use lib.Seq.{take-suc, take_all, length-take-le}
+use lib.Ieee.{nan}
+use Rattle.std.proofs.lemmas.List.{get_or-map}
+use Rattle.inverter.specs.declared.Minute.{Minute}
+use Rattle.inverter.specs.Day.{columns}
 use Rattle.accounts.specs.Accounts.{RefusedMinute, refused_minute, listed}
 use Rattle.accounts.proofs.Listing.{listed_more}
-use Rattle.daily.specs.Written.{bits_text, hours_text, count_line, heading, counts, refusal_line, refused_line, refusal_lines, spaced, minute_line}
-use Rattle.daily.specs.Written.{minute_lines, total_text, hours_above_text, point_text, minutes_above_text, evaluations_text, finished_attempts_text}
-use Rattle.daily.specs.Written.{refused_minutes_text, minute_text, refused_with_text, space_text, line_end}
-
--- ---- lengths
-
-both : (x y : List ℕ) (m n : ℕ) → length x ≤ m → length y ≤ n → length (x ++ y) ≤ m + n
-both x y m n h k = omega (arith, length-append x y)
-
-pub length_bits : (x : Float) → length (bits_text x) ≡ 16
-unfolding bits_text
-length_bits x = length_word (to_bits binary64 x)
-
-pub length_hours : (minutes : ℕ) → length (hours_text minutes) ≤ 25
-unfolding hours_text
-length_hours minutes = let last = digits 10 4 (minutes % 60 * 10000 / 60) in
-    both (decimal (minutes / 60) ++ point_text) last 21 4 (both (decimal (minutes / 60)) point_text 20 1 (length_decimal (minutes / 60)) (omega arith))
-    (omega (arith, length_digits 10 4 (minutes % 60 * 10000 / 60)))
-
-pub length_count : (name : List ℕ) (n : ℕ) → length (count_line name n) ≤ length name + 21
-unfolding count_line
-length_count name n =
-    let h = both name (decimal n) (length name) 20 (omega arith) (length_decimal n) in
-    let k = both (name ++ decimal n) line_end (length name + 20) 1 h (omega arith) in
-    omega (arith, k)
-
-pub length_refusal : (e : RefusedMinute) → length (refusal_line e) ≤ 62
-unfolding refusal_line
-length_refusal e =
-    both (minute_text ++ decimal e.minute) (count_line refused_with_text e.number) 27 35
-    (both minute_text (decimal e.minute) 7 20 (omega arith) (length_decimal e.minute))
-    (length_count refused_with_text e.number)
-
-pub length_refused : (minute number : ℕ) → length (refused_line minute number) ≤ 62
-unfolding refused_line
-length_refused minute number = go (eqb number 0)
-  where
-    go : (b : Bool) → length (cond b [] (refusal_line (refused_minute minute number))) ≤ 62
-    go true = omega arith
-    go false = length_refusal (refused_minute minute number)
-
-pub refused_none : (minute number : ℕ) → number ≡ 0 → [] ≡ refused_line minute number
-unfolding refused_line
-refused_none minute number e = sym (ap (λ (b : Bool). cond b [] (refusal_line (refused_minute minute number))) (eq-eqb number 0 e))
-
-pub refused_some : (minute number : ℕ) → (number ≡ 0 → ⊥) → refusal_line (refused_minute minute number) ≡ refused_line minute number
-unfolding refused_line
-refused_some minute number h = sym (ap (λ (b : Bool). cond b [] (refusal_line (refused_minute minute number))) (ne_eqb number 0 h))
-
-pub length_heading : (t : Total) → length (heading t) ≤ 60
-unfolding heading
-length_heading t =
-    both (total_text ++ bits_text t.hours ++ hours_above_text) (hours_text t.above) 35 25
-    (both (total_text ++ bits_text t.hours) hours_above_text 22 13
-    (both total_text (bits_text t.hours) 6 16 (omega arith) (omega (arith, length_bits t.hours))) (omega arith))
-    (length_hours t.above)
-
-pub length_counts : (t : Total) → length (counts t) ≤ 145
-unfolding counts
-length_counts t =
-    let a = count_line minutes_above_text t.above in
-    let b = count_line evaluations_text t.evaluations in
-    let c = count_line finished_attempts_text t.finished_attempts in
-    both (a ++ b ++ c) (count_line refused_minutes_text t.refused) 108 37
-    (both (a ++ b) c 69 39 (both a b 36 33 (length_count minutes_above_text t.above) (length_count evaluations_text t.evaluations))
-    (length_count finished_attempts_text t.finished_attempts))
-    (length_count refused_minutes_text t.refused)
-
-pub length_spaced : (n : ℕ) → length (spaced n) ≤ 21
-unfolding spaced
-length_spaced n = both space_text (decimal n) 1 20 (omega arith) (length_decimal n)
-
-pub length_minute : (junction : Float) (s k : ℕ) (r : Float) → length (minute_line junction s k r) ≤ 76
-unfolding minute_line
-length_minute junction s k r =
-    let x = bits_text junction in
-    let y = spaced s in
-    let z = spaced k in
-    both (x ++ y ++ z ++ space_text ++ bits_text r) line_end 75 1
-    (both (x ++ y ++ z ++ space_text) (bits_text r) 59 16
-    (both (x ++ y ++ z) space_text 58 1
-    (both (x ++ y) z 37 21 (both x y 16 21 (omega (arith, length_bits junction)) (length_spaced _)) (length_spaced _))
-    (omega arith))
-    (omega (arith, length_bits r)))
-    (omega arith)
-
--- ---- one minute more
+use Rattle.daily.specs.Written.{refusal_line, refused_line, refusal_lines, minute_line, minute_lines}
 
 lines_append : (xs ys : List RefusedMinute) → refusal_lines (xs ++ ys) ≡ refusal_lines xs ++ refusal_lines ys
 unfolding refusal_lines
@@ -109,11 +22,7 @@ lines_append [] ys = refl
 lines_append (e ∷ xs) ys = ap (λ (l : List ℕ). refusal_line e ++ l) (lines_append xs ys)
     ∙ sym (append_assoc (refusal_line e) (refusal_lines xs) (refusal_lines ys))
 
-pub refusals_start : [] ≡ refusal_lines (listed 0 [])
-unfolding refusal_lines listed
-refusals_start = refl
-
-pub refusals_turn : (l : List ℕ) (i : ℕ) → i < length l
+refusals_turn : (l : List ℕ) (i : ℕ) → i < length l
     → refusal_lines (listed 0 (take i l)) ++ refused_line i (get_or l i 0) ≡ refusal_lines (listed 0 (take (i + 1) l))
 unfolding refusal_lines refused_line
 refusals_turn l i h =
@@ -130,13 +39,48 @@ refusals_turn l i h =
     one false x = let e : 0 + length (take i l) ≡ i = omega (arith, length-take-le i l (omega arith)) in
         append-nil (refusal_line (refused_minute (0 + length (take i l)) x)) ∙ ap (λ (k : ℕ). refusal_line (refused_minute k x)) e
 
-module _ (junctions : List Float) (stages passes : List ℕ) (radii : List Float) where
-  pub minutes_start : [] ≡ minute_lines junctions stages passes radii 0
-  unfolding minute_lines
-  minutes_start = refl
+-- the lines of the refused minutes among the first, so many
+unfoldable pub refused_told : List Minute → ℕ → List ℕ
+refused_told ms i = refusal_lines (listed 0 (take i (columns ms).refusals))
 
-  pub minutes_turn : (i : ℕ)
-      → minute_lines junctions stages passes radii i ++ minute_line (get_or junctions i nan) (get_or stages i 0) (get_or passes i 0) (get_or radii i nan)
-      ≡ minute_lines junctions stages passes radii (i + 1)
-  unfolding minute_lines
-  minutes_turn i = ap (minute_lines junctions stages passes radii) (sym (add-one i))
+-- put on a page
+pub refused_none_yet : (page : List ℕ) (ms : List Minute) → page ++ refused_told ms 0 ≡ page
+unfolding refused_told refusal_lines listed
+refused_none_yet page ms = append-nil page
+
+pub refused_more : (page : List ℕ) (ms : List Minute) (i : ℕ) (d : Minute) → i < length ms
+    → (page ++ refused_told ms i) ++ refused_line i (get_or ms i d).refusal ≡ page ++ refused_told ms (i + 1)
+unfolding refused_told
+refused_more page ms i d h =
+    let refusal = λ (m : Minute). m.refusal in
+    let told = refusal_lines (listed 0 (take i (map refusal ms))) in
+    append_assoc page told (refused_line i (get_or ms i d).refusal)
+    ∙ ap (λ (n : ℕ). page ++ (told ++ refused_line i n)) (sym (get_or-map refusal ms i d 0 h))
+    ∙ ap (λ (x : List ℕ). page ++ x) (refusals_turn (map refusal ms) i (omega (arith, length-map ms refusal)))
+
+pub refused_all : (ms : List Minute) (i : ℕ) → length ms ≤ i → refused_told ms i ≡ refusal_lines (listed 0 (columns ms).refusals)
+unfolding refused_told
+refused_all ms i h = let refusal = λ (m : Minute). m.refusal in
+    ap (λ (l : List ℕ). refusal_lines (listed 0 l)) (take_all i (map refusal ms) (omega (arith, length-map ms refusal)))
+
+-- the lines of the first minutes, so many
+unfoldable pub told_lines : List Minute → ℕ → List ℕ
+told_lines ms i = let told = columns ms in minute_lines told.junctions told.stages told.passes told.scaled_radii i
+
+pub told_none : (ms : List Minute) → [] ≡ told_lines ms 0
+unfolding told_lines minute_lines
+told_none ms = refl
+
+pub told_more : (ms : List Minute) (i : ℕ) (d : Minute) → i < length ms
+    → told_lines ms i
+    ++ minute_line (get_or ms i d).junction (get_or ms i d).stages (get_or ms i d).passes (get_or ms i d).scaled_radius
+    ≡ told_lines ms (i + 1)
+unfolding told_lines minute_lines
+told_more ms i d h =
+    let told = columns ms in
+    let before = minute_lines told.junctions told.stages told.passes told.scaled_radii in
+    let junction = get_or-map (λ (m : Minute). m.junction) ms i d nan h in
+    let stages = get_or-map (λ (m : Minute). m.stages) ms i d 0 h in
+    let passes = get_or-map (λ (m : Minute). m.passes) ms i d 0 h in
+    let radius = get_or-map (λ (m : Minute). m.scaled_radius) ms i d nan h in
+    simp (← junction, ← stages, ← passes, ← radius) (ap before (sym (add-one i)))

@@ -1,14 +1,13 @@
 -- What the programs write of a day, byte for byte: the total, the counts and a line for each refused minute, or else a line for each minute with its junction,
 -- s, k and r; or the line that makes the text no day. README, "Two commands". Definitions only.
-use Rattle.std.specs.Prelude.{ℕ, zero, suc, ◌*◌, ◌/◌, ◌%◌, ◌≡◌, ◌≤◌, cond, List, [], ◌∷◌, ◌++◌, eqb, get_or, length, replicate, take, Float}
+use Rattle.std.specs.Prelude.{ℕ, zero, suc, ◌*◌, ◌/◌, ◌%◌, cond, List, [], ◌∷◌, ◌++◌, eqb, get_or, replicate, Float, Result, Ok, Err}
 use Rattle.std.specs.Float.{nan, binary64}
 use Rattle.std.specs.Float.Ieee.{to_bits}
 use Rattle.ieee.specs.Double.{nought}
 use Rattle.page.specs.Page.{digits, decimal, word}
 use Rattle.sheet.specs.Text.{minutes_a_day}
 use Rattle.inverter.specs.declared.Total.{Total}
-use Rattle.inverter.specs.declared.DayResult.{DayResult}
-use Rattle.inverter.specs.declared.DayResult.TheVariants.{Day, Malformed}
+use Rattle.sheet.specs.declared.Malformed.{Malformed}
 use Rattle.inverter.specs.Day.{Minutes, minutes, Report, day}
 use Rattle.accounts.specs.Accounts.{RefusedMinute, refused_minute, listed}
 
@@ -126,13 +125,13 @@ no_lists = let zeros : List ℕ = replicate minutes_a_day 0 in
 unfoldable pub report : List ℕ → Report
 report text = day text no_lists
 
-unfoldable pub day_text : DayResult → List ℕ → List ℕ
-day_text (Day t) refusals = heading t ++ counts t ++ refusal_lines (listed 0 refusals)
-day_text (Malformed line) refusals = malformed_line line
+unfoldable pub day_text : Result Total Malformed → List ℕ → List ℕ
+day_text (Ok t) refusals = heading t ++ counts t ++ refusal_lines (listed 0 refusals)
+day_text (Err malformed) refusals = malformed_line malformed.line
 
-unfoldable pub minutes_text : DayResult → Minutes → List ℕ
-minutes_text (Day t) lists = minute_lines lists.junctions lists.stages lists.passes lists.scaled_radii minutes_a_day
-minutes_text (Malformed line) lists = malformed_line line
+unfoldable pub minutes_text : Result Total Malformed → Minutes → List ℕ
+minutes_text (Ok t) lists = minute_lines lists.junctions lists.stages lists.passes lists.scaled_radii minutes_a_day
+minutes_text (Err malformed) lists = malformed_line malformed.line
 
 -- what `day` writes, and what `minutes` writes
 unfoldable pub day_page : List ℕ → List ℕ
@@ -141,8 +140,8 @@ day_page text = day_text (report text).result (report text).lists.refusals
 unfoldable pub minutes_page : List ℕ → List ℕ
 minutes_page text = minutes_text (report text).result (report text).lists
 
--- ---- the buffer it is put into
+-- ---- the page that it is put on
 
--- its first n bytes are in bounds, and n in number
-abbrev pub IsPrefixLen : ℕ → List ℕ → Type 0
-IsPrefixLen n xs = (n ≤ length xs) × (n ≡ length (take n xs))
+-- the bytes that there is room for: more than 1,440 lines of at most 76
+abbrev pub room : ℕ
+room = 110000

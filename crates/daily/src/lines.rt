@@ -1,161 +1,162 @@
-// The lines that are written of a day, put into a buffer.
-ghost use Rattle.std.specs.Prelude.{◌≡◌, ◌+◌, ◌*◌, ◌≤◌, length};
-ghost use Rattle.page.specs.Page.{Puts};
+// The lines that are written of a day, put on a page. Each function says what it adds and how long that is at most, and asks for
+// so much room: the numbers differ, so that no type could hold them.
+ghost use Rattle.std.specs.Prelude.{◌≡◌, ◌+◌, ◌*◌, ◌≤◌, ◌++◌, length};
 ghost use Rattle.accounts.specs.Accounts.{refused_minute, listed};
-ghost use Rattle.inverter.specs.declared.DayResult.TheVariants.{Day};
+ghost use Rattle.inverter.specs.Day.{columns};
 ghost use Rattle.daily.specs.Written as spec;
 
-use inverter::Total;
+use crate::Page;
+use inverter::{Malformed, Minute, Total};
 
 // A double as the 16 hexadecimal digits of its bits.
-fn put_bits(out: &mut [u8], at: usize, x: f64) -> usize
-    requires { at + 16 ≤ length out.old }
-    ensures { Puts out.old at (spec.bits_text x) out.new result }
+#[tactic(auto, unfolding(crate::specs::Written::bits_text))]
+fn put_bits(page: &mut Page, x: f64)
+    requires { length page.old + 16 ≤ spec.room }
+    ensures text { page.new ≡ page.old ++ spec.bits_text x }
+    ensures len { length page.new ≡ length page.old + 16 }
 {
-    page::put_word(out, at, ieee::bits_of(x))
+    page.put_word(ieee::bits_of(x));
 }
 
 // Minutes as hours, cut to four places.
-fn put_hours(out: &mut [u8], at: usize, minutes: u64) -> usize
-    requires { at + 25 ≤ length out.old }
-    ensures { Puts out.old at (spec.hours_text minutes) out.new result }
+#[tactic(auto, unfolding(crate::specs::Written::hours_text))]
+fn put_hours(page: &mut Page, minutes: u64)
+    requires { length page.old + 25 ≤ spec.room }
+    ensures text { page.new ≡ page.old ++ spec.hours_text minutes }
+    ensures len { length page.new ≤ length page.old + 25 }
 {
-    let a = page::put_decimal(out, at, minutes / 60);
-    let b = page::put(out, a, b".");
-    page::put_digits(out, b, 10, 4, minutes % 60 * 10000 / 60)
+    page.put_decimal(minutes / 60);
+    page.put(b".");
+    page.put_digits(10, 4, minutes % 60 * 10000 / 60);
 }
 
 // A name and a number.
-fn put_count(out: &mut [u8], at: usize, name: &[u8], n: u64) -> usize
-    requires { at + length name.now + 21 ≤ length out.old }
-    ensures { Puts out.old at (spec.count_line name.now n) out.new result }
+#[tactic(auto, unfolding(crate::specs::Written::count_line))]
+fn put_count(page: &mut Page, name: &[u8], n: u64)
+    requires { length page.old + length name.now + 21 ≤ spec.room }
+    ensures text { page.new ≡ page.old ++ spec.count_line name.now n }
+    ensures len { length page.new ≤ length page.old + length name.now + 21 }
 {
-    let a = page::put(out, at, name);
-    let b = page::put_decimal(out, a, n);
-    page::put(out, b, b"\n")
+    page.put(name);
+    page.put_decimal(n);
+    page.put(b"\n");
 }
 
-fn put_heading(out: &mut [u8], at: usize, total: Total) -> usize
-    requires { at + 60 ≤ length out.old }
-    ensures { Puts out.old at (spec.heading total) out.new result }
+#[tactic(auto, unfolding(crate::specs::Written::heading))]
+fn put_heading(page: &mut Page, total: Total)
+    requires { length page.old + 60 ≤ spec.room }
+    ensures text { page.new ≡ page.old ++ spec.heading total }
+    ensures len { length page.new ≤ length page.old + 60 }
 {
-    let a = page::put(out, at, b"total ");
-    let b = put_bits(out, a, total.hours);
-    let c = page::put(out, b, b"\nhours above ");
-    put_hours(out, c, total.above)
+    page.put(b"total ");
+    put_bits(page, total.hours);
+    page.put(b"\nhours above ");
+    put_hours(page, total.above);
 }
 
-fn put_counts(out: &mut [u8], at: usize, total: Total) -> usize
-    requires { at + 145 ≤ length out.old }
-    ensures { Puts out.old at (spec.counts total) out.new result }
+#[tactic(auto, unfolding(crate::specs::Written::counts))]
+fn put_counts(page: &mut Page, total: Total)
+    requires { length page.old + 145 ≤ spec.room }
+    ensures text { page.new ≡ page.old ++ spec.counts total }
+    ensures len { length page.new ≤ length page.old + 145 }
 {
-    let a = put_count(out, at, b"\nminutes above ", total.above);
-    let b = put_count(out, a, b"evaluations ", total.evaluations);
-    let c = put_count(out, b, b"finished attempts ", total.finished_attempts);
-    put_count(out, c, b"refused minutes ", total.refused)
+    put_count(page, b"\nminutes above ", total.above);
+    put_count(page, b"evaluations ", total.evaluations);
+    put_count(page, b"finished attempts ", total.finished_attempts);
+    put_count(page, b"refused minutes ", total.refused);
 }
 
-fn put_refusal(out: &mut [u8], at: usize, minute: u64, number: u64) -> usize
-    requires { at + 62 ≤ length out.old }
-    ensures { Puts out.old at (spec.refusal_line (refused_minute minute number)) out.new result }
+#[tactic(auto, unfolding(crate::specs::Written::refusal_line))]
+fn put_refusal(page: &mut Page, minute: u64, number: u64)
+    requires { length page.old + 62 ≤ spec.room }
+    ensures text { page.new ≡ page.old ++ spec.refusal_line (refused_minute minute number) }
+    ensures len { length page.new ≤ length page.old + 62 }
 {
-    let a = page::put(out, at, b"minute ");
-    let b = page::put_decimal(out, a, minute);
-    put_count(out, b, b" refused with ", number)
+    page.put(b"minute ");
+    page.put_decimal(minute);
+    put_count(page, b" refused with ", number);
 }
 
 // A minute that is not refused, with number 0, has no line.
-fn put_if_refused(out: &mut [u8], at: usize, minute: u64, number: u64) -> usize
-    requires { at + 62 ≤ length out.old }
-    ensures { Puts out.old at (spec.refused_line minute number) out.new result }
+#[tactic(auto, unfolding(crate::specs::Written::refused_line))]
+fn put_if_refused(page: &mut Page, minute: u64, number: u64)
+    requires { length page.old + 62 ≤ spec.room }
+    ensures text { page.new ≡ page.old ++ spec.refused_line minute number }
+    ensures len { length page.new ≤ length page.old + 62 }
 {
-    if number == 0 {
-        return at;
+    if number != 0 {
+        put_refusal(page, minute, number);
     }
-    put_refusal(out, at, minute, number)
 }
 
 // A line for each refused minute.
-fn put_refusals(out: &mut [u8], at: usize, refusals: &[u64]) -> usize
-    requires { at + 62 * length refusals.now ≤ length out.old }
-    ensures { Puts out.old at (spec.refusal_lines (listed 0 refusals.now)) out.new result }
+#[tactic(auto, using(crate::proofs::Writing::refused_none_yet, crate::proofs::Writing::refused_more, crate::proofs::Writing::refused_all))]
+fn put_refusals(page: &mut Page, minutes: &[Minute])
+    requires { length page.old + 62 * length minutes.now ≤ spec.room }
+    ensures { page.new ≡ page.old ++ spec.refusal_lines (listed 0 (columns minutes.now).refusals) }
 {
-    let mut place = at;
-    let mut i = 0;
-    while i < refusals.len() {
-        place = put_if_refused(out, place, i as u64, refusals[i]);
-        i += 1;
+    for (i, minute) in minutes.iter().enumerate() {
+        put_if_refused(page, i as u64, minute.refusal);
     }
-    place
 }
 
-pub fn put_day(out: &mut [u8], total: Total, refusals: &[u64]) -> usize
-    requires { 205 + 62 * length refusals.now ≤ length out.old }
-    ensures { Puts out.old 0 (spec.day_text (Day total) refusals.now) out.new result }
+pub fn of_day(total: Total, minutes: &[Minute; 1440]) -> Page
+    ensures { result ≡ spec.heading total ++ spec.counts total
+        ++ spec.refusal_lines (listed 0 (columns minutes.now).refusals) }
 {
-    let a = put_heading(out, 0, total);
-    let b = put_counts(out, a, total);
-    put_refusals(out, b, refusals)
+    let mut page = Page::new();
+    put_heading(&mut page, total);
+    put_counts(&mut page, total);
+    put_refusals(&mut page, minutes);
+    page
 }
 
-pub fn put_malformed(out: &mut [u8], line: usize) -> usize
-    requires { 49 ≤ length out.old }
-    ensures { Puts out.old 0 (spec.malformed_line line) out.new result }
+#[tactic(auto, unfolding(crate::specs::Written::malformed_line))]
+pub fn of_malformed(malformed: Malformed) -> Page
+    ensures { result ≡ spec.malformed_line malformed.line }
 {
-    let a = page::put(out, 0, b"malformed at line ");
-    let b = page::put_decimal(out, a, line as u64);
-    page::put(out, b, b", no total\n")
+    let mut page = Page::new();
+    page.put(b"malformed at line ");
+    page.put_decimal(malformed.line as u64);
+    page.put(b", no total\n");
+    page
 }
 
 // A number after a space.
-fn put_spaced(out: &mut [u8], at: usize, n: u64) -> usize
-    requires { at + 21 ≤ length out.old }
-    ensures { Puts out.old at (spec.spaced n) out.new result }
+#[tactic(auto, unfolding(crate::specs::Written::spaced))]
+fn put_spaced(page: &mut Page, n: u64)
+    requires { length page.old + 21 ≤ spec.room }
+    ensures text { page.new ≡ page.old ++ spec.spaced n }
+    ensures len { length page.new ≤ length page.old + 21 }
 {
-    let a = page::put(out, at, b" ");
-    page::put_decimal(out, a, n)
+    page.put(b" ");
+    page.put_decimal(n);
 }
 
 // The junction temperature at a minute's end, and s, k and r of its attempt.
-fn put_minute(out: &mut [u8], at: usize, junction: f64, s: u64, k: u64, r: f64) -> usize
-    requires { at + 76 ≤ length out.old }
-    ensures { Puts out.old at (spec.minute_line junction s k r) out.new result }
+#[tactic(auto, unfolding(crate::specs::Written::minute_line))]
+fn put_minute(page: &mut Page, minute: &Minute)
+    requires { length page.old + 76 ≤ spec.room }
+    ensures text { page.new ≡ page.old ++ spec.minute_line minute.now.junction minute.now.stages minute.now.passes minute.now.scaled_radius }
+    ensures len { length page.new ≤ length page.old + 76 }
 {
-    let a = put_bits(out, at, junction);
-    let b = put_spaced(out, a, s);
-    let c = put_spaced(out, b, k);
-    let d = page::put(out, c, b" ");
-    let e = put_bits(out, d, r);
-    page::put(out, e, b"\n")
+    put_bits(page, minute.junction);
+    put_spaced(page, minute.stages);
+    put_spaced(page, minute.passes);
+    page.put(b" ");
+    put_bits(page, minute.scaled_radius);
+    page.put(b"\n");
 }
 
 // A line for each minute.
-pub fn put_minutes(
-    out: &mut [u8],
-    junctions: &[f64],
-    stages: &[u64],
-    passes: &[u64],
-    scaled_radii: &[f64],
-) -> usize
-    requires junctions_in_bounds { 76 * length junctions.now ≤ length out.old }
-    requires stages_len { length stages.now ≡ length junctions.now }
-    requires passes_len { length passes.now ≡ length junctions.now }
-    requires scaled_radii_len { length scaled_radii.now ≡ length junctions.now }
-    ensures { Puts out.old 0 (spec.minute_lines junctions.now stages.now passes.now
-        scaled_radii.now (length junctions.now)) out.new result }
+#[tactic(auto, using(crate::proofs::Writing::told_none, crate::proofs::Writing::told_more), unfolding(crate::proofs::Writing::told_lines))]
+pub fn of_minutes(minutes: &[Minute; 1440]) -> Page
+    ensures { let told = columns minutes.now in
+        result ≡ spec.minute_lines told.junctions told.stages told.passes told.scaled_radii 1440 }
 {
-    let mut place = 0;
-    let mut i = 0;
-    while i < junctions.len() {
-        place = put_minute(
-            out,
-            place,
-            junctions[i],
-            stages[i],
-            passes[i],
-            scaled_radii[i],
-        );
-        i += 1;
+    let mut page = Page::new();
+    for minute in minutes {
+        put_minute(&mut page, minute);
     }
-    place
+    page
 }

@@ -1,13 +1,10 @@
 // The texts that the arguments name, each with what is written of it as a day; at the end a line for each minute of four of
 // them, the first, the fourth, the fifth and the sixth.
-// The longest day is 24,588 bytes, and the first bad line of a longer text is among its first 65,536.
 #![tactic(auto)]
-
-ghost use Rattle.daily.specs.Written.{IsPrefixLen};
 
 use std::env::{Env, FillError};
 use std::fs::File;
-use std::io::{Eprint, Write};
+use std::io::{Eprint, Stdout, Write};
 use std::{fs, io};
 
 // How many arguments the program was started with, its own name among them.
@@ -20,27 +17,27 @@ fn arg_count(rt: &HostRuntime) -> usize {
     usize::MAX
 }
 
-// Puts an argument at the start of `name` and returns its length, 0 where it is missing or longer.
-fn arg(rt: &HostRuntime, argument: usize, name: &mut [u8; 4096]) -> usize
-    ensures { IsPrefixLen result name.new }
-{
-    match rt.arg(argument, name) {
-        Ok(length) => length,
-        Err(_) => 0,
-    }
+// An argument, in this buffer; empty where it is missing or longer.
+fn arg<'a>(rt: &HostRuntime, argument: usize, buffer: &'a mut [u8; 4096]) -> &'a [u8] {
+    let length = rt.arg(argument, buffer).unwrap_or(0);
+    &buffer[..length]
 }
 
 fn open_text(rt: &HostRuntime, name: &[u8]) -> io::Result<File> {
-    match str::from_utf8(name) {
-        Ok(path) => fs::open(rt, path),
-        Err(_) => Err(io::Error::from(io::ErrorKind::InvalidFilename)),
-    }
+    fs::open(rt, stored::path_of(name)?)
 }
 
-fn write_text(rt: &HostRuntime, argument: usize, minutes: bool) -> io::Result<()> {
+// An argument's name, what stands after it, and what is written of its text.
+fn write_text<F: FnOnce(&[u8], &mut Stdout) -> io::Result<()>>(
+    rt: &HostRuntime,
+    argument: usize,
+    after: &[u8],
+    write: F,
+) -> io::Result<()>
+    requires { F.IsAlwaysCallable write }
+{
     let mut buffer = [0u8; 4096];
-    let length = arg(rt, argument, &mut buffer);
-    let name = &buffer[..length];
+    let name = arg(rt, argument, &mut buffer);
     let mut file = match open_text(rt, name) {
         Ok(file) => file,
         Err(why) => {
@@ -48,24 +45,29 @@ fn write_text(rt: &HostRuntime, argument: usize, minutes: bool) -> io::Result<()
             return eprintln!(rt; ": {why}");
         }
     };
-    let mut text = [0u8; 65536];
+    let mut text = [0u8; daily::ROOM];
     let n = stored::read_full(&mut file, &mut text)?;
     let mut to = rt.stdout();
     to.write_all(name)?;
-    if minutes {
-        to.write_all(b", minutes:\n")?;
-        return daily::minutes(&text[..n], &mut to);
+    to.write_all(after)?;
+    write(&text[..n], &mut to)
+}
+
+fn write_days(rt: &HostRuntime) -> io::Result<()> {
+    for argument in 1..arg_count(rt) {
+        write_text(rt, argument, b": ", daily::day)?;
     }
-    to.write_all(b": ")?;
-    daily::day(&text[..n], &mut to)
+    Ok(())
+}
+
+fn write_minutes(rt: &HostRuntime) -> io::Result<()> {
+    for argument in [1, 4, 5, 6] {
+        write_text(rt, argument, b", minutes:\n", daily::minutes)?;
+    }
+    Ok(())
 }
 
 fn main(rt: HostRuntime) -> io::Result<()> {
-    for i in 1..arg_count(&rt) {
-        write_text(&rt, i, false)?;
-    }
-    write_text(&rt, 1, true)?;
-    write_text(&rt, 4, true)?;
-    write_text(&rt, 5, true)?;
-    write_text(&rt, 6, true)
+    write_days(&rt)?;
+    write_minutes(&rt)
 }

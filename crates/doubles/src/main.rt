@@ -2,7 +2,7 @@
 // vectors/doubles.rs. It writes how many of each were compared, and how many differ.
 #![tactic(auto)]
 
-ghost use Rattle.std.specs.Prelude.{◌≡◌, ◌+◌, ◌^◌, ◌<◌, eqb};
+ghost use Rattle.std.specs.Prelude.{◌≡◌, ◌<◌, eqb, Float};
 ghost use Rattle.std.specs.Float.{binary64};
 ghost use Rattle.std.specs.Float.Ieee.{of_bits, to_bits, to_unsigned};
 ghost use Rattle.ieee.specs.Sqrt as root;
@@ -10,35 +10,18 @@ ghost use Rattle.ieee.specs.Whole as whole;
 
 use std::io::Read;
 use std::rt::{Env, Files};
-use std::{env, io, str};
+use std::{env, io};
 use stored::Tally;
 
-#[derive(Drop)]
-pub struct Roots {
-    pub fast: Tally,
-    pub by_digits: Tally,
-}
+// ---- one answer: whether it is the definition's, bit for bit; both roots by one function, and the other four not over a closure,
+// since each clause names its own definition
 
-#[derive(Drop)]
-pub struct Parts {
-    pub floor: Tally,
-    pub ceil: Tally,
-    pub max: Tally,
-    pub cast: Tally,
-}
-
-// ---- one answer: whether it is the definition's, bit for bit
-
-fn root_right(x: u64, want: u64) -> bool
+fn root_right<F: Fn(f64) -> f64>(root_of: F, x: u64, want: u64) -> bool
+    requires callable { F.IsAlwaysCallable root_of }
+    requires is_root { (y r : Float) → F.post root_of y r → r ≡ root.sqrt y }
     ensures { result ≡ eqb (to_bits binary64 (root.sqrt (of_bits binary64 x))) want }
 {
-    ieee::bits_of(ieee::sqrt(ieee::float_of(x))) == want
-}
-
-fn root_by_digits_right(x: u64, want: u64) -> bool
-    ensures { result ≡ eqb (to_bits binary64 (root.sqrt (of_bits binary64 x))) want }
-{
-    ieee::bits_of(ieee::sqrt_by_digits(ieee::float_of(x))) == want
+    ieee::bits_of(root_of(ieee::float_of(x))) == want
 }
 
 fn floor_right(x: u64, want: u64) -> bool
@@ -65,107 +48,82 @@ fn cast_right(x: u64, want: u64) -> bool
     ieee::saturating_u64(ieee::float_of(x)) == want
 }
 
-// ---- a record
+// ---- the records
 
-fn root_record(x: u64, want: u64, t: Roots) -> Roots {
-    let fast = stored::tallied(t.fast, root_right(x, want));
-    let by_digits = stored::tallied(t.by_digits, root_by_digits_right(x, want));
-    Roots {
-        fast: fast,
-        by_digits: by_digits,
+// x, its root
+#[derive(Clone, Copy, Default)]
+struct Roots {
+    fast: Tally,
+    by_digits: Tally,
+}
+
+impl Roots {
+    fn add(&mut self, record: &[u8]) {
+        let [x, root] = stored::words::<2>(record);
+        self.fast.add(root_right(ieee::sqrt, x, root));
+        self.by_digits
+            .add(root_right(ieee::sqrt_by_digits, x, root));
+    }
+
+    fn print(&self, rt: &impl Print) -> io::Result<()> {
+        self.fast.print(rt, "roots")?;
+        self.by_digits.print(rt, "roots by digits")
     }
 }
 
-// The record that begins at word w.
-fn parts_record(s: &[u8], w: usize, t: Parts) -> Parts
-    requires { w + 5 < 2 ^ 64 }
+// x, y, the floor and the ceiling of x, the maximum of both, x cast
+#[derive(Clone, Copy, Default)]
+struct Parts {
+    floor: Tally,
+    ceil: Tally,
+    max: Tally,
+    cast: Tally,
+}
+
+impl Parts {
+    fn add(&mut self, record: &[u8]) {
+        let [x, y, floor, ceil, max, cast] = stored::words::<6>(record);
+        self.floor.add(floor_right(x, floor));
+        self.ceil.add(ceil_right(x, ceil));
+        self.max.add(max_right(x, y, max));
+        self.cast.add(cast_right(x, cast));
+    }
+
+    fn print(&self, rt: &impl Print) -> io::Result<()> {
+        self.floor.print(rt, "floors")?;
+        self.ceil.print(rt, "ceilings")?;
+        self.max.print(rt, "maxima")?;
+        self.cast.print(rt, "casts to u64")
+    }
+}
+
+// Every whole record, of so many bytes, of a file that is shorter than the buffer.
+fn each_record<F: FnMut(&[u8])>(file: &mut impl Read, size: usize, mut add: F) -> io::Result<()>
+    requires some { 0 < size }
+    requires callable { (state : F) (bytes : _) → F.pre state bytes }
 {
-    let x = stored::word(s, w);
-    let floor = stored::tallied(t.floor, floor_right(x, stored::word(s, w + 2)));
-    let ceil = stored::tallied(t.ceil, ceil_right(x, stored::word(s, w + 3)));
-    let max = stored::tallied(
-        t.max,
-        max_right(x, stored::word(s, w + 1), stored::word(s, w + 4)),
-    );
-    let cast = stored::tallied(t.cast, cast_right(x, stored::word(s, w + 5)));
-    Parts {
-        floor: floor,
-        ceil: ceil,
-        max: max,
-        cast: cast,
-    }
-}
-
-// ---- all whole records of s
-
-fn roots_in(s: &[u8], tally: Roots) -> Roots {
-    let n = s.len() / 16;
-    let mut t = tally;
-    let mut i = 0;
-    while i < n {
-        t = root_record(stored::word(s, i * 2), stored::word(s, i * 2 + 1), t);
-        i += 1;
-    }
-    t
-}
-
-fn parts_in(s: &[u8], tally: Parts) -> Parts {
-    let n = s.len() / 48;
-    let mut t = tally;
-    let mut i = 0;
-    while i < n {
-        t = parts_record(s, i * 6, t);
-        i += 1;
-    }
-    t
-}
-
-// ---- a file; the buffer is longer than either
-
-fn none() -> Tally {
-    Tally { seen: 0, differ: 0 }
-}
-
-fn read_roots(file: &mut impl Read) -> io::Result<Roots> {
     let mut buf = [0u8; 393216];
     let n = stored::read_full(file, &mut buf)?;
-    let t = Roots {
-        fast: none(),
-        by_digits: none(),
-    };
-    Ok(roots_in(&buf[..n], t))
-}
-
-fn read_parts(file: &mut impl Read) -> io::Result<Parts> {
-    let mut buf = [0u8; 393216];
-    let n = stored::read_full(file, &mut buf)?;
-    let t = Parts {
-        floor: none(),
-        ceil: none(),
-        max: none(),
-        cast: none(),
-    };
-    Ok(parts_in(&buf[..n], t))
+    for record in buf[..n].chunks_exact(size) {
+        add(record);
+    }
+    Ok(())
 }
 
 // ---- the program
 
-// Linux's numbers: there is no such argument; it is too long to be a path.
+// There is no such argument; it is too long to be a path. Linux's numbers and not kinds: the error stream tells their texts.
 const EINVAL: i32 = 22;
 
 const ENAMETOOLONG: i32 = 36;
 
 // An argument as text, put at the start of buf.
 fn argument<'a>(rt: &impl Env, i: usize, buf: &'a mut [u8]) -> io::Result<&'a str> {
-    let length = match rt.arg(i, buf) {
-        Ok(length) => length,
-        Err(env::FillError::NotPresent) => return Err(io::Error::from_raw_os_error(EINVAL)),
-        Err(env::FillError::TooLong) => return Err(io::Error::from_raw_os_error(ENAMETOOLONG)),
-    };
-    match str::from_utf8(&buf[..length]) {
-        Ok(text) => Ok(text),
-        Err(_) => Err(io::Error::from(io::ErrorKind::InvalidFilename)),
-    }
+    let length = rt.arg(i, buf).map_err(|error| match error {
+        env::FillError::NotPresent => io::Error::from_raw_os_error(EINVAL),
+        env::FillError::TooLong => io::Error::from_raw_os_error(ENAMETOOLONG),
+    })?;
+    stored::path_of(&buf[..length])
 }
 
 // The file named by an argument; none where there is none.
@@ -189,12 +147,10 @@ fn main(rt: HostRuntime) -> io::Result<()> {
     let Some(mut parts) = parts else {
         return Ok(());
     };
-    let r = read_roots(&mut roots)?;
-    stored::print_tally(&rt, r.fast, b" roots, ")?;
-    stored::print_tally(&rt, r.by_digits, b" roots by digits, ")?;
-    let p = read_parts(&mut parts)?;
-    stored::print_tally(&rt, p.floor, b" floors, ")?;
-    stored::print_tally(&rt, p.ceil, b" ceilings, ")?;
-    stored::print_tally(&rt, p.max, b" maxima, ")?;
-    stored::print_tally(&rt, p.cast, b" casts to u64, ")
+    let mut of_roots = Roots::default();
+    each_record(&mut roots, 16, |record| of_roots.add(record))?;
+    of_roots.print(&rt)?;
+    let mut of_parts = Parts::default();
+    each_record(&mut parts, 48, |record| of_parts.add(record))?;
+    of_parts.print(&rt)
 }

@@ -9,7 +9,7 @@ use lib.Dec.{ltb, eqb}
 use lib.ListN.{length, get_or}
 use lib.Ieee.{Float, nan}
 use Rattle.ieee.specs.Double.{◌⊕◌}
-use Rattle.family.specs.Family.{Family}
+use Rattle.family.specs.declared.Family.{Family}
 use Rattle.coefficients.specs.Rows.{coefficients, next}
 use Rattle.workspace.specs.Vectors.{Vectors, number, unpack, vector_count, all_finite, candidate}
 use Rattle.workspace.specs.Kernel.{turned, radius_of, ended, scaled, with_row, exchanged, with_candidate}
@@ -18,15 +18,14 @@ use Rattle.driver.specs.declared.Phase.{Phase}
 use Rattle.driver.specs.declared.Phase.TheVariants as P
 use Rattle.driver.specs.declared.Record.{Record}
 use Rattle.driver.specs.declared.Counters.{Counters}
-use Rattle.driver.specs.declared.Need.{Need}
-use Rattle.driver.specs.declared.Need.TheVariants.{Met, Unmet}
+use Rattle.driver.specs.Calls.{Need, Met, Unmet}
 use Rattle.driver.specs.declared.Next.{Next}
 use Rattle.driver.specs.declared.Replied.{Replied}
 use Rattle.driver.specs.declared.Answer.{Answer}
 use Rattle.driver.specs.declared.Answer.TheVariants.{Evaluate, Finished, Ready, Refused, Empty}
 use Rattle.driver.specs.Answers.{case_number, Values, case_values, SameAnswer}
 use Rattle.driver.specs.Calls.{Held, Called, Step, step_to, in_phase, at_pass, at_stage, stage_need, ask_pass, ask_stage, by_need, begin_stages}
-use Rattle.driver.specs.Calls.{take_first, take_callback, take_pass, ask_candidate, take_stage, figures_of, replied, finishes, room, has_room, one_more}
+use Rattle.driver.specs.Calls.{take_first, take_callback, take_pass, ask_candidate, take_stage, figures_of, replied, finishes, room, has_room}
 use Rattle.driver.specs.Calls.{counted, going_on, spoiled, settled, setting_of}
 use Rattle.driver.specs.Promises.{Meets, Steps}
 use Rattle.driver.proofs.Ladder.{same_answer}
@@ -143,9 +142,9 @@ attempts_room p c e f =
 
 -- a derivative that is not finite
 pub spoils : (h : Held) {test : Bool} (go : Called) {x : Replied} → test ≡ false
-    → x ≡ record { answer = Refused 9; «record» = in_phase P.Empty h.kept; counters = one_more h.counters }
+    → x ≡ record { answer = Refused 9; «record» = in_phase P.Empty h.kept; counters = counted (Refused 9) h.counters }
     → Meets (cond test go (spoiled h)) x.answer x.«record» x.counters h.area
-unfolding spoiled counted
+unfolding spoiled
 spoils h go e q = rw e
     (record {
       answer = same_answer (ap (λ (x : Replied). x.answer) q);

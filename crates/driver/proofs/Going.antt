@@ -4,6 +4,7 @@ use mathlib.Core.Path.{◌≡◌, refl, sym, ap, ap₂, subst, ◌∙◌}
 use mathlib.Core.Bool.{Bool, true, false, ◌&&◌, false≢true}
 use mathlib.Core.List.{List}
 use Prim.Native.Nat.{ℕ, ◌*◌, ◌<◌, ◌-◌, ◌^◌}
+use native.Mathlib.Omega.{arith}
 use borrow.Author.Tests.{ltb-true}
 use lib.ListN.{length}
 use lib.Ieee.{Float}
@@ -17,6 +18,7 @@ use Rattle.driver.specs.declared.Next.{Next}
 use Rattle.driver.specs.declared.Replied.{Replied}
 use Rattle.driver.specs.declared.Staged.{Staged}
 use Rattle.driver.specs.declared.Staged.TheVariants.{On, OnByTheta, Ended, NotFinite}
+use Rattle.driver.specs.Answers.{case_number}
 use Rattle.driver.specs.Calls.{Called, sized, whole_area, as_long, pending, in_range, good_stage, awaiting, finishes, room, has_room, setting_of}
 use Rattle.driver.specs.Calls.{reply_tests, reply, replied, take_stage, one_more, counted}
 use Rattle.driver.specs.Promises.{Meets, Steps, StandsFor, holding, in_stages, stage_taken, outcome_of}
@@ -99,20 +101,26 @@ goes r c area d x left p h t =
 pub has_one : (r : Record) (c : Counters) (area d : List Float) → stage_taken r c area d ≡ true → c.evaluations < 2 ^ 64 - 1
 has_one r c area d e = counts_one _ (passed r c area d e).more
 
--- the case of what a reply comes to, with the record that is made of it
-pub of_case : (r : Record) (y : Staged) {x : Staged} {made : Record} → x ≡ y → made ≡ (outcome_of y r).«record»
-    → record { answer = (outcome_of y r).answer; «record» = made } ≡ outcome_of x r
-of_case r y e m =
-    let with_made : Record → Next = λ u. record { answer = (outcome_of y r).answer; «record» = u } in
-    ap with_made m ∙ sym (ap (λ (v : Staged). outcome_of v r) e)
-
 -- what it stands for, written out
 pub comes : {promised : Called} {r : Record} {c : Counters} {left : List Float} {x : Staged} {y : Next} {z : Replied} → StandsFor promised r c x left
-    → y ≡ outcome_of x r → z ≡ record { answer = y.answer; «record» = y.«record»; counters = one_more c }
+    → y ≡ outcome_of x r → z ≡ record { answer = y.answer; «record» = y.«record»; counters = counted y.answer c }
     → Meets promised z.answer z.«record» z.counters left
-comes {promised} {c = c} {left} w m q =
-    let of_reply : Next → Replied = λ y. record { answer = y.answer; «record» = y.«record»; counters = one_more c } in
-    subst (λ (u : Replied). Meets promised u.answer u.«record» u.counters left) (sym (q ∙ ap of_reply m)) w.meets
+comes {promised} {r} {c} {left} {x} w m q =
+    let of_reply : Next → Replied = λ y. record { answer = y.answer; «record» = y.«record»; counters = counted y.answer c } in
+    let out = outcome_of x r in
+    subst (λ (u : Replied). Meets promised u.answer u.«record» u.counters left) (sym (q ∙ ap of_reply m))
+    (subst (λ (k : Counters). Meets promised out.answer out.«record» k left) (counts_as x r c) w.meets)
+
+-- it finishes no attempt
+pub never_finished : (r : Record) (x : Staged) {y : Next} → y ≡ outcome_of x r → case_number y.answer ≡ 2 → ⊥
+unfolding outcome_of case_number
+never_finished r x m e = go x (ap (λ (y : Next). case_number y.answer) (sym m) ∙ e)
+  where
+    go : (x : Staged) → case_number (outcome_of x r).answer ≡ 2 → ⊥
+    go (On t g) e = omega arith
+    go (OnByTheta t j theta) e = omega arith
+    go (Ended t) e = omega arith
+    go NotFinite e = omega arith
 
 -- ---- a reply that is not taken within the stages, and that the call's own tests pass
 

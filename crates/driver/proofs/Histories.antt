@@ -11,8 +11,9 @@ use Prim.Native.Nat.{ℕ, ◌+◌}
 use lib.Dec.{eqb, ltb}
 use lib.ListN.{replicate}
 use lib.Ieee.{Float, le}
-use Rattle.ieee.specs.Double.{◌⊕◌, nought, one, min_positive}
-use Rattle.family.specs.Family.{TSRKC2, family_of, keeps_older}
+use Rattle.ieee.specs.Double.{◌⊕◌, one, min_positive}
+use Rattle.family.specs.declared.Family.TheVariants.{TSRKC2}
+use Rattle.family.specs.Family.{family_of, keeps_older}
 use Rattle.family.proofs.Special.{tsrkc2_keeps, only_tsrkc2}
 use Rattle.coefficients.specs.Rows.{coefficients, next}
 use Rattle.workspace.specs.declared.Arguments.{Arguments}
@@ -23,8 +24,7 @@ use Rattle.workspace.specs.Kernel.{with_direction, perturbed, perturbed_by, turn
 use Rattle.workspace.specs.Kernel.{with_candidate, with_last, error}
 use Rattle.driver.specs.declared.Phase.{Phase}
 use Rattle.driver.specs.declared.Phase.TheVariants as P
-use Rattle.driver.specs.declared.Need.{Need}
-use Rattle.driver.specs.declared.Need.TheVariants.{Met, Unmet}
+use Rattle.driver.specs.Calls.{Need, Met, Unmet}
 use Rattle.driver.specs.declared.Record.{Record}
 use Rattle.driver.specs.declared.Answer.TheVariants.{Evaluate, Refused}
 use Rattle.driver.specs.Calls.{Held, Called, Step, step_to, admitted, first_failing, start_tests, abandon_tests, start, start_vectors, abandon, first_at}

@@ -1,10 +1,9 @@
--- Tests in a row, from what the code has found of each. A conjunction; the first failing test of a list, whose number the code gives; and a call behind its
--- list: by cases for any property (`by_tests`), and for the promises of the calls.
-use mathlib.Core.Path.{◌≡◌, refl, sym, ap, ap₂, subst, ◌∙◌}
-use mathlib.Core.Bool.{Bool, true, false, cond, not, ◌&&◌, ◌||◌, false≢true}
+-- Tests in a row, from what the code has found of each: a list of tests that pass; and a call behind its list, by cases for any property (`by_tests`), and
+-- for the promises of the calls.
+use mathlib.Core.Path.{◌≡◌, refl, sym, ap, subst, ◌∙◌}
+use mathlib.Core.Bool.{Bool, true, false, cond}
 use mathlib.Core.List.{List, [], ◌∷◌}
-use Prim.Native.Nat.{ℕ, zero, suc}
-use native.Mathlib.Nat.{suc-ne-zero}
+use Prim.Native.Nat.{ℕ}
 use lib.Ieee.{Float}
 use Rattle.driver.specs.declared.Answer.{Answer}
 use Rattle.driver.specs.declared.Answer.TheVariants.{Refused}
@@ -13,7 +12,7 @@ use Rattle.driver.specs.declared.Counters.{Counters}
 use Rattle.driver.specs.declared.Next.{Next}
 use Rattle.driver.specs.declared.Replied.{Replied}
 use Rattle.driver.specs.Answers.{SameAnswer}
-use Rattle.driver.specs.Calls.{Held, Called, Test, ◌∶◌, Verdict, admitted, refused_with, first_failing, decide, guarded, cause_of}
+use Rattle.driver.specs.Calls.{Held, Called, Test, Verdict, admitted, refused_with, first_failing, decide, guarded}
 use Rattle.driver.specs.Promises.{Meets, Keeps, holding, refusal, turned_away}
 
 -- a test as the code has it, r, and as the definition has it, t
@@ -23,61 +22,9 @@ fails e h = sym e ∙ h
 pub passes : {r t : Bool} → r ≡ t → r ≡ true → t ≡ true
 passes e h = sym e ∙ h
 
--- ---- two tests
-
-pub stop : {a : Bool} (b : Bool) → a ≡ false → false ≡ (a && b)
-stop b e = sym (ap (λ (x : Bool). x && b) e)
-
-pub go_on : {a b r : Bool} → a ≡ true → r ≡ b → r ≡ (a && b)
-go_on {b = b} e h = h ∙ sym (ap (λ (x : Bool). x && b) e)
-
-pub first_of : {a : Bool} (b : Bool) → a ≡ true → true ≡ (a || b)
-first_of b e = sym (ap (λ (x : Bool). x || b) e)
-
-pub second_of : {a b r : Bool} → a ≡ false → r ≡ b → r ≡ (a || b)
-second_of {b = b} e h = h ∙ sym (ap (λ (x : Bool). x || b) e)
-
--- a test that only some are put to
-pub put_to : {a b r : Bool} → a ≡ true → r ≡ b → r ≡ (not a || b)
-put_to {b = b} e h = h ∙ sym (ap (λ (x : Bool). not x || b) e)
-
-pub spared : {a : Bool} (b : Bool) → a ≡ false → true ≡ (not a || b)
-spared b e = sym (ap (λ (x : Bool). not x || b) e)
-
--- a test of its own for one case, and the tests of the others
-pub in_case : {a b r : Bool} (c : Bool) → a ≡ true → r ≡ b → r ≡ cond a b c
-in_case {b = b} c e h = h ∙ sym (ap (λ (x : Bool). cond x b c) e)
-
-pub otherwise : {a c r : Bool} (b : Bool) → a ≡ false → r ≡ c → r ≡ cond a b c
-otherwise {c = c} b e h = h ∙ sym (ap (λ (x : Bool). cond x b c) e)
-
 -- an arm of a match: what holds of the arm's own case, said of the value as it came
 pub arm : {A : Type 0} {p q : A} {b : Bool} (test : A → Bool) → q ≡ p → b ≡ test p → b ≡ test q
 arm test e h = h ∙ ap test (sym e)
-
--- tests put all at once: as the code has them, and as the definition has them
-pub all_three : {a b c a' b' c' : Bool} → a ≡ a' → b ≡ b' → c ≡ c' → ((a && b) && c) ≡ ((a' && b') && c')
-all_three e f g = ap₂ ◌&&◌ (ap₂ ◌&&◌ e f) g
-
-pub all_four : {a b c d a' b' c' d' : Bool} → a ≡ a' → b ≡ b' → c ≡ c' → d ≡ d' → (((a && b) && c) && d) ≡ (((a' && b') && c') && d')
-all_four e f g h = ap₂ ◌&&◌ (all_three e f g) h
-
--- ---- a list of tests: the number that the code has for it, by the ruleset `ladder`
-
-pub no_cause : 0 ≡ cause_of (first_failing [])
-unfolding first_failing cause_of
-no_cause = refl
-
-pub fails_here : (k : ℕ) (test : Bool) (ts : List Test) → test ≡ false → k ≡ cause_of (first_failing (k ∶ test ∷ ts))
-unfolding first_failing cause_of
-fails_here k test ts e = rw e refl
-
-pub fails_later : {r : ℕ} (k : ℕ) (test : Bool) (ts : List Test) → test ≡ true → r ≡ cause_of (first_failing ts)
-    → r ≡ cause_of (first_failing (k ∶ test ∷ ts))
-unfolding first_failing
-fails_later k test ts e h = rw e h
-
-pub ruleset ladder = (no_cause, fails_here, fails_later, fails, passes)
 
 -- ---- no test of the list fails: each passes
 
@@ -103,27 +50,6 @@ unfolding first_failing
 admits [] p = refl
 admits (t ∷ ts) p = rw p.0 (admits ts p.1)
 
--- no test has the number 0 (by clauses, so that it computes on a list with numbers written out)
-abbrev not_zero : ℕ → Bool
-not_zero zero = false
-not_zero (suc k) = true
-
-abbrev pub numbered : List Test → Bool
-numbered [] = true
-numbered (t ∷ ts) = not_zero t.cause && numbered ts
-
--- so the code's 0 says that none fails
-pub none_fails : (ts : List Test) → numbered ts ≡ true → cause_of (first_failing ts) ≡ 0 → first_failing ts ≡ admitted
-unfolding first_failing cause_of
-none_fails [] n e = refl
-none_fails (t ∷ ts) n e = go t.passes t.cause n e (none_fails ts)
-  where
-    go : (b : Bool) (k : ℕ) → not_zero k && numbered ts ≡ true → cause_of (cond b (first_failing ts) (refused_with k)) ≡ 0
-        → (numbered ts ≡ true → cause_of (first_failing ts) ≡ 0 → first_failing ts ≡ admitted) → cond b (first_failing ts) (refused_with k) ≡ admitted
-    go b zero n e on = absurd (false≢true n)
-    go true (suc k) n e on = on n e
-    go false (suc k) n e on = absurd (suc-ne-zero k e)
-
 -- ---- a call behind its list
 
 -- it comes to this where it is turned away with k
@@ -145,19 +71,18 @@ unfolding guarded decide
 goes_ahead h ts go e = rw e
 
 -- turned away with the number k that the code has found
-turned_away_by : (h : Held) (ts : List Test) (go : Called) {k : ℕ} → k ≡ cause_of (first_failing ts) → (k ≡ 0 → ⊥) → guarded h ts go ≡ away h k
-unfolding cause_of
-turned_away_by h ts go {k} e n =
-    by_tests (λ (x : Called). x ≡ away h k) h ts go (λ q. absurd (n (e ∙ ap cause_of q))) (λ i q. ap (away h) (sym (e ∙ ap cause_of q)))
+turned_away_by : (h : Held) (ts : List Test) (go : Called) {k : ℕ} → refused_with k ≡ first_failing ts → guarded h ts go ≡ away h k
+unfolding guarded decide
+turned_away_by h ts go e = rw (sym e)
 
 pub same_answer : {a b : Answer} → a ≡ b → SameAnswer a b
 same_answer {a} e = subst (λ (b : Answer). SameAnswer a b) e (record { same_case = refl; same_values = refl })
 
 -- the promise of a call that is lent no counters
-pub refused_keeps : {r : Record} {k : ℕ} {x : Next} (area : List Float) (ts : List Test) (go : Counters → Called) → k ≡ cause_of (first_failing ts)
-    → (k ≡ 0 → ⊥) → x ≡ refusal k r → Keeps (λ c. guarded (holding r c area) ts (go c)) x area
-refused_keeps {r} {k} {x} area ts go e n q = λ c.
-    subst (λ (y : Called). Meets y x.answer x.«record» c area) (sym (turned_away_by (holding r c area) ts (go c) e n))
+pub refused_keeps : {r : Record} {k : ℕ} {x : Next} (area : List Float) (ts : List Test) (go : Counters → Called) → refused_with k ≡ first_failing ts
+    → x ≡ refusal k r → Keeps (λ c. guarded (holding r c area) ts (go c)) x area
+refused_keeps {r} {k} {x} area ts go e q = λ c.
+    subst (λ (y : Called). Meets y x.answer x.«record» c area) (sym (turned_away_by (holding r c area) ts (go c) e))
     (record { answer = same_answer (ap (λ (y : Next). y.answer) q); kept = ap (λ (y : Next). y.«record») q; counters = refl; area = refl })
 
 pub admitted_keeps : {go : Counters → Called} {x : Next} {left : List Float} (h : Counters → Held) (ts : List Test) → first_failing ts ≡ admitted
@@ -166,10 +91,10 @@ unfolding guarded decide
 admitted_keeps h ts e m = λ c. rw e (m c)
 
 -- and of a reply, which is
-pub refused_meets : {k : ℕ} {x : Replied} (h : Held) (ts : List Test) (go : Called) → k ≡ cause_of (first_failing ts) → (k ≡ 0 → ⊥)
+pub refused_meets : {k : ℕ} {x : Replied} (h : Held) (ts : List Test) (go : Called) → refused_with k ≡ first_failing ts
     → x ≡ turned_away k h.kept h.counters → Meets (guarded h ts go) x.answer x.«record» x.counters h.area
-refused_meets {k} {x} h ts go e n q =
-    subst (λ (y : Called). Meets y x.answer x.«record» x.counters h.area) (sym (turned_away_by h ts go e n)) (record {
+refused_meets {k} {x} h ts go e q =
+    subst (λ (y : Called). Meets y x.answer x.«record» x.counters h.area) (sym (turned_away_by h ts go e)) (record {
       answer = same_answer (ap (λ (y : Replied). y.answer) q);
       kept = ap (λ (y : Replied). y.«record») q;
       counters = ap (λ (y : Replied). y.counters) q;

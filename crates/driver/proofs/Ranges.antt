@@ -7,13 +7,13 @@ use borrow.Author.Tests.{leb-true}
 use lib.Dec.{T, leb}
 use lib.Ieee.{Float}
 use Rattle.family.specs.declared.Setting.{Setting}
-use Rattle.family.specs.Family.{Family, kind, stage_count, exceeds, most_stages}
+use Rattle.family.specs.declared.Family.{Family}
+use Rattle.family.specs.Family.{kind, stage_count, exceeds, most_stages}
 use Rattle.family.proofs.Range.{permitted_range}
 use Rattle.family.proofs.Counts.{stage_count_permitted}
 use Rattle.driver.specs.declared.Phase.TheVariants as P
 use Rattle.driver.specs.declared.Record.{Record}
-use Rattle.driver.specs.declared.Need.{Need}
-use Rattle.driver.specs.declared.Need.TheVariants.{Met, Unmet}
+use Rattle.driver.specs.Calls.{Need, Met, Unmet}
 use Rattle.driver.specs.Calls.{setting_of, permits, in_range, stage_need}
 use Rattle.driver.proofs.Sizes.{both}
 

@@ -2,11 +2,9 @@
 -- ⊕ is an operation on doubles: it rounds.
 use mathlib.Core.Path.{◌≡◌, refl, sym, ap, subst, ◌∙◌}
 use mathlib.Core.Bool.{Bool, true, false, cond, ◌||◌, false≢true}
-use mathlib.Core.List.{List, [], ◌∷◌}
+use mathlib.Core.List.{List}
 use Prim.Native.Nat.{ℕ, ◌+◌, ◌*◌, ◌≤◌, ◌<◌}
 use borrow.Author.Tests.{lt-ltb, le-ltb}
-use types.Run.{OneOf, miss}
-use denote.Enum.Declared.{tag_of}
 use lib.Dec.{eqb}
 use lib.ListN.{length}
 use lib.Ieee.{Float}
@@ -14,7 +12,8 @@ use Rattle.ieee.specs.Double.{◌⊕◌, nought}
 use Rattle.family.specs.declared.Setting.{Setting}
 use Rattle.family.specs.declared.RowForm.{RowForm}
 use Rattle.family.specs.declared.RowForm.TheVariants.{OrthogonalRow}
-use Rattle.family.specs.Family.{Family, facts_of, kind}
+use Rattle.family.specs.declared.Family.{Family}
+use Rattle.family.specs.Family.{facts_of, kind}
 use Rattle.coefficients.specs.declared.Coefficients.{Coefficients}
 use Rattle.coefficients.specs.declared.Recurrence.{Recurrence}
 use Rattle.coefficients.specs.Rows.{recurrence, coefficients, next, next_of, next_polynomials}
@@ -26,10 +25,8 @@ use Rattle.driver.specs.declared.Phase.{Phase}
 use Rattle.driver.specs.declared.Phase.TheVariants as P
 use Rattle.driver.specs.declared.Record.{Record}
 use Rattle.driver.specs.declared.Next.{Next}
-use Rattle.driver.specs.declared.Need.TheVariants.{Met}
-use Rattle.driver.specs.Calls.{Step, going_on, with_radius, at_pass, at_stage, ask_pass, ask_stage, by_need, begin_stages, take_first, take_pass}
+use Rattle.driver.specs.Calls.{Met, Step, going_on, with_radius, at_pass, at_stage, ask_pass, ask_stage, by_need, begin_stages, take_first, take_pass}
 use Rattle.driver.specs.Calls.{ask_candidate, take_stage, replied, setting_of}
-use Rattle.driver.specs.contracts.Phase as Phases
 use Rattle.driver.specs.declared.Staging.{Staging}
 use Rattle.driver.specs.declared.Staged.TheVariants.{On, OnByTheta, Ended, NotFinite}
 use Rattle.driver.specs.Promises.{Keeps, Steps, in_stages, outcome_of}
@@ -197,14 +194,14 @@ pub candidate_refused : (r : Record) (v : Vectors) {b : Bool} → b ≡ all_fini
 unfolding ask_candidate outcome_of
 candidate_refused r v e t = rw (sym e ∙ t) (record { answer = same_answer refl; kept = refl; vectors = refl })
 
--- the phases that a reply outside the stages takes alike: those of these positions among the variants
-pub alike : (p : Phase) → in_stages p ≡ false → OneOf (0 ∷ 1 ∷ 2 ∷ 4 ∷ 6 ∷ []) (tag_of Phases.the_type p) → take_first ≡ replied p
+-- the phases that a reply outside the stages takes alike
+pub alike : (p : Phase) → in_stages p ≡ false → (p ≡ P.Pass → ⊥) → (p ≡ P.Candidate → ⊥) → (p ≡ P.Callback → ⊥) → take_first ≡ replied p
 unfolding replied in_stages
-alike P.Empty n k = refl
-alike P.First n k = refl
-alike P.Ready n k = refl
-alike P.Pass n k = absurd (miss (0 ∷ 1 ∷ 2 ∷ 4 ∷ 6 ∷ []) 3 tt k)
-alike P.Stage n k = absurd (false≢true (sym n))
-alike P.Candidate n k = absurd (miss (0 ∷ 1 ∷ 2 ∷ 4 ∷ 6 ∷ []) 5 tt k)
-alike P.Finished n k = refl
-alike P.Callback n k = absurd (miss (0 ∷ 1 ∷ 2 ∷ 4 ∷ 6 ∷ []) 7 tt k)
+alike P.Empty n f g h = refl
+alike P.First n f g h = refl
+alike P.Ready n f g h = refl
+alike P.Pass n f g h = absurd (f refl)
+alike P.Stage n f g h = absurd (false≢true (sym n))
+alike P.Candidate n f g h = absurd (g refl)
+alike P.Finished n f g h = refl
+alike P.Callback n f g h = absurd (h refl)

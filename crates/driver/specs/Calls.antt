@@ -5,11 +5,12 @@ use Rattle.std.specs.Float.Ieee.{eq, lt}
 use Rattle.std.specs.Float.Ieee.Scale.{finite}
 use Rattle.ieee.specs.Double.{◌⊕◌, ◌⊗◌, ◌⊘◌, nought}
 use Rattle.family.specs.declared.Setting.{Setting}
-use Rattle.family.specs.Family.{Family, known, family_of, setting, kind, keeps_older, stage_count, exceeds, permitted}
+use Rattle.family.specs.declared.Family.{Family}
+use Rattle.family.specs.Family.{known, family_of, setting, kind, keeps_older, stage_count, exceeds, permitted}
 use Rattle.coefficients.specs.declared.Recurrence.{Recurrence}
 use Rattle.coefficients.specs.Rows.{recurrence, coefficients, next}
 use Rattle.workspace.specs.declared.Arguments.{Arguments}
-use Rattle.workspace.specs.Vectors.{Vector, Vectors, ◌with◌≔◌, number, vector_count, unpack, pack, all_finite, first_derivative, last_derivative, previous_one}
+use Rattle.workspace.specs.Vectors.{Vectors, ◌with◌≔◌, number, vector_count, unpack, pack, all_finite, first_derivative, last_derivative, previous_one}
 use Rattle.workspace.specs.Vectors.{eigenvector, perturbed_state, state, candidate, older_state}
 use Rattle.workspace.specs.Kernel.{with_direction, perturbation_of, perturbed, turned, radius_of, ended, scaled, first_stage, with_row, exchanged}
 use Rattle.workspace.specs.Kernel.{with_candidate, with_last, error_norm}
@@ -20,8 +21,6 @@ use Rattle.driver.specs.declared.Staging.{Staging}
 use Rattle.driver.specs.declared.History.{History}
 use Rattle.driver.specs.declared.Record.{Record}
 use Rattle.driver.specs.declared.Counters.{Counters}
-use Rattle.driver.specs.declared.Need.{Need}
-use Rattle.driver.specs.declared.Need.TheVariants.{Met, Unmet}
 use Rattle.driver.specs.declared.Figures.{Figures}
 use Rattle.driver.specs.declared.Answer.{Answer}
 use Rattle.driver.specs.declared.Answer.TheVariants.{Evaluate, Finished, Ready, Refused, Empty}
@@ -157,6 +156,11 @@ ask_pass r v = step_to (Evaluate r.arguments.time (number perturbed_state)) r (p
 unfoldable pub ask_stage : Record → Vectors → Step
 ask_stage r v = let a = r.arguments in
     step_to (Evaluate (a.time ⊕ a.step ⊗ r.staging.recurrence.theta_previous) (number previous_one)) r v
+
+-- how many stages an attempt runs, or the number that its need of stages is refused with
+pub data Need : Type 0 where
+  Met : ℕ → Need
+  Unmet : ℕ → Need
 
 -- how many stages this scaled radius takes; 11 where TSRKC2 would need more than 1000
 unfoldable pub stage_need : Setting → Float → Need
@@ -323,7 +327,7 @@ unfoldable pub first_failing : List Test → Verdict
 first_failing [] = admitted
 first_failing (t ∷ ts) = cond t.passes (first_failing ts) (refused_with t.cause)
 
--- the code's number for a verdict: 0 where no test fails
+-- the number of a verdict: 0 where no test fails
 unfoldable pub cause_of : Verdict → ℕ
 cause_of admitted = 0
 cause_of (refused_with k) = k

@@ -2,6 +2,8 @@
 -- new number comes in here and in the list of its call (`numbers_of` in session/specs/Refusals): the statements of driver, session, lent and accounts go by
 -- the lists and not by a range.
 use Rattle.std.specs.Prelude.{ℕ, Bool, false, ◌||◌, List, [], ◌∷◌, ◌++◌, eqb}
+use Rattle.driver.specs.declared.refusals.Refusal.{Refusal}
+use Rattle.driver.specs.declared.refusals.Refusal.TheVariants as R
 
 abbrev pub one_of : List ℕ → ℕ → Bool
 one_of [] k = false
@@ -25,3 +27,17 @@ ending_numbers = 9 ∷ after_nine
 
 abbrev pub refusal_numbers : List ℕ
 refusal_numbers = standing_numbers ++ ending_numbers
+
+-- the number of the code's refusal
+abbrev pub refusal_number : Refusal → ℕ
+refusal_number R.Family = 1
+refusal_number R.Size = 2
+refusal_number R.Lengths = 3
+refusal_number R.Phase = 4
+refusal_number R.State = 5
+refusal_number R.Times = 6
+refusal_number R.Tolerances = 7
+refusal_number R.Counters = 8
+refusal_number R.Derivative = 9
+refusal_number R.Candidate = 10
+refusal_number R.Stages = 11

@@ -1,5 +1,5 @@
 -- The promises of the calls in code: answer, record, counters and area, each an equation with the definition, for every input.
-use Rattle.std.specs.Prelude.{ℕ, ◌≡◌, Bool, true, false, ◌&&◌, List, Float}
+use Rattle.std.specs.Prelude.{ℕ, ◌≡◌, Bool, false, ◌&&◌, List, [], ◌∷◌, Float, Result, Ok, Err}
 use Rattle.ieee.specs.Double.{nought}
 use Rattle.family.specs.Family.{known}
 use Rattle.workspace.specs.declared.Arguments.{Arguments}
@@ -20,7 +20,10 @@ use Rattle.driver.specs.declared.Replied.{Replied}
 use Rattle.driver.specs.declared.Staged.{Staged}
 use Rattle.driver.specs.declared.Staged.TheVariants.{On, OnByTheta, Ended, NotFinite}
 use Rattle.driver.specs.Answers.{SameAnswer}
+use Rattle.driver.specs.declared.refusals.Refusal.{Refusal}
+use Rattle.driver.specs.Numbers.{refusal_number}
 use Rattle.driver.specs.Calls.{Held, Called, Step, same_phase, in_phase, at_stage, sized, whole_area, as_long, good_stage, room, one_more, setting_of}
+use Rattle.driver.specs.Calls.{Test, ◌∶◌, Verdict, admitted, refused_with, Need, Met, Unmet}
 
 -- what a call is handed
 abbrev pub holding : Record → Counters → List Float → Held
@@ -32,6 +35,23 @@ pub record Meets (promised : Called) (given : Answer) (r : Record) (c : Counters
   pub kept : r ≡ promised.held.kept
   pub counters : c ≡ promised.held.counters
   pub area : left ≡ promised.held.area
+
+-- what the code's tests of a call find
+abbrev pub verdict : Result (Unit {0}) Refusal → Verdict
+verdict (Ok u) = admitted
+verdict (Err x) = refused_with (refusal_number x)
+
+-- and what it finds of a need of stages
+abbrev pub need : Result ℕ Refusal → Need
+need (Ok s) = Met s
+need (Err x) = Unmet (refusal_number x)
+
+-- the tests that every call begins with: family, n and the area's length; and those of a call that brings a vector
+abbrev pub area_tests : ℕ → ℕ → List Float → List Test
+area_tests f n area = 1 ∶ known f ∷ 2 ∶ sized n ∷ 3 ∶ whole_area f n area ∷ []
+
+abbrev pub vector_tests : ℕ → ℕ → List Float → List Float → List Test
+vector_tests f n area v = 1 ∶ known f ∷ 2 ∶ sized n ∷ 3 ∶ (whole_area f n area && as_long n v) ∷ []
 
 -- a call that is not taken hands back what it was handed
 abbrev pub turned_away : ℕ → Record → Counters → Replied

@@ -1,6 +1,6 @@
 -- The search over RKMC2's thresholds, from their rising: `table`'s search at 997 counts from 3 on. And what the rule gives: a count from 3 to 1000, which the
 -- limits leave as it is (`rkmc2_count`). Assumes nothing.
-use mathlib.Core.Path.{◌≡◌, ap, ◌∙◌}
+use mathlib.Core.Path.{◌≡◌}
 use mathlib.Core.Bool.{true, false}
 use Prim.Native.Nat.{ℕ, suc, ◌+◌, ◌-◌, ◌^◌, ◌≤◌, ◌<◌, min}
 use native.Mathlib.Omega.{arith}
@@ -15,7 +15,8 @@ use Rattle.table.proofs.Search as search-by
 use Rattle.table.proofs.Search.{Bracket, smallest_from, smallest_to}
 use Rattle.rkmc2_threshold.specs.Table.{threshold}
 use Rattle.rkmc2_threshold.proofs.Rising.{above_zero, rises}
-use Rattle.family.specs.Family.{RKMC2, smallest_count, largest_count, odd_only, odd_step, limited, before_limits, by_rule, radius_for, facts_of}
+use Rattle.family.specs.declared.Family.TheVariants.{RKMC2}
+use Rattle.family.specs.Family.{smallest_count, largest_count, odd_only, odd_step, limited, before_limits, by_rule, radius_for, facts_of}
 use Rattle.family.specs.Family.{stage_count}
 
 some : (i : ℕ) → 3 ≤ i → i < 3 + 997 → T (positive (threshold i))

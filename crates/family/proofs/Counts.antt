@@ -19,7 +19,8 @@ use Rattle.ieee.specs.Sqrt.{sqrt}
 use Rattle.ieee.specs.Whole as Whole
 use Rattle.ieee.proofs.Monotone.{NonNeg, infinite, number, le_of_cross}
 use Rattle.ieee.proofs.Logic.{le_or_le}
-use Rattle.family.specs.Family.{Family, Orthogonal, Legendre1, Legendre2, Gegenbauer1, Gegenbauer2, made_of, largest_count, permitted, before_limits}
+use Rattle.family.specs.declared.Family.{Family}
+use Rattle.family.specs.Family.{Orthogonal, Legendre1, Legendre2, Gegenbauer1, Gegenbauer2, made_of, largest_count, permitted, before_limits}
 use Rattle.family.specs.Family.{facts_of, radius_for, number_of_stages, limited, stage_count}
 use Rattle.family.specs.Reach.{reach_num, reach_den, parts, Serves}
 use Rattle.family.proofs.InnerZero.{inner_zero}

@@ -8,7 +8,8 @@ use Rattle.ieee.specs.Whole.{ceil}
 use Rattle.ieee.proofs.Halved.{halved}
 use Rattle.family.specs.declared.StageRule.{StageRule}
 use Rattle.family.specs.declared.StageRule.TheVariants.{RoundedDown, RoundedUp, ByThreshold, WithQuotient}
-use Rattle.family.specs.Family.{Family, facts_of, by_rule, radius_for, before_limits, limited, stage_count}
+use Rattle.family.specs.declared.Family.{Family}
+use Rattle.family.specs.Family.{facts_of, by_rule, radius_for, before_limits, limited, stage_count}
 use Rattle.family.specs.Divided.{by_division, divided_count}
 
 pub rule_divided : (rule : StageRule) (q r : Float) → by_rule rule q r ≡ by_division rule q r

@@ -9,7 +9,8 @@ use lib.Ieee.{Float, nan, inf, fin, lt, to_unsigned}
 use Rattle.ieee.specs.Double.{two, three}
 use Rattle.ieee.specs.Whole.{max}
 use Rattle.ieee.proofs.Casts.{cast_of_max}
-use Rattle.family.specs.Family.{RKG1, RKG2, smallest_count, largest_count, odd_only, odd_step, limited, facts_of}
+use Rattle.family.specs.declared.Family.TheVariants.{RKG1, RKG2}
+use Rattle.family.specs.Family.{smallest_count, largest_count, odd_only, odd_step, limited, facts_of}
 
 pub rkg2_in_doubles : (x : Float) → min (to_unsigned 64 (max x three)) 200 ≡ limited RKG2 (to_unsigned 64 x)
 unfolding limited odd_step odd_only smallest_count largest_count facts_of

@@ -8,7 +8,8 @@ use native.Mathlib.Omega.{arith}
 use mathlib.Core.Bool.{Bool, true, false}
 use lib.Dec.{T}
 use Rattle.ieee.proofs.Logic.{le_or_le}
-use Rattle.family.specs.Family.{Family, smallest_count, largest_count, odd_only, permitted, odd_step, limited}
+use Rattle.family.specs.declared.Family.{Family}
+use Rattle.family.specs.Family.{smallest_count, largest_count, odd_only, permitted, odd_step, limited}
 use Rattle.family.proofs.Range.{Permitted, permitted_says, permitted_if, largest_permitted}
 
 -- ---- the odd step: from m on, odd where it must be, and no more than any other such number

@@ -7,7 +7,9 @@ use mathlib.Core.Bool.{Bool, true, false, not, ◌&&◌, ◌||◌}
 use lib.Dec.{T, leb, eqb, leb→le, le→leb, eqb→eq, lit≤}
 use lib.Ieee.Fits.{and_l, and_r, and_i, eq→eqb}
 use Rattle.family.specs.declared.Facts.{Facts}
-use Rattle.family.specs.Family.{Family, RKC, RKL1, RKL2, RKG1, RKG2, RKMC2, TSRKC2, smallest_count, largest_count, odd_only, permitted, facts_of}
+use Rattle.family.specs.declared.Family.{Family}
+use Rattle.family.specs.declared.Family.TheVariants.{RKC, RKL1, RKL2, RKG1, RKG2, RKMC2, TSRKC2}
+use Rattle.family.specs.Family.{smallest_count, largest_count, odd_only, permitted, facts_of}
 use Rattle.family.specs.Family.{most_stages}
 use Rattle.family.specs.Family.{Orthogonal, Legendre1, Legendre2, Gegenbauer1, Gegenbauer2, made_of}
 

@@ -10,7 +10,8 @@ use lib.Dec.{ltb, lt→ltb, lit≤}
 use lib.Ieee.{Float, nan, inf, fin, to_unsigned}
 use lib.Ieee.Bits.{is_true}
 use Rattle.ieee.proofs.Logic.{le_or_le}
-use Rattle.family.specs.Family.{Family, largest_count, limited}
+use Rattle.family.specs.declared.Family.{Family}
+use Rattle.family.specs.Family.{largest_count, limited}
 use Rattle.family.proofs.Range.{largest_to}
 use Rattle.family.proofs.Limits.{limited_largest}
 

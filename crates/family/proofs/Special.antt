@@ -20,7 +20,9 @@ use Rattle.table.specs.Smallest.{smallest}
 use Rattle.rkmc2_threshold.specs.Table.{threshold}
 use Rattle.ieee.proofs.Monotone.{cross, round_nonneg}
 use Rattle.ieee.proofs.Casts.{cast_mono}
-use Rattle.family.specs.Family.{Family, RKC, RKL1, RKL2, RKG1, RKG2, RKMC2, TSRKC2, smallest_count, largest_count, odd_only}
+use Rattle.family.specs.declared.Family.{Family}
+use Rattle.family.specs.declared.Family.TheVariants.{RKC, RKL1, RKL2, RKG1, RKG2, RKMC2, TSRKC2}
+use Rattle.family.specs.Family.{smallest_count, largest_count, odd_only}
 use Rattle.family.specs.Family.{keeps_older, before_limits, number_of_stages, odd_step, limited, stage_count, exceeds, facts_of, by_rule, radius_for}
 use Rattle.family.proofs.Range.{rkc_between, rkmc2_between, permitted_range}
 use Rattle.family.proofs.Limits.{limited_largest}

@@ -8,7 +8,8 @@ use Rattle.ieee.specs.Sqrt.{sqrt}
 use Rattle.ieee.specs.Whole.{ceil}
 use Rattle.family.specs.declared.StageRule.{StageRule}
 use Rattle.family.specs.declared.StageRule.TheVariants.{RoundedDown, RoundedUp, ByThreshold, WithQuotient}
-use Rattle.family.specs.Family.{Family, facts_of, by_rule, radius_for, limited}
+use Rattle.family.specs.declared.Family.{Family}
+use Rattle.family.specs.Family.{facts_of, by_rule, radius_for, limited}
 
 unfoldable pub by_division : StageRule → Float → Float → ℕ
 by_division (RoundedDown slope) q r = by_rule (RoundedDown slope) q r

@@ -9,6 +9,8 @@ use Rattle.ieee.specs.Whole.{floor, ceil}
 use Rattle.ieee.specs.Whole as Whole
 use Rattle.table.specs.Smallest.{smallest}
 use Rattle.rkmc2_threshold.specs.Table.{threshold}
+use Rattle.family.specs.declared.Family.{Family}
+use Rattle.family.specs.declared.Family.TheVariants.{RKC, RKL1, RKL2, RKG1, RKG2, RKMC2, TSRKC2}
 use Rattle.family.specs.declared.Setting.{Setting}
 use Rattle.family.specs.declared.Facts.{Facts}
 use Rattle.family.specs.declared.StageRule.{StageRule}
@@ -17,10 +19,7 @@ use Rattle.family.specs.declared.RowForm.TheVariants.{ChebyshevRow, OrthogonalRo
 use Rattle.family.specs.declared.ErrorForm.TheVariants.{FirstDerivative, BothDerivatives, LastDerivative}
 use Rattle.family.specs.declared.CandidateForm.TheVariants.{LastStage, Combined, WithOlder}
 
-pub data Family : Type 0 where
-  RKC RKL1 RKL2 RKG1 RKG2 RKMC2 TSRKC2 : Family
-
--- numbered 1 to 7 in that order
+-- the families are numbered 1 to 7 in the order of the code's enum
 abbrev pub family_count : ℕ
 family_count = 7
 
@@ -39,10 +38,10 @@ family_of number =
 -- What an attempt runs under: its family, given by number; whether there is a history, a step accepted before; and q, the last accepted step over the present
 -- one, 0 without a history (document 02, CR 6: TSRKC2 alone reads the two).
 abbrev pub setting : ℕ → Bool → Float → Setting
-setting number history q = record { family = number; history = history; quotient = q }
+setting number history q = record { family = family_of number; history = history; quotient = q }
 
 abbrev pub kind : Setting → Family
-kind m = family_of m.family
+kind m = m.family
 
 -- The four families of orthogonal.rs, by the polynomial that each is made of: those of demand 3.
 pub data Orthogonal : Type 0 where

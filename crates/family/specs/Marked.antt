@@ -1,7 +1,9 @@
 -- The marked cases of the stage counts, r to s, with r as a fraction. Document 01, "family.rs: stage counts"; RKG's by document 02, CR 5.
 use Rattle.std.specs.Prelude.{List, [], ◌∷◌, ℕ, Bool, true, ◌&&◌, eqb}
 use Rattle.ieee.specs.Double.{nearest, nought}
-use Rattle.family.specs.Family.{Family, RKC, RKL1, RKL2, RKG1, RKG2, stage_count}
+use Rattle.family.specs.declared.Family.{Family}
+use Rattle.family.specs.declared.Family.TheVariants.{RKC, RKL1, RKL2, RKG1, RKG2}
+use Rattle.family.specs.Family.{stage_count}
 
 pub record Case : Type 0 where
   pub family : Family

@@ -1,35 +1,75 @@
-// family.rs: the families, their permitted stage counts and their stage rules. A family is its number, 1 to 7; any other
-// number is taken as 5.
+// family.rs: the families, their permitted stage counts and their stage rules.
 #![tactic(auto)]
 
-ghost use Rattle.std.specs.Prelude.{◌≡◌, false, ◌+◌, ◌-◌, ◌^◌, min, max};
+ghost use Rattle.std.specs.Prelude.{◌≡◌, false, ◌+◌, ◌-◌, ◌^◌, min};
 ghost use Rattle.ieee.specs.Double.{nought};
 ghost use Rattle.table.specs.Smallest.{smallest};
 ghost use Rattle.rkmc2_threshold.specs.Table.{threshold};
 ghost use Rattle.family.specs.declared.StageRule.TheVariants.{RoundedUp};
 ghost use Rattle.family.specs.Family as spec;
-ghost use Rattle.family.specs.Family.{family_of, keeps_older, before_limits, odd_step, stage_count};
+ghost use Rattle.family.specs.Family.{family_of};
 
 // The largest count of any family, RKMC2's and TSRKC2's.
 pub const MOST_STAGES: u64 = 1000;
 
+#[derive(Clone, Copy, PartialEq, Eq)]
+pub enum Family {
+    RKC,
+    RKL1,
+    RKL2,
+    RKG1,
+    RKG2,
+    RKMC2,
+    TSRKC2,
+}
+
+// Numbered 1 to 7 in that order; any other number is taken as 5.
+impl From<u64> for Family {
+    ghost from_gives = { λ number family. family ≡ family_of number };
+
+    #[tactic(auto, unfolding(crate::specs::Family::family_of))]
+    fn from(number: u64) -> Family {
+        match number {
+            1 => Family::RKC,
+            2 => Family::RKL1,
+            3 => Family::RKL2,
+            4 => Family::RKG1,
+            6 => Family::RKMC2,
+            7 => Family::TSRKC2,
+            _ => Family::RKG2,
+        }
+    }
+}
+
+// Whether a family of this number is carried.
+#[tactic(auto, unfolding(crate::specs::Family::known))]
+pub fn known(number: u64) -> bool
+    ensures { result ≡ spec.known number }
+{
+    matches!(number, 1..=7)
+}
+
 // What an attempt runs under: its family, whether there is a history, a step accepted before, and the quotient q of that step
-// and the present one, 0 without a history. TSRKC2 alone reads the last two.
+// and the present one, 0 without a history. TSRKC2 alone reads the last two. A flag and not an Option: what is proved of the
+// rows and of the candidate is proved of every quotient, beside either flag.
 #[derive(Clone, Copy)]
 pub struct Setting {
-    pub family: u64,
+    pub family: Family,
     pub history: bool,
     pub quotient: f64,
 }
 
-// An attempt of this family without a history.
-pub fn without_history(family: u64) -> Setting
-    ensures { result ≡ spec.setting family false nought }
-{
-    Setting {
-        family,
-        history: false,
-        quotient: 0.0,
+impl Setting {
+    // An attempt of this family without a history.
+    #[tactic(auto, using(crate::proofs::Constants::constants))]
+    pub fn without_history(family: Family) -> Setting
+        ensures { result ≡ record { family = family; history = false; quotient = nought } }
+    {
+        Setting {
+            family,
+            history: false,
+            quotient: 0.0,
+        }
     }
 }
 
@@ -90,23 +130,7 @@ pub struct Facts {
     pub candidate: CandidateForm,
 }
 
-fn rkc() -> Facts
-    ensures { result ≡ spec.facts_of spec.RKC }
-{
-    Facts {
-        smallest: 2,
-        largest: 200,
-        odd_only: false,
-        rule: StageRule::RoundedDown { slope: 1.54 },
-        refuses_more: false,
-        keeps_older: false,
-        row: RowForm::ChebyshevRow,
-        error: ErrorForm::BothDerivatives,
-        candidate: CandidateForm::LastStage,
-    }
-}
-
-// What RKL and RKG share.
+// The facts that RKL and RKG share; the other families say how theirs differ.
 fn orthogonal(smallest: u64, largest: u64, odd_only: bool, rule: StageRule) -> Facts
     ensures { result ≡ spec.orthogonal smallest largest odd_only rule }
 {
@@ -123,41 +147,6 @@ fn orthogonal(smallest: u64, largest: u64, odd_only: bool, rule: StageRule) -> F
     }
 }
 
-fn rkmc2() -> Facts
-    ensures { result ≡ spec.facts_of spec.RKMC2 }
-{
-    Facts {
-        smallest: 3,
-        largest: MOST_STAGES,
-        odd_only: false,
-        rule: StageRule::ByThreshold,
-        refuses_more: false,
-        keeps_older: false,
-        row: RowForm::InitialFirstRow,
-        error: ErrorForm::LastDerivative { over: 10.0 },
-        candidate: CandidateForm::Combined,
-    }
-}
-
-fn tsrkc2() -> Facts
-    ensures { result ≡ spec.facts_of spec.TSRKC2 }
-{
-    Facts {
-        smallest: 2,
-        largest: MOST_STAGES,
-        odd_only: false,
-        rule: StageRule::WithQuotient {
-            slope: 0.759782816506459,
-            bend: 0.598626091572911,
-        },
-        refuses_more: true,
-        keeps_older: true,
-        row: RowForm::PlainRow,
-        error: ErrorForm::LastDerivative { over: 3.0 },
-        candidate: CandidateForm::WithOlder,
-    }
-}
-
 fn rounded_up(offset: f64, slope: f64, shift: f64) -> StageRule
     ensures { result ≡ RoundedUp offset slope shift }
 {
@@ -168,76 +157,8 @@ fn rounded_up(offset: f64, slope: f64, shift: f64) -> StageRule
     }
 }
 
-pub fn facts_of(family: u64) -> Facts
-    ensures { result ≡ spec.facts_of (family_of family) }
-{
-    match family {
-        1 => rkc(),
-        2 => orthogonal(3, 199, true, rounded_up(1.0, 4.0, 1.0)),
-        3 => orthogonal(3, 199, true, rounded_up(9.0, 8.0, 1.0)),
-        // RKG's slopes, here and in the last arm, are half of the Rust's.
-        4 => orthogonal(2, 200, false, rounded_up(9.0, 8.0, 3.0)),
-        6 => rkmc2(),
-        7 => tsrkc2(),
-        _ => orthogonal(3, 200, false, rounded_up(25.0, 12.0, 3.0)),
-    }
-}
-
-// Whether a family of this number is carried.
-pub fn known(family: u64) -> bool
-    ensures { result ≡ spec.known family }
-{
-    if family < 1 {
-        return false;
-    }
-    family <= 7
-}
-
-// Whether the family keeps the state accepted before the present one.
-pub fn keeps_older(family: u64) -> bool
-    ensures { result ≡ keeps_older (family_of family) }
-{
-    let own = facts_of(family);
-    own.keeps_older
-}
-
-// Whether the family may run s stages.
-pub fn permitted(family: u64, s: u64) -> bool
-    ensures { result ≡ spec.permitted (family_of family) s }
-{
-    let own = facts_of(family);
-    if s < own.smallest {
-        return false;
-    }
-    if s > own.largest {
-        return false;
-    }
-    if own.odd_only {
-        return s % 2 == 1;
-    }
-    true
-}
-
-fn larger(a: u64, b: u64) -> u64
-    ensures { result ≡ max a b }
-{
-    if a < b { b } else { a }
-}
-
-fn smaller(a: u64, b: u64) -> u64
-    ensures { result ≡ min a b }
-{
-    if a < b { a } else { b }
-}
-
-// One more, or the largest u64.
-fn one_more(m: u64) -> u64
-    ensures { result ≡ min (m + 1) (2 ^ 64 - 1) }
-{
-    if m < 0xffff_ffff_ffff_ffff { m + 1 } else { m }
-}
-
-// The smallest count from 3 to 999 whose threshold is at least r, by halving; else 1000.
+// The smallest count from 3 to 999 whose threshold is at least r, else 1000. By halving: std's searches are of slices, and a
+// threshold is read by a function.
 fn by_threshold(r: f64) -> u64
     ensures { result ≡ smallest threshold r 997 3 }
 {
@@ -255,98 +176,145 @@ fn by_threshold(r: f64) -> u64
     low
 }
 
-// The whole number before limits, or the largest u64 where it passes that.
-fn by_rule(rule: StageRule, q: f64, r: f64) -> u64
-    ensures { result ≡ min (spec.by_rule rule q r) (2 ^ 64 - 1) }
-{
-    match rule {
-        StageRule::RoundedDown { slope } => {
-            one_more(ieee::saturating_u64(ieee::floor(ieee::sqrt(slope * r + 1.0))))
-        }
-        StageRule::RoundedUp {
-            offset,
-            slope,
-            shift,
-        } => {
-            let root = ieee::sqrt(offset + slope * r);
-            ieee::saturating_u64(ieee::ceil((root - shift) * 0.5))
-        }
-        StageRule::ByThreshold => by_threshold(r),
-        StageRule::WithQuotient { slope, bend } => {
-            let inner = ieee::sqrt(1.0 + q * (q - bend));
-            let root = ieee::sqrt(1.0 + slope * r * (1.0 - q + inner));
-            one_more(ieee::saturating_u64(ieee::floor(root)))
+impl StageRule {
+    // The r that the rule takes: a NaN and a negative one count as 0, but in TSRKC2.
+    #[tactic(auto, unfolding(crate::specs::Family::radius_for))]
+    fn radius(self, r: f64) -> f64
+        ensures { result ≡ spec.radius_for self r }
+    {
+        match self {
+            StageRule::WithQuotient { .. } => r,
+            _ => ieee::max(r, 0.0),
         }
     }
-}
 
-fn before_limits(family: u64, q: f64, r: f64) -> u64
-    ensures { result ≡ min (before_limits (family_of family) q r) (2 ^ 64 - 1) }
-{
-    let own = facts_of(family);
-    let rule = own.rule;
-    by_rule(rule, q, r)
-}
-
-// An even number goes up by one, where the family runs odd counts only.
-fn odd_step(family: u64, stages: u64) -> u64
-    ensures { result ≡ odd_step (family_of family) stages }
-{
-    let own = facts_of(family);
-    if own.odd_only {
-        if stages % 2 == 0 {
-            return stages + 1;
+    // The whole number before limits, or the largest u64 where it passes that.
+    #[tactic(auto, using(crate::proofs::Constants::constants, crate::proofs::Saturated::cast_kept, crate::proofs::ByThreshold::rule_kept), unfolding(crate::specs::Family::by_rule))]
+    fn count(self, q: f64, r: f64) -> u64
+        ensures { result ≡ min (spec.by_rule self q r) (2 ^ 64 - 1) }
+    {
+        match self {
+            StageRule::RoundedDown { slope } => {
+                ieee::saturating_u64(ieee::floor(ieee::sqrt(slope * r + 1.0))).saturating_add(1)
+            }
+            StageRule::RoundedUp {
+                offset,
+                slope,
+                shift,
+            } => {
+                let root = ieee::sqrt(offset + slope * r);
+                ieee::saturating_u64(ieee::ceil((root - shift) * 0.5))
+            }
+            StageRule::ByThreshold => by_threshold(r),
+            StageRule::WithQuotient { slope, bend } => {
+                let inner = ieee::sqrt(1.0 + q * (q - bend));
+                let root = ieee::sqrt(1.0 + slope * r * (1.0 - q + inner));
+                ieee::saturating_u64(ieee::floor(root)).saturating_add(1)
+            }
         }
     }
-    stages
 }
 
-fn limited(family: u64, stages: u64) -> u64
-    ensures { result ≡ spec.limited (family_of family) stages }
-{
-    let own = facts_of(family);
-    let from_smallest = larger(stages, own.smallest);
-    smaller(odd_step(family, from_smallest), own.largest)
-}
-
-// The r that a rule takes: a NaN and a negative one count as 0, but in TSRKC2.
-fn radius_for(rule: StageRule, r: f64) -> f64
-    ensures { result ≡ spec.radius_for rule r }
-{
-    match rule {
-        StageRule::RoundedDown { slope: _ } => ieee::max(r, 0.0),
-        StageRule::RoundedUp {
-            offset: _,
-            slope: _,
-            shift: _,
-        } => ieee::max(r, 0.0),
-        StageRule::ByThreshold => ieee::max(r, 0.0),
-        StageRule::WithQuotient { slope: _, bend: _ } => r,
+impl Family {
+    #[tactic(auto, using(crate::proofs::Constants::constants, crate::proofs::Constants::factors), unfolding(crate::specs::Family::facts_of))]
+    pub fn facts(self) -> Facts
+        ensures { result ≡ spec.facts_of self }
+    {
+        match self {
+            Family::RKC => Facts {
+                row: RowForm::ChebyshevRow,
+                error: ErrorForm::BothDerivatives,
+                ..orthogonal(2, 200, false, StageRule::RoundedDown { slope: 1.54 })
+            },
+            Family::RKL1 => orthogonal(3, 199, true, rounded_up(1.0, 4.0, 1.0)),
+            Family::RKL2 => orthogonal(3, 199, true, rounded_up(9.0, 8.0, 1.0)),
+            // RKG's slopes are half of the Rust's.
+            Family::RKG1 => orthogonal(2, 200, false, rounded_up(9.0, 8.0, 3.0)),
+            Family::RKG2 => orthogonal(3, 200, false, rounded_up(25.0, 12.0, 3.0)),
+            Family::RKMC2 => Facts {
+                row: RowForm::InitialFirstRow,
+                error: ErrorForm::LastDerivative { over: 10.0 },
+                candidate: CandidateForm::Combined,
+                ..orthogonal(3, MOST_STAGES, false, StageRule::ByThreshold)
+            },
+            Family::TSRKC2 => Facts {
+                refuses_more: true,
+                keeps_older: true,
+                row: RowForm::PlainRow,
+                error: ErrorForm::LastDerivative { over: 3.0 },
+                candidate: CandidateForm::WithOlder,
+                ..orthogonal(
+                    2,
+                    MOST_STAGES,
+                    false,
+                    StageRule::WithQuotient {
+                        slope: 0.759782816506459,
+                        bend: 0.598626091572911,
+                    },
+                )
+            },
+        }
     }
-}
 
-fn number_of_stages(family: u64, q: f64, r: f64) -> u64
-    ensures { result ≡ min (spec.number_of_stages (family_of family) q r) (2 ^ 64 - 1) }
-{
-    let own = facts_of(family);
-    let rule = own.rule;
-    before_limits(family, q, radius_for(rule, r))
-}
-
-// How many stages the family runs for the quotient q and the scaled radius |step| * radius.
-pub fn stages(family: u64, q: f64, scaled_radius: f64) -> u64
-    ensures { result ≡ stage_count (family_of family) q scaled_radius }
-{
-    limited(family, number_of_stages(family, q, scaled_radius))
-}
-
-// Whether they would be more than the largest count, in a family that refuses such a need.
-pub fn exceeds(family: u64, q: f64, scaled_radius: f64) -> bool
-    ensures { result ≡ spec.exceeds (family_of family) q scaled_radius }
-{
-    let own = facts_of(family);
-    if own.refuses_more {
-        return own.largest < number_of_stages(family, q, scaled_radius);
+    // Whether the family keeps the state accepted before the present one.
+    #[tactic(auto, unfolding(crate::specs::Family::keeps_older))]
+    pub fn keeps_older(self) -> bool
+        ensures { result ≡ spec.keeps_older self }
+    {
+        self.facts().keeps_older
     }
-    false
+
+    // Whether the family may run s stages.
+    #[tactic(auto, unfolding(crate::specs::Family::permitted, crate::specs::Family::smallest_count, crate::specs::Family::largest_count, crate::specs::Family::odd_only))]
+    pub fn permits(self, s: u64) -> bool
+        ensures { result ≡ spec.permitted self s }
+    {
+        let own = self.facts();
+        own.smallest <= s && s <= own.largest && (!own.odd_only || s % 2 == 1)
+    }
+
+    // An even number goes up by one, where the family runs odd counts only.
+    #[tactic(auto, unfolding(crate::specs::Family::odd_step, crate::specs::Family::odd_only))]
+    fn odd_step(self, stages: u64) -> u64
+        ensures { result ≡ spec.odd_step self stages }
+    {
+        if self.facts().odd_only && stages % 2 == 0 {
+            stages + 1
+        } else {
+            stages
+        }
+    }
+
+    #[tactic(auto, unfolding(crate::specs::Family::limited, crate::specs::Family::smallest_count, crate::specs::Family::largest_count))]
+    fn limited(self, stages: u64) -> u64
+        ensures { result ≡ spec.limited self stages }
+    {
+        let own = self.facts();
+        self.odd_step(stages.max(own.smallest)).min(own.largest)
+    }
+
+    #[tactic(auto, unfolding(crate::specs::Family::before_limits))]
+    fn number_of_stages(self, q: f64, r: f64) -> u64
+        ensures { result ≡ min (spec.number_of_stages self q r) (2 ^ 64 - 1) }
+    {
+        let rule = self.facts().rule;
+        rule.count(q, rule.radius(r))
+    }
+
+    // How many stages the family runs for the quotient q and the scaled radius |step| * radius.
+    #[tactic(auto, using(crate::proofs::Saturated::limited_saturated), unfolding(crate::specs::Family::stage_count))]
+    pub fn stages(self, q: f64, scaled_radius: f64) -> u64
+        ensures { result ≡ spec.stage_count self q scaled_radius }
+    {
+        self.limited(self.number_of_stages(q, scaled_radius))
+    }
+
+    // Whether they would be more than the largest count, in a family that refuses such a need.
+    #[tactic(auto, using(crate::proofs::Saturated::exceeds_saturated), unfolding(crate::specs::Family::exceeds, crate::specs::Family::largest_count))]
+    pub fn exceeds(self, q: f64, scaled_radius: f64) -> bool
+        ensures { result ≡ spec.exceeds self q scaled_radius }
+    {
+        let own = self.facts();
+        own.refuses_more && own.largest < self.number_of_stages(q, scaled_radius)
+    }
 }

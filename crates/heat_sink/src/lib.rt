@@ -4,7 +4,8 @@
 ghost use Rattle.std.specs.Prelude.{◌≡◌, ◌<◌, length};
 ghost use Rattle.heat_sink.specs.Model as spec;
 
-// The family that advances it, how many temperatures the chain has, and the model's constants.
+// The family that advances it, by the number that the engine's calls take, how many temperatures the chain has, and the
+// model's constants.
 #[derive(Clone, Copy)]
 pub struct Inverter {
     pub family: u64,
@@ -18,15 +19,15 @@ pub struct Inverter {
 }
 
 // What leaves link i: to the next link, or from the last one to the air.
+#[tactic(auto, unfolding(crate::specs::Model::out_of, crate::specs::Model::along))]
 fn out_of(m: Inverter, point: &[f64], i: usize) -> f64
     requires { i < length point.now }
     ensures { result ≡ spec.out_of m point.now i }
 {
-    let j = i + 1;
-    if j < point.len() {
-        return m.conduct * (point[i] - point[j]);
+    match point.get(i + 1) {
+        Some(next) => m.conduct * (point[i] - *next),
+        None => m.cool * (point[i] - m.ambient),
     }
-    m.cool * (point[i] - m.ambient)
 }
 
 // What leaves a link enters the next.
@@ -35,11 +36,9 @@ pub fn rates(m: Inverter, reading: f64, point: &[f64], rates: &mut [f64])
     ensures { rates.new ≡ spec.rates m point.now reading }
 {
     let mut into = m.heat * reading;
-    let mut i = 0;
-    while i < point.len() {
+    for (i, rate) in rates.iter_mut().enumerate() {
         let out = out_of(m, point, i);
-        rates[i] = into - out;
+        *rate = into - out;
         into = out;
-        i += 1;
     }
 }

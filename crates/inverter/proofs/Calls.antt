@@ -1,7 +1,7 @@
 -- The calls of a minute, one after another, by their definitions. Assumes nothing.
 use mathlib.Core.Path.{◌≡◌, refl, sym, ap, subst, ◌∙◌}
 use mathlib.Core.Bool.{true, false, false≢true}
-use Prim.Native.Nat.{ℕ, zero, suc, ◌-◌, ◌<◌}
+use Prim.Native.Nat.{ℕ, zero, suc, ◌+◌, ◌-◌, ◌<◌}
 use native.Mathlib.Omega.{arith}
 use lib.Ieee.{Float}
 use lib.Ieee.Scale.{finite}
@@ -16,6 +16,14 @@ use Rattle.inverter.specs.Day.{time_of, arguments, called, begun, reading_at, go
 pub asked_vector : {a : Answer} {time : Float} {vector : ℕ} → a ≡ Evaluate time vector → asked a < 11 → vector < 11
 unfolding asked
 asked_vector e h = subst (λ (k : ℕ). k < 11) (ap asked e) h
+
+pub no_call_else : (a : Answer) → ((time : Float) (vector : ℕ) → a ≡ Evaluate time vector → ⊥) → (a ≡ Ready → ⊥) → asks_no_call a ≡ true
+unfolding asks_no_call
+no_call_else (Evaluate time vector) e r = absurd (e time vector refl)
+no_call_else (Finished figures) e r = refl
+no_call_else Ready e r = absurd (r refl)
+no_call_else (Refused number) e r = refl
+no_call_else Empty e r = refl
 
 -- ---- the first call
 
@@ -61,12 +69,11 @@ module _ (m : Inverter) (minute : ℕ) (reading upcoming : Float) where
   unfolding driven
   driven_none c = refl
 
-  pub driven_turn : (k : ℕ) (c : Called) → 0 < k → driven m minute reading upcoming k c
-      ≡ driven m minute reading upcoming (k - 1) (next m minute reading upcoming c)
+  pub driven_turn : (k i : ℕ) (c : Called) → i < k → driven m minute reading upcoming (k - i) c
+      ≡ driven m minute reading upcoming (k - (i + 1)) (next m minute reading upcoming c)
   unfolding driven
-  driven_turn zero c p = absurd (omega arith)
-  driven_turn (suc k) c p = let e : k ≡ suc k - 1 = omega arith in
-      ap (λ (j : ℕ). driven m minute reading upcoming j (next m minute reading upcoming c)) e
+  driven_turn k i c h = let e : k - i ≡ suc (k - (i + 1)) = omega arith in
+      ap (λ (j : ℕ). driven m minute reading upcoming j c) e
 
   -- ---- a minute
 

@@ -21,8 +21,7 @@ use Rattle.driver.specs.declared.Phase.TheVariants as P
 use Rattle.driver.specs.declared.Answer.{Answer}
 use Rattle.driver.specs.declared.Answer.TheVariants.{Evaluate, Finished, Ready, Refused, Empty}
 use Rattle.driver.specs.declared.Record.{Record}
-use Rattle.driver.specs.declared.Need.{Need}
-use Rattle.driver.specs.declared.Need.TheVariants.{Met, Unmet}
+use Rattle.driver.specs.Calls.{Need, Met, Unmet}
 use Rattle.driver.specs.Calls as calls
 use Rattle.driver.specs.Calls.{Held, Called, Step, Test, guarded}
 use Rattle.driver.proofs.Sizes.{both}
@@ -209,10 +208,9 @@ module _ (m : Inverter) (minute : ℕ) where
     unfolding next
     next_follows k c f = on k c.answer c.held f
 
-    pub turn_follows : (k : ℕ) (c : Called) → 0 < k → Follows k c → Follows (k - 1) (next m minute reading upcoming c)
-    turn_follows zero c h f = absurd (omega arith)
-    turn_follows (suc k) c h f = let e : k ≡ suc k - 1 = omega arith in
-        subst (λ (j : ℕ). Follows j (next m minute reading upcoming c)) e (next_follows k c f)
+    pub turn_follows : (k i : ℕ) (c : Called) → i < k → Follows (k - i) c → Follows (k - (i + 1)) (next m minute reading upcoming c)
+    turn_follows k i c h f = let e : k - i ≡ suc (k - (i + 1)) = omega arith in
+        next_follows (k - (i + 1)) c (subst (λ (j : ℕ). Follows j c) e f)
 
     some_left : (p : Phase) (r : Record) → 1 ≤ calls_left p r
     unfolding calls_left

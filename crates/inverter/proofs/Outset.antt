@@ -1,22 +1,17 @@
 -- An area of zeros with the starting temperature as its kept state is the area of the outset, and there is room for it. Assumes nothing.
-use mathlib.Core.Path.{◌≡◌, refl, ap}
-use mathlib.Core.List.{List, ◌∷◌}
-use Prim.Native.Nat.{ℕ, zero, suc, ◌*◌, ◌≤◌}
-use native.Mathlib.Nat.{le_of_suc-le-suc, not-suc-le-zero}
+use mathlib.Core.Path.{◌≡◌}
+use mathlib.Core.List.{List}
+use Prim.Native.Nat.{ℕ, ◌*◌, ◌≤◌}
 use native.Mathlib.Omega.{arith}
-use lib.ListN.{length, take, replicate}
+use lib.ListN.{length, replicate}
 use lib.Ieee.{Float}
 use Rattle.ieee.specs.Double.{nought}
-use Rattle.family.specs.Family.{Family, family_of}
+use Rattle.family.specs.declared.Family.{Family}
+use Rattle.family.specs.Family.{family_of}
 use Rattle.workspace.specs.Vectors.{◌with◌≔◌, vector_count, unpack, state}
 use Rattle.workspace.proofs.Areas.{at_most_twelve, packed}
 use Rattle.heat_sink.specs.declared.Inverter.{Inverter}
 use Rattle.inverter.specs.Day.{area_size, largest_area, first_area}
-
-pub take_replicate : (k n : ℕ) (x : Float) → k ≤ n → take k (replicate n x) ≡ replicate k x
-take_replicate zero n x h = refl
-take_replicate (suc k) zero x h = absurd (not-suc-le-zero h)
-take_replicate (suc k) (suc n) x h = ap (λ (l : List Float). x ∷ l) (take_replicate k n x (le_of_suc-le-suc h))
 
 -- the room for it is enough, whatever the family
 pub has_room : (f : Family) {k : ℕ} (n : ℕ) → k ≡ vector_count f → n ≤ 512 → k * n ≤ largest_area

@@ -1,6 +1,6 @@
 -- A day of one inverter, over the calls of the engine: the heat sink's temperatures a minute at a time, each minute heated by its reading, and how
 -- many minutes end with the junction above its rated temperature. ⊘ is an operation on doubles: it rounds.
-use Rattle.std.specs.Prelude.{ℕ, zero, suc, ◌+◌, ◌*◌, Bool, true, false, cond, not, ◌&&◌, List, [], ◌∷◌, ◌++◌, ◌≡◌, eqb, length, get_or, replicate, Float}
+use Rattle.std.specs.Prelude.{ℕ, zero, suc, ◌+◌, ◌*◌, Bool, true, false, cond, not, ◌&&◌, List, [], ◌∷◌, ◌++◌, ◌≡◌, eqb, length, get_or, map, replicate, Float, Result, Ok, Err}
 use Rattle.std.specs.Float.{nan}
 use Rattle.std.specs.Float.Ieee.{lt}
 use Rattle.std.specs.Float.Ieee.Scale.{finite}
@@ -19,9 +19,10 @@ use Rattle.driver.specs.Promises.{new_record, holding}
 use Rattle.heat_sink.specs.declared.Inverter.{Inverter}
 use Rattle.inverter.specs.declared.Count.{Count}
 use Rattle.inverter.specs.declared.Total.{Total}
-use Rattle.inverter.specs.declared.DayResult.{DayResult}
-use Rattle.inverter.specs.declared.DayResult.TheVariants.{Day, Malformed}
+use Rattle.inverter.specs.declared.Minute.{Minute}
+use Rattle.sheet.specs.declared.Malformed.{Malformed}
 use Rattle.sheet.specs.Text as Text
+use Rattle.sheet.specs.Text.{malformed}
 use Rattle.heat_sink.specs.Model.{rates}
 
 -- ---- a minute
@@ -130,6 +131,12 @@ abbrev pub minutes : List ℕ → List Float → List ℕ → List ℕ → List 
 minutes refusals junctions stages passes scaled_radii =
     record { refusals = refusals; junctions = junctions; stages = stages; passes = passes; scaled_radii = scaled_radii }
 
+-- the five lists of the minutes that the code keeps one after another
+abbrev pub columns : List Minute → Minutes
+columns ms =
+    minutes (map (λ (m : Minute). m.refusal) ms) (map (λ (m : Minute). m.junction) ms) (map (λ (m : Minute). m.stages) ms)
+    (map (λ (m : Minute). m.passes) ms) (map (λ (m : Minute). m.scaled_radius) ms)
+
 -- each of the lists has so many entries
 pub record Entries (count : ℕ) (lists : Minutes) : Type 0 where
   pub a_number_each : length lists.refusals ≡ count
@@ -203,25 +210,36 @@ total t = total_of t.count
 
 -- the result, and what the lists are left as
 pub record Report : Type 0 where
-  pub result : DayResult
+  pub result : Result Total Malformed
   pub lists : Minutes
 
 -- a text that is no day leaves the lists as they were before
 unfoldable pub reported : Text.Parsed → Minutes → Report
 reported (Text.Day m readings) before = let t = run m 0 readings (outset (first_area m)) in
-    record { result = Day (total t); lists = t.lists }
-reported (Text.BadAt line) before = record { result = Malformed line; lists = before }
+    record { result = Ok (total t); lists = t.lists }
+reported (Text.BadAt line) before = record { result = Err (malformed line); lists = before }
 
 -- the report of a text
 unfoldable pub day : List ℕ → Minutes → Report
 day text before = reported (Text.parsed text) before
 
 -- the result that the code gives and the five lists that it leaves are those of the report
-pub record Reports (promised : Report) (given : DayResult) (left : Minutes) : Type 0 where
+pub record Reports (promised : Report) (given : Result Total Malformed) (left : Minutes) : Type 0 where
   pub results : given ≡ promised.result
   pub lists : left ≡ promised.lists
 
 -- ---- the code's values
+
+-- what is told of a minute
+unfoldable pub told : Answer → Float → Minute
+told a temperature = let figures = figures_in a in
+    record {
+      refusal = refusal a;
+      junction = temperature;
+      stages = figures.stages;
+      passes = figures.passes;
+      scaled_radius = figures.scaled_radius;
+    }
 
 -- the total that the code gives and the five lists that it leaves
 pub record GivesTotal (t : SoFar) (given : Total) (left : Minutes) : Type 0 where

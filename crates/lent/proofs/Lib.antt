@@ -1,5 +1,3 @@
 pub mod Phases
-pub mod Standing
-pub mod Handing
 pub mod Cells
 pub mod Told

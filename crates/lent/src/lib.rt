@@ -1,21 +1,39 @@
 // The record and the answer as they are lent to C: whole numbers and doubles, read and written in place.
 #![tactic(auto)]
 
-ghost use Rattle.std.specs.Prelude.{◌≡◌, length};
+ghost use Rattle.std.specs.Prelude.{◌≡◌};
 ghost use Rattle.driver.specs.declared.Staged.TheVariants.{On, OnByTheta, Ended, NotFinite};
 ghost use Rattle.driver.specs.Calls.{no_figures};
 ghost use Rattle.lent.specs.Numbers as numbers;
-ghost use Rattle.lent.specs.Lent.{wholes_long, doubles_long, arguments_in, iteration_in, polynomials_in, staging_in, history_in, lent, place_of, left_with};
+ghost use Rattle.lent.specs.Lent.{arguments_in, iteration_in, polynomials_in, staging_in, history_in, lent, place_of, left_with};
 ghost use Rattle.lent.specs.Lent.{staged_outcome};
 
 use coefficients::{Polynomials, Recurrence};
-use driver::{History, Iteration, Next, Phase, Record, Staged, Staging};
-use workspace::Arguments;
+use driver::{History, Iteration, Next, Phase, Record, Refusal, Staged, Staging};
+use workspace::{Arguments, Vector};
 
 // How many whole numbers and how many doubles the record is lent as.
 pub const WHOLES: usize = 8;
 
 pub const DOUBLES: usize = 21;
+
+// The codes of an answer.
+const EVALUATE: u64 = 1;
+
+const FINISHED: u64 = 2;
+
+const READY: u64 = 3;
+
+const REFUSED: u64 = 4;
+
+const EMPTY: u64 = 5;
+
+// The phases that a reply to a stage's evaluation leaves: driver's numbers, at no cost there.
+const STAGE_PHASE: u64 = Phase::Stage as u64;
+
+const CANDIDATE_PHASE: u64 = Phase::Candidate as u64;
+
+const EMPTY_PHASE: u64 = Phase::Empty as u64;
 
 // Evaluate (code 1) vector `number` at `time`; finished (2) with `norm`, `stages`, `passes` and `scaled_radius`; ready (3);
 // refused (4) with `number`; empty (5). What an answer does not carry is 0.
@@ -31,7 +49,9 @@ pub struct Answer {
     pub time: f64,
 }
 
-// By driver's numbers. A number above 7 is a phase in which only start is allowed.
+// By driver's numbers. A number above 7 is a phase in which only start is allowed: what a number of the caller's means is said
+// here and not in driver, where a `From` would have to stand.
+#[tactic(auto, unfolding(crate::specs::Numbers::phase_of))]
 fn phase_of(number: u64) -> Phase
     ensures { result ≡ numbers.phase_of number }
 {
@@ -48,6 +68,7 @@ fn phase_of(number: u64) -> Phase
 }
 
 // The arguments that driver's attempt is given. `adaptive` is a no at 0, else a yes.
+#[tactic(auto, unfolding(crate::specs::Numbers::brought))]
 pub fn brought(
     time: f64,
     step: f64,
@@ -82,37 +103,46 @@ fn without_figures(code: u64, number: u64, time: f64) -> Answer
     }
 }
 
-fn in_numbers(answer: driver::Answer) -> Answer
-    ensures { result ≡ numbers.in_numbers answer }
-{
-    match answer {
-        driver::Answer::Evaluate { time, vector } => without_figures(1, vector as u64, time),
-        driver::Answer::Finished(figures) => Answer {
-            code: 2,
-            number: 0,
-            time: 0.0,
-            norm: figures.norm,
-            stages: figures.stages,
-            passes: figures.passes,
-            scaled_radius: figures.scaled_radius,
-        },
-        driver::Answer::Ready => without_figures(3, 0, 0.0),
-        driver::Answer::Refused(number) => without_figures(4, number, 0.0),
-        driver::Answer::Empty => without_figures(5, 0, 0.0),
+impl From<driver::Answer> for Answer {
+    #[tactic(auto, unfolding(driver::specs::Answers::case_number, driver::specs::Calls::figures_in, crate::specs::Numbers::number_in, crate::specs::Numbers::time_in))]
+    fn from(answer: driver::Answer) -> Answer
+        ensures { result ≡ numbers.in_numbers answer }
+    {
+        match answer {
+            driver::Answer::Evaluate { time, vector } => without_figures(
+                EVALUATE,
+                vector as u64,
+                time,
+            ),
+            driver::Answer::Finished(figures) => Answer {
+                code: FINISHED,
+                number: 0,
+                time: 0.0,
+                norm: figures.norm,
+                stages: figures.stages,
+                passes: figures.passes,
+                scaled_radius: figures.scaled_radius,
+            },
+            driver::Answer::Ready => without_figures(READY, 0, 0.0),
+            driver::Answer::Refused(number) => without_figures(REFUSED, number, 0.0),
+            driver::Answer::Empty => without_figures(EMPTY, 0, 0.0),
+        }
     }
 }
 
-// Turned away with 1 to 8: the record stands.
+// Refused with 1 to 8: the record stands.
+#[tactic(auto, unfolding(crate::specs::Numbers::stands))]
 fn stands(answer: Answer) -> bool
     ensures { result ≡ numbers.stands answer }
 {
-    if answer.code != 4 {
-        return false;
-    }
-    if answer.number == 0 {
-        return false;
-    }
-    answer.number <= 8
+    matches!(
+        answer,
+        Answer {
+            code: REFUSED,
+            number: 1..=8,
+            ..
+        }
+    )
 }
 
 // ---- reading, in the order of specs/Lent, a part at a time
@@ -155,14 +185,13 @@ fn read_polynomials(doubles: &[f64; DOUBLES]) -> Polynomials
 fn read_staging(wholes: &[u64; WHOLES], doubles: &[f64; DOUBLES]) -> Staging
     ensures { result ≡ staging_in wholes.now doubles.now }
 {
-    let polynomials = read_polynomials(doubles);
     Staging {
         stages: wholes[5],
         stage: wholes[6],
         recurrence: Recurrence {
             theta_previous: doubles[15],
             theta_previous_two: doubles[17],
-            polynomials,
+            polynomials: read_polynomials(doubles),
         },
     }
 }
@@ -178,22 +207,18 @@ fn read_history(wholes: &[u64; WHOLES], doubles: &[f64; DOUBLES]) -> History
 }
 
 // The record that driver's calls are handed.
+#[tactic(auto, unfolding(crate::specs::Numbers::meaning))]
 pub fn read(wholes: &[u64; WHOLES], doubles: &[f64; DOUBLES]) -> Record
     ensures { result ≡ numbers.meaning (lent wholes.now doubles.now) }
 {
-    let phase = phase_of(wholes[2]);
-    let arguments = read_arguments(wholes, doubles);
-    let iteration = read_iteration(wholes, doubles);
-    let staging = read_staging(wholes, doubles);
-    let history = read_history(wholes, doubles);
     Record {
         family: wholes[0],
         n: wholes[1] as usize,
-        phase,
-        arguments,
-        iteration,
-        staging,
-        history,
+        phase: phase_of(wholes[2]),
+        arguments: read_arguments(wholes, doubles),
+        iteration: read_iteration(wholes, doubles),
+        staging: read_staging(wholes, doubles),
+        history: read_history(wholes, doubles),
     }
 }
 
@@ -202,24 +227,17 @@ pub fn read(wholes: &[u64; WHOLES], doubles: &[f64; DOUBLES]) -> Record
 pub fn place(wholes: &[u64; WHOLES]) -> Record
     ensures { result ≡ place_of wholes.now }
 {
-    let phase = phase_of(wholes[2]);
     let none = driver::new_record();
-    let arguments = none.arguments;
-    let iteration = none.iteration;
-    let recurrence = none.staging.recurrence;
-    let history = none.history;
     Record {
         family: wholes[0],
         n: wholes[1] as usize,
-        phase,
-        arguments,
-        iteration,
+        phase: phase_of(wholes[2]),
         staging: Staging {
             stages: wholes[5],
             stage: wholes[6],
-            recurrence,
+            ..none.staging
         },
-        history,
+        ..none
     }
 }
 
@@ -230,34 +248,25 @@ pub fn place(wholes: &[u64; WHOLES]) -> Record
 fn history_number(found: u64, present: bool) -> u64
     ensures { result ≡ numbers.history_number found present }
 {
-    if present {
-        if found == 0 {
-            return 1;
-        }
-        return found;
-    }
-    0
+    if present { found.max(1) } else { 0 }
 }
 
 // Writes the whole record.
+#[tactic(auto, unfolding(crate::specs::Numbers::written))]
 fn write(wholes: &mut [u64; WHOLES], doubles: &mut [f64; DOUBLES], adaptive: u64, r: Record)
-    ensures { lent wholes.new doubles.new
-        ≡ numbers.written adaptive (lent wholes.old doubles.old).history.present r }
+    ensures { lent wholes.new doubles.new ≡ numbers.written adaptive (lent wholes.old doubles.old).history.present r }
 {
-    let kept = r.phase;
-    let phase = driver::phase_number(kept);
     let c = r.staging.recurrence;
     let p = c.polynomials;
-    let history = history_number(wholes[7], r.history.present);
     *wholes = [
         r.family,
         r.n as u64,
-        phase,
+        driver::phase_number(r.phase),
         adaptive,
         r.iteration.pass,
         r.staging.stages,
         r.staging.stage,
-        history,
+        history_number(wholes[7], r.history.present),
     ];
     *doubles = [
         r.arguments.time,
@@ -285,6 +294,7 @@ fn write(wholes: &mut [u64; WHOLES], doubles: &mut [f64; DOUBLES], adaptive: u64
 }
 
 // Leaves what driver's call handed back, with this number for `adaptive`, and answers.
+#[tactic(auto, unfolding(crate::specs::Numbers::handed_back))]
 pub fn leave_with(
     wholes: &mut [u64; WHOLES],
     doubles: &mut [f64; DOUBLES],
@@ -294,13 +304,10 @@ pub fn leave_with(
     ensures { left_with result wholes.new doubles.new ≡ numbers.handed_back (lent wholes.old doubles.old) adaptive
         (numbers.in_numbers next.answer) next.«record» }
 {
-    let answer = next.answer;
-    let given = in_numbers(answer);
-    if stands(given) {
-        return given;
+    let given = Answer::from(next.answer);
+    if !stands(given) {
+        write(wholes, doubles, adaptive, next.record);
     }
-    let after = next.record;
-    write(wholes, doubles, adaptive, after);
     given
 }
 
@@ -314,16 +321,19 @@ pub fn leave(wholes: &mut [u64; WHOLES], doubles: &mut [f64; DOUBLES], next: Nex
 }
 
 // The next stage's evaluation at this time and position. All else of the record stands, and is not written back.
-fn ask_stage(wholes: &mut [u64], doubles: &mut [f64], time: f64, staging: Staging) -> Answer
-    requires wholes_len { length wholes.old ≡ wholes_long }
-    requires doubles_len { length doubles.old ≡ doubles_long }
+fn ask_stage(
+    wholes: &mut [u64; WHOLES],
+    doubles: &mut [f64; DOUBLES],
+    time: f64,
+    staging: Staging,
+) -> Answer
     ensures { left_with result wholes.new doubles.new ≡ staged_outcome (lent wholes.old doubles.old)
         (On time staging) }
 {
-    let answer = without_figures(1, workspace::PREVIOUS_ONE as u64, time);
+    let answer = without_figures(EVALUATE, Vector::PreviousOne as u64, time);
     let c = staging.recurrence;
     let p = c.polynomials;
-    wholes[2] = 4;
+    wholes[2] = STAGE_PHASE;
     wholes[5] = staging.stages;
     wholes[6] = staging.stage;
     doubles[2] = p.value_previous;
@@ -344,19 +354,17 @@ fn ask_stage(wholes: &mut [u64], doubles: &mut [f64], time: f64, staging: Stagin
 
 // The same where of the position only the stage and theta move.
 fn ask_stage_by_theta(
-    wholes: &mut [u64],
-    doubles: &mut [f64],
+    wholes: &mut [u64; WHOLES],
+    doubles: &mut [f64; DOUBLES],
     time: f64,
     stage: u64,
     theta: f64,
 ) -> Answer
-    requires wholes_len { length wholes.old ≡ wholes_long }
-    requires doubles_len { length doubles.old ≡ doubles_long }
     ensures { left_with result wholes.new doubles.new ≡ staged_outcome (lent wholes.old doubles.old)
         (OnByTheta time stage theta) }
 {
-    let answer = without_figures(1, workspace::PREVIOUS_ONE as u64, time);
-    wholes[2] = 4;
+    let answer = without_figures(EVALUATE, Vector::PreviousOne as u64, time);
+    wholes[2] = STAGE_PHASE;
     wholes[6] = stage;
     doubles[17] = doubles[15];
     doubles[15] = theta;
@@ -364,23 +372,21 @@ fn ask_stage_by_theta(
 }
 
 // The candidate's evaluation at this time. Only the phase is written.
-fn ask_candidate(wholes: &mut [u64], doubles: &[f64; DOUBLES], time: f64) -> Answer
-    requires { length wholes.old ≡ wholes_long }
+fn ask_candidate(wholes: &mut [u64; WHOLES], doubles: &[f64; DOUBLES], time: f64) -> Answer
     ensures { left_with result wholes.new doubles.now
         ≡ staged_outcome (lent wholes.old doubles.now) (Ended time) }
 {
-    let answer = without_figures(1, workspace::CANDIDATE as u64, time);
-    wholes[2] = 5;
+    let answer = without_figures(EVALUATE, Vector::Candidate as u64, time);
+    wholes[2] = CANDIDATE_PHASE;
     answer
 }
 
 // A candidate that is not finite: the phase is emptied.
-fn refuse_candidate(wholes: &mut [u64], doubles: &[f64; DOUBLES]) -> Answer
-    requires { length wholes.old ≡ wholes_long }
+fn refuse_candidate(wholes: &mut [u64; WHOLES], doubles: &[f64; DOUBLES]) -> Answer
     ensures { left_with result wholes.new doubles.now ≡ staged_outcome (lent wholes.old doubles.now) NotFinite }
 {
-    let answer = without_figures(4, 10, 0.0);
-    wholes[2] = 0;
+    let answer = without_figures(REFUSED, u64::from(Refusal::Candidate), 0.0);
+    wholes[2] = EMPTY_PHASE;
     answer
 }
 

@@ -4,8 +4,7 @@ use mathlib.Core.List.{List, [], ◌∷◌, foldl, map}
 use Prim.Native.Nat.{ℕ, zero, suc, ◌+◌, ◌<◌}
 use native.Mathlib.Nat.{not-suc-le-zero, le_of_suc-le-suc}
 use native.Mathlib.Numerals.{add-one}
-use native.Mathlib.Omega.{arith}
-use lib.ListN.{length, length-map, get_or, take, get_or-map}
+use lib.ListN.{length, get_or, take, get_or-map}
 use lib.Ieee.{Float, nan, binary64, add, mul}
 use Rattle.ieee.specs.Double.{◌⊕◌, nought, square}
 use Rattle.norm.specs.Norm.{sum_of_squares, lowered}
@@ -25,11 +24,6 @@ next_sum l i {t} {x} h e f =
     ∙ sym (fold_suc (λ (s y : Float). s ⊕ square y) nought l i h)
     ∙ ap (λ (j : ℕ). sum_of_squares (take j l)) (sym (add-one i))
 
-lowered_at : (l : List Float) (i : ℕ) → get_or (map lowered l) i nan ≡ lowered (get_or l i nan)
+pub lowered_at : (l : List Float) (i : ℕ) → get_or (map lowered l) i nan ≡ lowered (get_or l i nan)
 unfolding lowered mul
 lowered_at l i = get_or-map lowered l i nan
-
--- and of the loop for the second sum
-pub next_lowered : (l : List Float) (i : ℕ) {t x : Float} → i < length l → t ≡ sum_of_squares (take i (map lowered l)) → x ≡ lowered (get_or l i nan)
-    → add binary64 t (mul binary64 x x) ≡ sum_of_squares (take (i + 1) (map lowered l))
-next_lowered l i h e f = next_sum (map lowered l) i (omega (arith, length-map l lowered)) e (f ∙ sym (lowered_at l i))

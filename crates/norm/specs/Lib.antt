@@ -1,2 +1,3 @@
 pub mod Norm
 pub mod Infinite
+pub mod Entries

@@ -1,11 +1,12 @@
 -- Digits: how many there are, and the digits of a number one after another from the last. From the definitions alone.
-use mathlib.Core.Path.{◌≡◌, refl, sym, ap, subst, ◌∙◌}
+use mathlib.Core.Path.{◌≡◌, refl, sym, ap, ◌∙◌}
 use mathlib.Core.Bool.{Bool, true, false, cond}
-use mathlib.Core.List.{[], ◌∷◌, ◌++◌}
-use Prim.Native.Nat.{ℕ, zero, suc, ◌+◌, ◌-◌, ◌/◌, ◌%◌, ◌^◌, ◌≤◌, ◌<◌}
+use mathlib.Core.List.{[], ◌∷◌}
+use Prim.Native.Nat.{ℕ, zero, suc, max, ◌+◌, ◌*◌, ◌/◌, ◌%◌, ◌^◌, ◌≤◌, ◌<◌}
+use native.Mathlib.Nat.{pow-zero, pow-suc, one-le-pow}
 use native.Mathlib.Omega.{arith}
 use borrow.Author.Tests.{lt-ltb, le-ltb}
-use lib.Dec.{ltb}
+use lib.Dec.{ltb, lit<}
 use lib.ListN.{length, length-append}
 use Rattle.page.specs.Page.{glyph, digits, places, decimal, word}
 
@@ -34,33 +35,32 @@ pub length_word : (n : ℕ) → length (word n) ≡ 16
 unfolding word
 length_word n = length_digits 16 16 n
 
--- one digit more, from the last
-pub digits_turn : (base i n : ℕ) → 0 < i → digits base i n ≡ digits base (i - 1) (n / base) ++ (glyph (n % base) ∷ [])
-unfolding digits
-digits_turn base zero n h = absurd (omega arith)
-digits_turn base (suc i) n h = let e : i ≡ suc i - 1 = omega arith in
-    ap (λ (j : ℕ). digits base j (n / base) ++ (glyph (n % base) ∷ [])) e
-
-pub digits_none : (base n : ℕ) → digits base 0 n ≡ []
-unfolding digits
-digits_none base n = refl
-
 -- ---- the number of decimal digits
 
-pub places_on : (k n : ℕ) → 0 < k → 10 ≤ n → places k n ≡ places (k - 1) (n / 10) + 1
+places_by_power : (k j n : ℕ) → j < k → 10 ^ j ≤ n → n < 10 * 10 ^ j → places k n ≡ j + 1
 unfolding places
-places_on zero n p h = absurd (omega arith)
-places_on (suc k) n p h =
-    let e : k ≡ suc k - 1 = omega arith in
-    ap (λ (b : Bool). cond b 1 (places k (n / 10) + 1)) (le-ltb n 10 h) ∙ ap (λ (j : ℕ). places j (n / 10) + 1) e
+places_by_power zero j n r l h = absurd (omega arith)
+places_by_power (suc k) zero n r l h = ap (λ (b : Bool). cond b 1 (places k (n / 10) + 1)) (lt-ltb n 10 (omega (arith, h, pow-zero 10)))
+places_by_power (suc k) (suc j) n r l h =
+    let p = pow-suc 10 j in
+    let o = one-le-pow j 10 (lit< tt) in
+    ap (λ (b : Bool). cond b 1 (places k (n / 10) + 1)) (le-ltb n 10 (omega (arith, l, p, o)))
+    ∙ omega (arith, places_by_power k j (n / 10) (omega arith) (omega (arith, l, p)) (omega (arith, h, p)))
 
-pub places_last : (k n : ℕ) → 0 < k → n < 10 → places k n ≡ 1
+-- 0 has one digit, as 1
+one_place : (n : ℕ) → n ≡ 0 → places 20 n ≡ 1
 unfolding places
-places_last zero n p h = absurd (omega arith)
-places_last (suc k) n p h = ap (λ (b : Bool). cond b 1 (places k (n / 10) + 1)) (lt-ltb n 10 h)
+one_place n e = ap (λ (i : ℕ). cond (ltb i 10) 1 (places 19 (i / 10) + 1)) e
 
--- a tenth of a number below a power of ten
-pub tenth : (k n : ℕ) → 10 ≤ n → n < 10 ^ k → (2 ≤ k) × (n / 10 < 10 ^ (k - 1))
-tenth zero n h l = absurd (omega arith)
-tenth (suc zero) n h l = absurd (omega arith)
-tenth (suc (suc k)) n h l = let e : suc (suc k) - 1 ≡ suc k = omega arith in (omega arith, subst (λ (j : ℕ). n / 10 < 10 ^ j) (sym e) (omega arith))
+-- a number between two powers of ten has the digits of the lower
+pub places_of : (n j : ℕ) → j < 20 → 10 ^ j ≤ max n 1 → max n 1 < 10 * 10 ^ j → places 20 n ≡ j + 1
+places_of zero j r l h = one_place 0 refl ∙ omega (arith, none j l)
+  where
+    none : (j : ℕ) → 10 ^ j ≤ 1 → j ≡ 0
+    none zero l = refl
+    none (suc j) l = absurd (omega (arith, l, pow-suc 10 j, one-le-pow j 10 (lit< tt)))
+places_of (suc n) j r l h = places_by_power 20 j (suc n) r (omega arith) (omega arith)
+
+pub decimal_by_power : (n j : ℕ) → j < 20 → 10 ^ j ≤ max n 1 → max n 1 < 10 * 10 ^ j → digits 10 (j + 1) n ≡ decimal n
+unfolding decimal
+decimal_by_power n j r l h = ap (λ (k : ℕ). digits 10 k n) (sym (places_of n j r l h))

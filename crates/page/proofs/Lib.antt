@@ -1,4 +1,3 @@
 pub mod Digits
-pub mod Putting
 pub mod OneText
 pub mod ReadBack

@@ -12,8 +12,9 @@ use lib.Arith.{digits_lt}
 use lib.Dec.{T, ltb, eqb, eqb→eq}
 use lib.ListN.{take, drop, get_or}
 use lib.Seq.{drop-cons}
-use Rattle.fields.specs.Fields.{digit, digit_at, digits_from}
-use Rattle.fields.specs.declared.Field.TheVariants.{Value, Bad}
+use Rattle.fields.specs.declared.Field.{Field}
+use Rattle.fields.specs.Fields.{read, digit, digit_at, digits_from}
+use Rattle.std.specs.Prelude.{None}
 use Rattle.fields.proofs.Reading.{digit_within, digit_on, digit_missing, digit_off, digits_full}
 use Rattle.page.specs.Page.{glyph, digits}
 use Rattle.page.proofs.ReadBack.{all_below, tried, less}
@@ -76,11 +77,12 @@ pub record Stand (base least most : ℕ) (text : List ℕ) (at next value v : �
   pub result : v ≡ value * base ^ count + number
 
 module _ (base : ℕ) (b : 0 < base) (s : base ≤ 16) (text : List ℕ) (v next : ℕ) where
-  none : (least most at value : ℕ) → least ≤ 0 → Value value at ≡ Value v next → Stand base least most text at next value v
+  none : (least most at value : ℕ) → least ≤ 0 → read value at ≡ read v next → Stand base least most text at next value v
   unfolding digits
   none least most at value l e =
-      let x : value ≡ v = cc in
-      let y : at ≡ next = cc in
+      let f : ◌≡◌ {A = Field} (record { value = value; next = at }) (record { value = v; next = next }) = cc in
+      let x : value ≡ v = ap (λ (w : Field). w.value) f in
+      let y : at ≡ next = ap (λ (w : Field). w.next) f in
       let q = ap (λ (p : ℕ). value * p) (pow-zero base) in
       record {
         count = 0;
@@ -119,22 +121,22 @@ module _ (base : ℕ) (b : 0 < base) (s : base ≤ 16) (text : List ℕ) (v next
         result = omega (arith, w.result, q);
       }
 
-  pub digits_were : (least most at value : ℕ) → least ≤ most → digits_from base least most text at value ≡ Value v next
+  pub digits_were : (least most at value : ℕ) → least ≤ most → digits_from base least most text at value ≡ read v next
       → Stand base least most text at next value v
   digits_were least zero at value l e = none least 0 at value l (sym (digits_full base text at value least) ∙ e)
   digits_were least (suc more) at value l e =
       go (ltb (digit_at text at) base) refl (digits_were (least - 1) more (at + 1) (value * base + digit_at text at) (omega arith))
     where
-      off : (least : ℕ) → digits_from base least (suc more) text at value ≡ Value v next → base ≤ digit_at text at
+      off : (least : ℕ) → digits_from base least (suc more) text at value ≡ read v next → base ≤ digit_at text at
           → Stand base least (suc more) text at next value v
       off zero e h = none 0 (suc more) at value (omega arith) (sym (digit_off base text at value (suc more) h) ∙ e)
       off (suc least) e h =
-          let lost : Bad ≡ Value v next = sym (digit_missing base text at value (suc least) (suc more) (omega arith) h (omega arith)) ∙ e in
+          let lost : None ≡ read v next = sym (digit_missing base text at value (suc least) (suc more) (omega arith) h (omega arith)) ∙ e in
           let z : ◌≡◌ {A = ℕ} 0 1 = cc in
           absurd (omega arith)
 
       go : (b : Bool) → ltb (digit_at text at) base ≡ b
-          → (digits_from base (least - 1) more text (at + 1) (value * base + digit_at text at) ≡ Value v next
+          → (digits_from base (least - 1) more text (at + 1) (value * base + digit_at text at) ≡ read v next
           → Stand base (least - 1) more text (at + 1) next (value * base + digit_at text at) v)
           → Stand base least (suc more) text at next value v
       go true t i =

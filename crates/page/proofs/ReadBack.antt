@@ -12,9 +12,9 @@ use borrow.Author.Tests.{ltb-true, ltb-false}
 use lib.Dec.{T, ltb, eqb, eqb→eq, lit<, lit≤}
 use lib.ListN.{length, get_or, length-append, get_or-append}
 use lib.Seq.{append_snoc, get_or-append-add, get_or_at}
-use Rattle.fields.specs.Fields.{digit, digit_at, digits_from, ended_by, word_field, number_field}
+use Rattle.fields.specs.Fields.{read, digit, digit_at, digits_from, ended_by, word_field, number_field}
 use Rattle.fields.specs.declared.Field.{Field}
-use Rattle.fields.specs.declared.Field.TheVariants.{Value}
+use Rattle.std.specs.Prelude.{Option}
 use Rattle.fields.proofs.Reading.{digit_on, digit_off, digits_full, first_not_zero, ended}
 use Rattle.page.specs.Page.{glyph, digits, places, decimal, word}
 use Rattle.page.proofs.Digits.{length_digits}
@@ -95,7 +95,7 @@ module _ (base : ℕ) (b : 0 < base) (s : base ≤ 16) where
 
 -- what was read of a text, and the byte that ends it
 module _ (front text rest : List ℕ) (c k value : ℕ) (e : length text ≡ k) where
-  ends : ended_by c (front ++ (text ++ (c ∷ rest))) (Value value (length front + k)) ≡ Value value (length front + k + 1)
+  ends : ended_by c (front ++ (text ++ (c ∷ rest))) (read value (length front + k)) ≡ read value (length front + k + 1)
   ends =
       let long = length-append front (text ++ (c ∷ rest)) in
       let tail : length (text ++ (c ∷ rest)) ≡ k + suc (length rest) = length-append text (c ∷ rest) ∙ ap (λ (j : ℕ). j + suc (length rest)) e in
@@ -103,15 +103,15 @@ module _ (front text rest : List ℕ) (c k value : ℕ) (e : length text ≡ k) 
 
 -- ---- 16 hexadecimal digits
 
-pub word_read : (n c : ℕ) (front rest : List ℕ) → n < 2 ^ 64 → word_field c (front ++ (word n ++ (c ∷ rest))) (length front) ≡ Value n (length front + 16 + 1)
+pub word_read : (n c : ℕ) (front rest : List ℕ) → n < 2 ^ 64 → word_field c (front ++ (word n ++ (c ∷ rest))) (length front) ≡ read n (length front + 16 + 1)
 unfolding word_field word
 word_read n c front rest h =
     let t = front ++ (digits 16 16 n ++ (c ∷ rest)) in
     let v : 0 * 16 ^ 16 + n ≡ n = omega arith in
-    ap (λ (f : Field). ended_by c t f)
+    ap (λ (f : Option Field). ended_by c t f)
     (digits_read 16 (lit< tt) (lit≤ tt) 16 n 16 0 0 front (c ∷ rest) h
     ∙ digits_full 16 t (length front + 16) (0 * 16 ^ 16 + n) (16 - 16)
-    ∙ ap (λ (x : ℕ). Value x (length front + 16)) v)
+    ∙ ap (λ (x : ℕ). read x (length front + 16)) v)
     ∙ ends front (digits 16 16 n) rest c 16 n (length_digits 16 16 n)
 
 -- ---- decimal digits, the first not 0
@@ -179,7 +179,7 @@ module _ (most n c : ℕ) (front rest : List ℕ) (above : 0 < n) (below : n < 1
       go false e = let p : 10 ^ most ≤ 10 ^ k = pow-le-pow_right (lit< tt) (ltb-false k most e) in absurd (omega (arith, p, l, below))
 
   number_digits : (k : ℕ) → 10 ^ k ≤ n → n < 10 ^ suc k
-      → number_field most c (front ++ (digits 10 (suc k) n ++ (c ∷ rest))) (length front) ≡ Value n (length front + suc k + 1)
+      → number_field most c (front ++ (digits 10 (suc k) n ++ (c ∷ rest))) (length front) ≡ read n (length front + suc k + 1)
   number_digits k l h =
       let t = front ++ (digits 10 (suc k) n ++ (c ∷ rest)) in
       let long = length_digits 10 (suc k) n in
@@ -191,7 +191,7 @@ module _ (most n c : ℕ) (front rest : List ℕ) (above : 0 < n) (below : n < 1
       let stops : 10 ≤ digit_at t (length front + suc k) = subst (λ (x : ℕ). 10 ≤ x) (sym (ap digit after)) other in
       let v : 0 * 10 ^ suc k + n ≡ n = omega arith in
       first_not_zero most c t (length front) (λ z. first_above k n (c ∷ rest) l h (ap digit (sym first) ∙ z))
-      ∙ ap (λ (f : Field). ended_by c t f)
+      ∙ ap (λ (f : Option Field). ended_by c t f)
       (same 10 refl (omega arith) refl refl refl
       ∙ digits_read 10 (lit< tt) (lit≤ tt) (suc k) n 1 (most - suc k) 0 front (c ∷ rest) h
       ∙ same 10 (omega arith) refl refl refl v
@@ -199,13 +199,13 @@ module _ (most n c : ℕ) (front rest : List ℕ) (above : 0 < n) (below : n < 1
       ∙ ends front (digits 10 (suc k) n) rest c (suc k) n long
 
   by_digits : (p : ℕ) → 10 ^ (p - 1) ≤ n → n < 10 ^ p
-      → number_field most c (front ++ (digits 10 p n ++ (c ∷ rest))) (length front) ≡ Value n (length front + length (digits 10 p n) + 1)
+      → number_field most c (front ++ (digits 10 p n ++ (c ∷ rest))) (length front) ≡ read n (length front + length (digits 10 p n) + 1)
   by_digits zero l h = absurd (omega (arith, h, above))
   by_digits (suc k) l h =
       let e : suc k - 1 ≡ k = omega arith in
       number_digits k (subst (λ (j : ℕ). 10 ^ j ≤ n) e l) h
-      ∙ ap (λ (j : ℕ). Value n (length front + j + 1)) (sym (length_digits 10 (suc k) n))
+      ∙ ap (λ (j : ℕ). read n (length front + j + 1)) (sym (length_digits 10 (suc k) n))
 
-  pub number_read : n < 10 ^ 20 → number_field most c (front ++ (decimal n ++ (c ∷ rest))) (length front) ≡ Value n (length front + length (decimal n) + 1)
+  pub number_read : n < 10 ^ 20 → number_field most c (front ++ (decimal n ++ (c ∷ rest))) (length front) ≡ read n (length front + length (decimal n) + 1)
   unfolding decimal
   number_read h = by_digits (places 20 n) (places_needed 20 n above) (places_enough 20 n h)

@@ -1,5 +1,5 @@
--- Text put into a buffer, byte after byte: numbers by their digits, and what a buffer holds once something is put. Definitions only.
-use Rattle.std.specs.Prelude.{ℕ, zero, suc, ◌+◌, ◌/◌, ◌%◌, cond, List, [], ◌∷◌, ◌++◌, ◌≡◌, ltb, length, take}
+-- Numbers as text, byte after byte, by their digits. Definitions only.
+use Rattle.std.specs.Prelude.{ℕ, zero, suc, ◌+◌, ◌/◌, ◌%◌, cond, List, [], ◌∷◌, ◌++◌, ltb}
 
 -- the ASCII code of a digit: `0` to `9`, then `A` to `F`
 unfoldable pub glyph : ℕ → ℕ
@@ -22,8 +22,3 @@ decimal n = digits 10 (places 20 n) n
 -- a number of 64 bits as 16 hexadecimal digits
 unfoldable pub word : ℕ → List ℕ
 word n = digits 16 16 n
-
--- what is put at `at` stands after what stood before it, and ends at r; what the buffer holds from there on is left open
-pub record Puts (before : List ℕ) (at : ℕ) (added : List ℕ) (after : List ℕ) (r : ℕ) : Type 0 where
-  pub place : r ≡ at + length added
-  pub bytes : take r after ≡ take at before ++ added

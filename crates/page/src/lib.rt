@@ -1,71 +1,109 @@
-// Text put into a buffer of bytes, each function from a place on, answering the place after it.
+// A page of text in room for N bytes: what is put stands after what stands there. Of our own, since a list of bytes of the kit's
+// would serve `put` alone, and digits are most of it.
 #![tactic(auto)]
 
-ghost use Rattle.std.specs.Prelude.{◌≡◌, ◌+◌, ◌≤◌, ◌<◌, length};
+ghost use Rattle.std.specs.Prelude.{◌≡◌, ◌+◌, ◌≤◌, ◌<◌, [], ◌∷◌, ◌++◌, length};
 ghost use Rattle.page.specs.Page as spec;
 
-fn glyph(d: u64) -> u8
+use std::marker::Model;
+
+#[derive(Drop)]
+pub struct Page<const N: usize> {
+    bytes: [u8; N],
+    end: usize,
+}
+
+// Clauses see the bytes that stand on the page.
+impl<const N: usize> Model for Page<N> {
+    ghost use Rattle.std.specs.Prelude.{ℕ, List, take, ◌≤◌};
+
+    ghost Value = { List ℕ };
+
+    ghost view = { λ p. take p.end p.bytes };
+
+    ghost invariant = { λ p. p.end ≤ N };
+}
+
+#[tactic(auto, unfolding(crate::specs::Page::glyph))]
+fn glyph(d: u8) -> u8
     requires { d < 16 }
     ensures { result ≡ spec.glyph d }
 {
-    if d < 10 { 48 + d as u8 } else { 55 + d as u8 }
+    if d < 10 { b'0' + d } else { b'A' + (d - 10) }
 }
 
-// The bytes of a text.
-pub fn put(page: &mut [u8], at: usize, text: &[u8]) -> usize
-    requires { at + length text.now ≤ length page.old }
-    ensures { spec.Puts page.old at text.now page.new result }
-{
-    let mut i = 0;
-    while i < text.len() {
-        page[at + i] = text[i];
-        i += 1;
+impl<const N: usize> Page<N> {
+    // An empty page.
+    pub fn new() -> Self
+        ensures { result ≡ [] }
+    {
+        Page {
+            bytes: [0; N],
+            end: 0,
+        }
     }
-    at + i
-}
 
-// The last k digits of n in a base up to 16, the lowest first.
-pub fn put_digits(page: &mut [u8], at: usize, base: u64, k: usize, n: u64) -> usize
-    requires base_nonzero { (0 < base) × (base ≤ 16) }
-    requires k_in_bounds { at + k ≤ length page.old }
-    ensures { spec.Puts page.old at (spec.digits base k n) page.new result }
-{
-    let mut i = k;
-    let mut rest = n;
-    while 0 < i {
-        i -= 1;
-        page[at + i] = glyph(rest % base);
-        rest = rest / base;
+    // The text on the page.
+    pub fn text(&self) -> &[u8]
+        ensures { result.now ≡ self.now }
+    {
+        &self.bytes[..self.end]
     }
-    at + k
-}
 
-// How many decimal digits n has.
-fn places(n: u64) -> usize
-    ensures { (result ≡ spec.places 20 n) × (result ≤ 20) }
-{
-    let mut k = 1;
-    let mut rest = n;
-    while 10 <= rest {
-        rest = rest / 10;
-        k += 1;
+    // The bytes of a text.
+    pub fn put(&mut self, text: &[u8])
+        requires { length self.old + length text.now ≤ N }
+        ensures text { self.new ≡ self.old ++ text.now }
+        ensures len { length self.new ≡ length self.old + length text.now }
+    {
+        for byte in text {
+            self.push(*byte);
+        }
     }
-    k
-}
 
-// A number in decimal, without leading zeros.
-pub fn put_decimal(page: &mut [u8], at: usize, n: u64) -> usize
-    requires { at + 20 ≤ length page.old }
-    ensures { spec.Puts page.old at (spec.decimal n) page.new result }
-{
-    let k = places(n);
-    put_digits(page, at, 10, k, n)
-}
+    fn push(&mut self, byte: u8)
+        requires { length self.old < N }
+        ensures text { self.new ≡ self.old ++ byte ∷ [] }
+        ensures len { length self.new ≡ length self.old + 1 }
+    {
+        self.bytes[self.end] = byte;
+        self.end += 1;
+    }
 
-// A number as 16 hexadecimal digits.
-pub fn put_word(page: &mut [u8], at: usize, n: u64) -> usize
-    requires { at + 16 ≤ length page.old }
-    ensures { spec.Puts page.old at (spec.word n) page.new result }
-{
-    put_digits(page, at, 16, 16, n)
+    // The last k digits of n in a base up to 16, the highest first. Not by write!: it promises its text with an Ok alone, and
+    // nothing promises the Ok.
+    #[tactic(auto, unfolding(crate::specs::Page::digits))]
+    pub fn put_digits(&mut self, base: u64, k: usize, n: u64)
+        requires base_nonzero { (0 < base) × (base ≤ 16) }
+        requires room { length self.old + k ≤ N }
+        ensures text { self.new ≡ self.old ++ spec.digits base k n }
+        ensures len { length self.new ≡ length self.old + k }
+    {
+        if k == 0 {
+            return;
+        }
+        self.put_digits(base, k - 1, n / base);
+        self.push(glyph((n % base) as u8));
+    }
+
+    // A number in decimal, without leading zeros.
+    #[tactic(auto, using(crate::proofs::Digits::decimal_by_power), unfolding(crate::specs::Page::decimal))]
+    pub fn put_decimal(&mut self, n: u64)
+        requires { length self.old + 20 ≤ N }
+        ensures text { self.new ≡ self.old ++ spec.decimal n }
+        ensures len { length self.new ≤ length self.old + 20 }
+    {
+        let places = n.max(1).ilog10() as usize + 1;
+        self.put_digits(10, places, n);
+    }
+
+    // A number as 16 hexadecimal digits.
+    #[tactic(auto, unfolding(crate::specs::Page::word))]
+    pub fn put_word(&mut self, n: u64)
+        requires { length self.old + 16 ≤ N }
+        ensures text { self.new ≡ self.old ++ spec.word n }
+        ensures len { length self.new ≡ length self.old + 16 }
+    {
+        self.put_digits(16, 16, n);
+    }
 }

@@ -1,128 +1,91 @@
 // A call read from the trace and made.
-ghost use Rattle.std.specs.Prelude.{◌≤◌, length};
-
-use crate::trace;
-use driver::{Answer, Counters, Next, Record};
+use crate::trace::Words;
+use driver::{Counters, Record, Replied};
 use workspace::Arguments;
 
-// What it answered and left, and the place of the next word.
-#[derive(Drop)]
-pub struct Made {
-    pub at: usize,
-    pub answer: Answer,
-    pub record: Record,
-    pub counters: Counters,
+#[derive(Clone, Copy)]
+pub enum Call<'a> {
+    Start {
+        family: u64,
+        n: usize,
+        time: f64,
+        state: &'a [f64],
+    },
+    Attempt(Arguments),
+    Reply(&'a [f64]),
+    Accept,
+    AcceptWithCallback {
+        time: f64,
+        state: &'a [f64],
+    },
+    Abandon,
+    // A number of no call: made as abandon, and counted in no line.
+    Unnumbered,
 }
 
-// The length of the vector that is brought, which stands at this word.
-fn length_at(s: &[u8], at: usize, most: usize) -> usize
-    ensures { result ≤ most }
-{
-    let count = stored::word(s, at) as usize;
-    if count > most {
-        return most;
-    }
-    count
+// Reads a vector, whose length stands before it.
+fn bring<'a>(words: &mut Words<'_>, brought: &'a mut [f64]) -> &'a [f64] {
+    let length = (words.word() as usize).min(brought.len());
+    words.doubles(&mut brought[..length]);
+    &brought[..length]
 }
 
-// Reads a vector, whose length stands before it; its length.
-fn bring(s: &[u8], at: usize, brought: &mut [f64]) -> usize
-    ensures { result ≤ length brought.new }
-{
-    let k = length_at(s, at, brought.len());
-    trace::doubles(s, trace::on(at, 1), &mut brought[..k]);
-    k
-}
-
-fn of_next(next: Next, counters: Counters, at: usize) -> Made {
-    let answer = next.answer;
-    let record = next.record;
-    Made {
-        at,
-        answer,
-        record,
-        counters,
+fn arguments(words: &mut Words<'_>) -> Arguments {
+    Arguments {
+        time: words.double(),
+        step: words.double(),
+        absolute_tolerance: words.double(),
+        relative_tolerance: words.double(),
+        adaptive: words.word() != 0,
     }
 }
 
-fn start(
-    s: &[u8],
-    at: usize,
-    record: Record,
-    counters: Counters,
-    area: &mut [f64],
-    brought: &mut [f64],
-) -> Made {
-    let family = stored::word(s, at);
-    let n = stored::word(s, trace::on(at, 1)) as usize;
-    let time = trace::double(s, trace::on(at, 2));
-    let k = bring(s, trace::on(at, 3), brought);
-    let next = driver::start(record, area, family, n, &brought[..k], time);
-    of_next(next, counters, trace::on(trace::on(at, 4), k))
-}
-
-fn attempt(s: &[u8], at: usize, record: Record, counters: Counters, area: &mut [f64]) -> Made {
-    let arguments = Arguments {
-        time: trace::double(s, at),
-        step: trace::double(s, trace::on(at, 1)),
-        absolute_tolerance: trace::double(s, trace::on(at, 2)),
-        relative_tolerance: trace::double(s, trace::on(at, 3)),
-        adaptive: stored::word(s, trace::on(at, 4)) != 0,
-    };
-    let next = driver::attempt(record, area, arguments);
-    of_next(next, counters, trace::on(at, 5))
-}
-
-fn reply(
-    s: &[u8],
-    at: usize,
-    record: Record,
-    counters: Counters,
-    area: &mut [f64],
-    brought: &mut [f64],
-) -> Made {
-    let k = bring(s, at, brought);
-    let replied = driver::reply(record, counters, area, &brought[..k]);
-    let answer = replied.answer;
-    let after = replied.record;
-    let counted = replied.counters;
-    Made {
-        at: trace::on(trace::on(at, 1), k),
-        answer,
-        record: after,
-        counters: counted,
+impl<'a> Call<'a> {
+    // The call of this number. What it brings is put into `brought`.
+    pub fn read(number: u64, words: &mut Words<'_>, brought: &'a mut [f64]) -> Call<'a> {
+        match number {
+            1 => Call::Start {
+                family: words.word(),
+                n: words.word() as usize,
+                time: words.double(),
+                state: bring(words, brought),
+            },
+            2 => Call::Attempt(arguments(words)),
+            3 => Call::Reply(bring(words, brought)),
+            4 => Call::Accept,
+            5 => Call::AcceptWithCallback {
+                time: words.double(),
+                state: bring(words, brought),
+            },
+            6 => Call::Abandon,
+            _ => Call::Unnumbered,
+        }
     }
-}
 
-fn accept_with_callback(
-    s: &[u8],
-    at: usize,
-    record: Record,
-    counters: Counters,
-    area: &mut [f64],
-    brought: &mut [f64],
-) -> Made {
-    let time = trace::double(s, at);
-    let k = bring(s, trace::on(at, 1), brought);
-    let next = driver::accept_with_callback(record, area, &brought[..k], time);
-    of_next(next, counters, trace::on(trace::on(at, 2), k))
-}
+    // The family whose area it is lent: the one that a start brings, else the record's.
+    pub fn family(&self, record: &Record) -> u64 {
+        match self {
+            Call::Start { family, .. } => *family,
+            _ => record.family,
+        }
+    }
 
-pub fn make(
-    s: &[u8],
-    call: u64,
-    at: usize,
-    record: Record,
-    counters: Counters,
-    area: &mut [f64],
-    brought: &mut [f64],
-) -> Made {
-    match call {
-        1 => start(s, at, record, counters, area, brought),
-        2 => attempt(s, at, record, counters, area),
-        3 => reply(s, at, record, counters, area, brought),
-        4 => of_next(driver::accept(record, area), counters, at),
-        5 => accept_with_callback(s, at, record, counters, area, brought),
-        _ => of_next(driver::abandon(record, area), counters, at),
+    pub fn make(self, record: Record, counters: Counters, area: &mut [f64]) -> Replied {
+        let next = match self {
+            Call::Start {
+                family,
+                n,
+                time,
+                state,
+            } => driver::start(record, area, family, n, state, time),
+            Call::Attempt(arguments) => driver::attempt(record, area, arguments),
+            Call::Reply(derivative) => return driver::reply(record, counters, area, derivative),
+            Call::Accept => driver::accept(record, area),
+            Call::AcceptWithCallback { time, state } => {
+                driver::accept_with_callback(record, area, state, time)
+            }
+            Call::Abandon | Call::Unnumbered => driver::abandon(record, area),
+        };
+        next.with(counters)
     }
 }

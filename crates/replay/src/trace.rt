@@ -16,18 +16,42 @@
 // 0): after all else stand 1 where there is one, else 0, and its step. The area at the beginning of a session has neither bit,
 // and all twelve vectors; a call is lent those of the family that it brings (start) or that is its record's.
 
-pub fn on(at: usize, by: usize) -> usize {
-    std::num::wrapping_add_usize(at, by)
+// The words of a trace, read one after the other.
+#[derive(Clone, Copy)]
+pub struct Words<'a> {
+    left: &'a [[u8; 8]],
 }
 
-pub fn double(s: &[u8], at: usize) -> f64 {
-    ieee::float_of(stored::word(s, at))
-}
+impl<'a> Words<'a> {
+    pub fn new(bytes: &'a [u8]) -> Words<'a> {
+        let (left, _) = bytes.as_chunks::<8>();
+        Words { left }
+    }
 
-pub fn doubles(s: &[u8], at: usize, to: &mut [f64]) {
-    let mut i: usize = 0;
-    while i < to.len() {
-        to[i] = double(s, on(at, i));
-        i += 1;
+    // How many are left.
+    pub fn count(&self) -> usize {
+        self.left.len()
+    }
+
+    pub fn at_end(&self) -> bool {
+        self.left.is_empty()
+    }
+
+    pub fn word(&mut self) -> u64 {
+        let Some((bytes, rest)) = self.left.split_first() else {
+            return 0;
+        };
+        self.left = rest;
+        u64::from_le_bytes(*bytes)
+    }
+
+    pub fn double(&mut self) -> f64 {
+        ieee::float_of(self.word())
+    }
+
+    pub fn doubles(&mut self, to: &mut [f64]) {
+        for x in to.iter_mut() {
+            *x = self.double();
+        }
     }
 }

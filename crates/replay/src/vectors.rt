@@ -1,69 +1,60 @@
 // The area as the Rust left it, beside the engine's.
-use crate::trace;
+ghost use Rattle.std.specs.Prelude.{◌<◌, ◌≤◌};
+
+use crate::trace::Words;
 
 // How many vectors the largest area has, and how many doubles that are at most.
 pub const COUNT: usize = 12;
 
 pub const LARGEST_AREA: usize = COUNT * 512;
 
-fn fill(area: &mut [f64], value: f64) {
-    let mut i: usize = 0;
-    while i < area.len() {
-        area[i] = value;
-        i += 1;
+// What is not as it was before: a bit for each vector, the lowest for vector 0, and for what the record keeps.
+#[derive(Clone, Copy)]
+pub struct Changes(u64);
+
+impl Changes {
+    fn has(self, bit: u32) -> bool
+        requires { bit < 64 }
+    {
+        self.0 >> bit & 1 == 1
+    }
+
+    pub fn in_kept(self) -> bool {
+        self.has(16)
+    }
+
+    pub fn in_history(self) -> bool {
+        self.has(17)
     }
 }
 
-// Reads a vector, if it changed; the place of the next word.
-fn read(s: &[u8], at: usize, changed: bool, begin: usize, end: usize, area: &mut [f64]) -> usize {
-    if !changed {
-        return at;
+// Reads those vectors that changed.
+pub fn follow(words: &mut Words<'_>, n: usize, area: &mut [f64]) -> Changes
+    requires { n ≤ 512 }
+{
+    let changes = Changes(words.word());
+    for i in 0..COUNT {
+        if changes.has(i as u32) {
+            if let Some(vector) = area.get_mut(i * n..(i + 1) * n) {
+                words.doubles(vector);
+            }
+        }
     }
-    if begin > end {
-        return at;
-    }
-    if end > area.len() {
-        return at;
-    }
-    trace::doubles(s, at, &mut area[begin..end]);
-    trace::on(at, end - begin)
+    changes
 }
 
-// Reads those vectors that changed; the place of the next word.
-pub fn follow(s: &[u8], at: usize, n: usize, area: &mut [f64]) -> usize {
-    let mut changed = stored::word(s, at);
-    let mut from = trace::on(at, 1);
-    let mut begin: usize = 0;
-    let mut left: usize = COUNT;
-    while left > 0 {
-        let end = trace::on(begin, n);
-        from = read(s, from, changed % 2 == 1, begin, end, area);
-        changed = changed / 2;
-        begin = end;
-        left -= 1;
-    }
-    from
-}
-
-// An area at the beginning of a session; the place of the next word.
-pub fn anew(s: &[u8], at: usize, n: usize, area: &mut [f64]) -> usize {
-    fill(area, 0.0);
-    follow(s, at, n, area)
+// An area at the beginning of a session.
+pub fn anew(words: &mut Words<'_>, n: usize, area: &mut [f64])
+    requires { n ≤ 512 }
+{
+    area.fill(0.0);
+    follow(words, n, area);
 }
 
 // How many entries differ.
-pub fn differing(ours: &[f64], theirs: &[f64]) -> u64 {
-    let mut differ: u64 = 0;
-    let mut i: usize = 0;
-    while i < ours.len() {
-        let mut same = false;
-        if i < theirs.len() {
-            same = stored::same(ours[i], theirs[i]);
-        }
-        if !same {
-            differ = std::num::wrapping_add_u64(differ, 1);
-        }
-        i += 1;
-    }
-    differ
+pub fn differing(ours: &[f64], theirs: &[f64]) -> usize {
+    ours.iter()
+        .zip(theirs)
+        .filter(|(x, y)| !stored::same(**x, **y))
+        .count()
 }

@@ -1,4 +1,3 @@
-mod Bits
 pub mod Ranges
 mod Derivatives
 mod Squaring

@@ -6,8 +6,7 @@ ghost use Rattle.rkc_omega_one.specs.Table as spec;
 
 mod beyond;
 
-// omega_one for s = 2 to 200. A read at an index that is not a constant copies the table to the stack, so an attempt reads
-// it once, when its stages begin.
+// omega_one for s = 2 to 200: a const, as family 1 has it (docs/DECISIONS.md, 11).
 const OMEGA_ONE: [f64; 199] = [
     1.03846153846154,
     0.38564784888314274,
@@ -214,21 +213,17 @@ const OMEGA_ONE: [f64; 199] = [
 pub fn omega_one(s: u64) -> f64
     ensures { result ≡ spec.omega s }
 {
-    if s <= 2 {
-        return OMEGA_ONE[0];
-    }
-    if s >= 200 {
-        return OMEGA_ONE[198];
-    }
-    OMEGA_ONE[(s - 2) as usize]
+    OMEGA_ONE[s.min(200).saturating_sub(2) as usize]
 }
 
 // A count outside 2 to 1000 reads the nearest entry.
+#[tactic(auto, unfolding(crate::specs::Table::extended))]
 pub fn extended(s: u64) -> f64
     ensures { result ≡ spec.extended s }
 {
     if s <= 200 {
-        return omega_one(s);
+        omega_one(s)
+    } else {
+        beyond::omega_one_beyond(s - 200)
     }
-    beyond::omega_one_beyond(s - 200)
 }

@@ -2,145 +2,143 @@
 // The file stdout beside this was written by the Rust (bindings/oracle/src/bin/digests.rs).
 #![tactic(auto)]
 
-ghost use Rattle.std.specs.Prelude.{◌≡◌, ◌*◌, ◌%◌, ◌^◌, ◌<◌, ◌≤◌};
+ghost use Rattle.std.specs.Prelude.{◌+◌, ◌-◌, ◌^◌, ◌<◌, ◌≤◌};
+ghost use Rattle.std.specs.Iterator.{at_most};
 
-use coefficients::Coefficients;
-use family::Setting;
+use coefficients::{Coefficients, Recurrence};
+use family::{Family, Setting};
 use std::io;
 
-// FNV-1a's product, to 64 bits: by 2 ^ 40 + 0x1b3.
-fn times_prime(h: u64) -> u64
-    ensures { result ≡ h * 1099511628211 % 2 ^ 64 }
-{
-    let high = h / 0x1_0000_0000;
-    let low = h % 0x1_0000_0000;
-    let upper = (high * 0x1b3 + low * 0x100) % 0x1_0000_0000;
-    std::num::wrapping_add_u64(upper * 0x1_0000_0000, low * 0x1b3)
-}
+// FNV-1a over doubles: over the eight bytes of each, the lowest first.
+#[derive(Drop)]
+struct Digest(u64);
 
-// FNV-1a over the eight bytes of a word, the lowest first.
-fn word_in(h: u64, word: u64) -> u64 {
-    let mut d = h;
-    let mut w = word;
-    let mut i: u64 = 0;
-    while i < 8 {
-        d = times_prime(d ^ (w % 256));
-        w = w / 256;
-        i += 1;
+impl Digest {
+    fn new() -> Digest {
+        Digest(0xcbf2_9ce4_8422_2325)
     }
-    d
+
+    fn add(&mut self, x: f64) {
+        for byte in ieee::bits_of(x).to_le_bytes() {
+            self.0 = (self.0 ^ u64::from(byte)).wrapping_mul(0x100_0000_01b3);
+        }
+    }
+
+    fn add_row(&mut self, row: Coefficients) {
+        for x in doubles(row) {
+            self.add(x);
+        }
+    }
 }
 
-fn double_in(h: u64, x: f64) -> u64 {
-    word_in(h, ieee::bits_of(x))
+// The rows of stages j to s, each with its stage.
+#[derive(Drop)]
+struct Rows {
+    setting: Setting,
+    s: u64,
+    j: u64,
+    recurrence: Recurrence,
+    ghost from_two: { 2 ≤ j },
+    ghost few: { s < 2 ^ 16 },
 }
 
-fn row_in(h: u64, row: Coefficients) -> u64 {
-    let a = double_in(h, row.mu);
-    let b = double_in(a, row.nu);
-    let c = double_in(b, row.mu_tilde);
-    let d = double_in(c, row.gamma_tilde);
-    double_in(d, row.theta)
+impl Rows {
+    // From stage 2 on.
+    fn new(setting: Setting, s: u64) -> Rows
+        requires { s < 2 ^ 16 }
+    {
+        Rows {
+            setting,
+            s,
+            j: 2,
+            recurrence: coefficients::first_recurrence(setting, s),
+        }
+    }
+}
+
+impl Iterator for Rows {
+    type Item = (u64, Coefficients);
+
+    ghost remaining = { λ rows. at_most (rows.s + 1 - rows.j) };
+
+    fn next(&mut self) -> Option<(u64, Coefficients)> {
+        if self.j > self.s {
+            return None;
+        }
+        let j = self.j;
+        let advance = coefficients::row_and_recurrence(self.setting, self.s, j, self.recurrence);
+        self.recurrence = advance.after;
+        self.j += 1;
+        Some((j, advance.row))
+    }
+}
+
+fn doubles(row: Coefficients) -> [f64; 5] {
+    [row.mu, row.nu, row.mu_tilde, row.gamma_tilde, row.theta]
 }
 
 // Of omega_one, first_mu_tilde, and the rows of stages 2 to s.
-fn digest(family: u64, s: u64) -> u64
-    requires { (2 ≤ s) × (s < 2 ^ 16) }
+fn digest_of(setting: Setting, s: u64) -> u64
+    requires { s < 2 ^ 16 }
 {
-    let setting = family::without_history(family);
-    let mut h = double_in(0xcbf2_9ce4_8422_2325, coefficients::omega_one(setting, s));
-    h = double_in(h, coefficients::first_mu_tilde(setting, s));
-    let mut c = coefficients::first_recurrence(setting, s);
-    let mut j: u64 = 2;
-    while j <= s {
-        let row = coefficients::row_coefficients(setting, s, j, c);
-        h = row_in(h, row);
-        c = coefficients::next_recurrence(setting, c, row);
-        j += 1;
+    let mut digest = Digest::new();
+    digest.add(coefficients::omega_one(setting, s));
+    digest.add(coefficients::first_mu_tilde(setting, s));
+    for (_, row) in Rows::new(setting, s) {
+        digest.add_row(row);
     }
-    h
-}
-
-// "family s"
-fn print_count(rt: &impl Print, family: u64, s: u64) -> io::Result<()> {
-    print!(rt; "{family} {s}")
-}
-
-fn print_word(rt: &impl Print, word: u64) -> io::Result<()> {
-    print!(rt; " {word:016x}")
-}
-
-fn print_double(rt: &impl Print, x: f64) -> io::Result<()> {
-    print_word(rt, ieee::bits_of(x))
+    digest.0
 }
 
 // A line for each permitted count: family, s, digest.
 fn print_digests(rt: &impl Print, family: u64) -> io::Result<()> {
-    let mut s: u64 = 2;
-    while s <= family::MOST_STAGES {
-        if family::permitted(family, s) {
-            print_count(rt, family, s)?;
-            print_word(rt, digest(family, s))?;
-            print!(rt; "\n")?;
+    let setting = Setting::without_history(Family::from(family));
+    for s in 2..=family::MOST_STAGES {
+        if setting.family.permits(s) {
+            let digest = digest_of(setting, s);
+            println!(rt; "{family} {s} {digest:016x}")?;
         }
-        s += 1;
     }
     Ok(())
 }
 
-fn print_coefficients(rt: &impl Print, row: Coefficients) -> io::Result<()> {
-    print_double(rt, row.mu)?;
-    print_double(rt, row.nu)?;
-    print_double(rt, row.mu_tilde)?;
-    print_double(rt, row.gamma_tilde)?;
-    print_double(rt, row.theta)
+fn print_double(rt: &impl Print, x: f64) -> io::Result<()> {
+    let bits = ieee::bits_of(x);
+    print!(rt; " {bits:016x}")
 }
 
-// family, s, j, mu, nu, mu_tilde, gamma_tilde, theta, omega_one, first_mu_tilde
-fn print_row(
-    rt: &impl Print,
-    setting: Setting,
-    s: u64,
-    j: u64,
-    row: Coefficients,
-) -> io::Result<()> {
-    print_count(rt, setting.family, s)?;
-    print!(rt; " {j}")?;
-    print_coefficients(rt, row)?;
+// mu, nu, mu_tilde, gamma_tilde, theta, omega_one, first_mu_tilde
+fn print_row(rt: &impl Print, setting: Setting, s: u64, row: Coefficients) -> io::Result<()> {
+    for x in doubles(row) {
+        print_double(rt, x)?;
+    }
     print_double(rt, coefficients::omega_one(setting, s))?;
     print_double(rt, coefficients::first_mu_tilde(setting, s))?;
-    print!(rt; "\n")
+    println!(rt; "")
 }
 
-// A line for each stage.
+// A line for each stage: family, s, j and its row.
 fn print_rows(rt: &impl Print, family: u64, s: u64) -> io::Result<()>
-    requires { (2 ≤ s) × (s < 2 ^ 16) }
+    requires { s < 2 ^ 16 }
 {
-    let setting = family::without_history(family);
-    let mut c = coefficients::first_recurrence(setting, s);
-    let mut j: u64 = 2;
-    while j <= s {
-        let row = coefficients::row_coefficients(setting, s, j, c);
-        print_row(rt, setting, s, j, row)?;
-        c = coefficients::next_recurrence(setting, c, row);
-        j += 1;
+    let setting = Setting::without_history(Family::from(family));
+    for (j, row) in Rows::new(setting, s) {
+        print!(rt; "{family} {s} {j}")?;
+        print_row(rt, setting, s, row)?;
+    }
+    Ok(())
+}
+
+fn each_family<F: Fn(u64) -> io::Result<()>>(print: F) -> io::Result<()>
+    requires { F.IsAlwaysCallable print }
+{
+    for family in 1..=7 {
+        print(family)?;
     }
     Ok(())
 }
 
 fn main(rt: HostRuntime) -> io::Result<()> {
-    print_digests(&rt, 1)?;
-    print_digests(&rt, 2)?;
-    print_digests(&rt, 3)?;
-    print_digests(&rt, 4)?;
-    print_digests(&rt, 5)?;
-    print_digests(&rt, 6)?;
-    print_digests(&rt, 7)?;
-    print_rows(&rt, 1, 9)?;
-    print_rows(&rt, 2, 9)?;
-    print_rows(&rt, 3, 9)?;
-    print_rows(&rt, 4, 9)?;
-    print_rows(&rt, 5, 9)?;
-    print_rows(&rt, 6, 9)?;
-    print_rows(&rt, 7, 9)
+    each_family(|family| print_digests(&rt, family))?;
+    each_family(|family| print_rows(&rt, family, 9))
 }

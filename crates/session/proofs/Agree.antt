@@ -1,6 +1,6 @@
 -- Vectors that agree on some names: each step of the kernel keeps the names on which two sets of vectors agree, and adds those that it writes. With a history
 -- the older state is among them from the start on.
-use mathlib.Core.Path.{◌≡◌, refl, sym, ap, ◌∙◌}
+use mathlib.Core.Path.{◌≡◌, refl, sym, ◌∙◌}
 use mathlib.Core.Bool.{Bool, true, false, cond, ◌&&◌, ◌||◌}
 use mathlib.Core.List.{List}
 use Prim.Native.Nat.{ℕ}
@@ -20,7 +20,9 @@ use Rattle.coefficients.specs.declared.Recurrence.{Recurrence}
 use Rattle.coefficients.specs.declared.Coefficients.{Coefficients}
 use Rattle.coefficients.specs.Rows.{candidate_weights}
 use Rattle.workspace.specs.declared.Arguments.{Arguments}
-use Rattle.workspace.specs.Vectors.{Vector, Vectors, ◌with◌≔◌, number, each, vector_norm, first_derivative, last_derivative, derivative, previous_two}
+use Rattle.workspace.specs.declared.Vector.{Vector}
+use Rattle.workspace.specs.Vectors.{Vectors, ◌with◌≔◌, number, each, vector_norm, first_derivative, last_derivative, derivative, previous_two}
+use Rattle.workspace.specs.declared.Vector.TheVariants.{FirstDerivative, LastDerivative, Derivative, PreviousTwo, PreviousOne, NextStage, Eigenvector, PerturbedState, PerturbedDerivative, State, Candidate, OlderState}
 use Rattle.workspace.specs.Vectors.{previous_one, next_stage, eigenvector, perturbed_state, perturbed_derivative, state, candidate, older_state}
 use Rattle.workspace.specs.Kernel.{with_direction, perturbed_by, perturbed, turned, first_stage, orthogonal_entry, chebyshev_entry}
 use Rattle.workspace.specs.Kernel.{initial_first_entry, plain_entry, older_of, entry_in, with_row_in, exchanged, with_candidate, candidate_in, with_last}
@@ -115,18 +117,18 @@ module _ (history : Bool) where
 
     pub exchanged_agrees : (v w : Vectors) → Agree nine v w → Agree nine (exchanged v) (exchanged w)
     unfolding exchanged
-    exchanged_agrees v w p first_derivative e = p first_derivative e
-    exchanged_agrees v w p last_derivative e = p last_derivative e
-    exchanged_agrees v w p derivative e = p derivative e
-    exchanged_agrees v w p previous_two e = p previous_one refl
-    exchanged_agrees v w p previous_one e = p next_stage refl
-    exchanged_agrees v w p next_stage e = p previous_two refl
-    exchanged_agrees v w p eigenvector e = p eigenvector e
-    exchanged_agrees v w p perturbed_state e = p perturbed_state e
-    exchanged_agrees v w p perturbed_derivative e = p perturbed_derivative e
-    exchanged_agrees v w p state e = p state e
-    exchanged_agrees v w p candidate e = p candidate e
-    exchanged_agrees v w p older_state e = p older_state e
+    exchanged_agrees v w p FirstDerivative e = p first_derivative e
+    exchanged_agrees v w p LastDerivative e = p last_derivative e
+    exchanged_agrees v w p Derivative e = p derivative e
+    exchanged_agrees v w p PreviousTwo e = p previous_one refl
+    exchanged_agrees v w p PreviousOne e = p next_stage refl
+    exchanged_agrees v w p NextStage e = p previous_two refl
+    exchanged_agrees v w p Eigenvector e = p eigenvector e
+    exchanged_agrees v w p PerturbedState e = p perturbed_state e
+    exchanged_agrees v w p PerturbedDerivative e = p perturbed_derivative e
+    exchanged_agrees v w p State e = p state e
+    exchanged_agrees v w p Candidate e = p candidate e
+    exchanged_agrees v w p OlderState e = p older_state e
 
     pub candidate_agrees : (m : Setting) (h : Float) (s : ℕ) (c : Recurrence) (row : Coefficients) (v w : Vectors) → m.history ≡ history → Agree nine v w
         → Agree ten (with_candidate m n h s c row v) (with_candidate m n h s c row w)
@@ -193,18 +195,18 @@ module _ (history : Bool) where
     last_same m a d v w p b e = last_agrees m a d v w p b (every b e)
       where
         every : (b : Vector) → compared history b ≡ true → eleven b ≡ true
-        every first_derivative e = refl
-        every last_derivative e = refl
-        every derivative e = refl
-        every previous_two e = refl
-        every previous_one e = refl
-        every next_stage e = refl
-        every eigenvector e = refl
-        every perturbed_state e = refl
-        every perturbed_derivative e = refl
-        every state e = refl
-        every candidate e = refl
-        every older_state e = e
+        every FirstDerivative e = refl
+        every LastDerivative e = refl
+        every Derivative e = refl
+        every PreviousTwo e = refl
+        every PreviousOne e = refl
+        every NextStage e = refl
+        every Eigenvector e = refl
+        every PerturbedState e = refl
+        every PerturbedDerivative e = refl
+        every State e = refl
+        every Candidate e = refl
+        every OlderState e = e
 
     pub norm_same : (m : Setting) (s : ℕ) (a : Arguments) (v w : Vectors) → SameVectors history v w → error_norm m n s a v ≡ error_norm m n s a w
     unfolding error_norm scaled_error_norm scaled_error each

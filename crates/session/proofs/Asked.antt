@@ -13,12 +13,13 @@ use Rattle.coefficients.specs.declared.Recurrence.{Recurrence}
 use Rattle.family.specs.declared.RowForm.{RowForm}
 use Rattle.family.specs.declared.Setting.{Setting}
 use Rattle.ieee.specs.Double.{one, min_positive}
-use Rattle.family.specs.Family.{Family, known}
+use Rattle.family.specs.Family.{known}
 use Rattle.coefficients.specs.declared.Coefficients.{Coefficients}
 use Rattle.workspace.specs.declared.Arguments.{Arguments}
-use Rattle.workspace.specs.Vectors.{Vector, Vectors, ◌with◌≔◌, number, named, unpack, pack, vector_norm, all_finite, first_derivative, eigenvector, state}
+use Rattle.workspace.specs.declared.Vector.{Vector}
+use Rattle.workspace.specs.Vectors.{Vectors, ◌with◌≔◌, number, named, unpack, pack, vector_norm, all_finite, first_derivative, eigenvector, state}
 use Rattle.workspace.specs.Vectors.{older_state}
-use Rattle.workspace.specs.Kernel.{with_direction, perturbed_by, perturbed, turned, first_stage, with_row, exchanged, with_candidate, with_row_in}
+use Rattle.workspace.specs.Kernel.{with_direction, perturbed_by, perturbed, turned, first_stage, exchanged, with_candidate, with_row_in}
 use Rattle.workspace.proofs.Areas.{Long, named_number, unpack_pack, long_direction, long_perturbed, long_turned, long_first, long_row, long_exchanged}
 use Rattle.workspace.proofs.Areas.{long_candidate}
 use Rattle.driver.specs.declared.Phase.{Phase}

@@ -6,7 +6,8 @@ use Prim.Native.Nat.{ℕ, ◌≤◌}
 use lib.Dec.{T, leb}
 use borrow.Author.Tests.{leb-true}
 use Rattle.ieee.specs.Close.{Close}
-use Rattle.family.specs.Family.{Family, Orthogonal, made_of, family_of, permitted}
+use Rattle.family.specs.declared.Family.{Family}
+use Rattle.family.specs.Family.{Orthogonal, made_of, family_of, permitted}
 use Rattle.coefficients.specs.declared.Recurrence.{Recurrence}
 use Rattle.coefficients.specs.Paper as Paper
 use Rattle.coefficients.specs.Rows.{recurrence, coefficients, coefficients_of, recurrence_of}

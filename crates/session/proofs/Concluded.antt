@@ -12,14 +12,16 @@ use lib.ListN.{length}
 use lib.Ieee.{Float, le, lt}
 use Rattle.ieee.specs.Double.{nought, one}
 use Rattle.ieee.specs.Close.{Close}
-use Rattle.family.specs.Family.{Family, RKC, RKMC2, TSRKC2, Orthogonal, made_of, family_of, permitted, stage_count}
+use Rattle.family.specs.declared.Family.{Family}
+use Rattle.family.specs.declared.Family.TheVariants.{RKC, RKMC2, TSRKC2}
+use Rattle.family.specs.Family.{Orthogonal, made_of, family_of, permitted, stage_count}
 use Rattle.family.specs.Reach.{Serves}
 use Rattle.family.proofs.Range.{rkc_between, rkmc2_between}
 use Rattle.family.proofs.Counts.{stage_count_permitted, serves}
 use Rattle.family.proofs.Special.{infinite_count}
 use Rattle.coefficients.specs.declared.Recurrence.{Recurrence}
 use Rattle.coefficients.specs.declared.Polynomials.{Polynomials}
-use Rattle.coefficients.specs.Rows.{recurrence, carried, carried_of, recurrence_of}
+use Rattle.coefficients.specs.Rows.{carried_of, recurrence_of}
 use Rattle.coefficients.specs.Chebyshev as Chebyshev
 use Rattle.coefficients.proofs.CloseTable.{zero_taken, entry_taken, close_taken}
 use Rattle.coefficients.proofs.Carried.{rkmc2_zero_taken, rkmc2_one_taken, zero_from_one, one_above_zero, tsrkc2_zero_taken, tsrkc2_one_taken, gain_taken}

@@ -4,9 +4,8 @@
 use mathlib.Core.Path.{◌≡◌, refl, sym, ap, subst}
 use mathlib.Core.Bool.{Bool, true, false, cond}
 use mathlib.Core.List.{List, []}
-use Prim.Native.Nat.{ℕ, zero, suc, ◌+◌, ◌-◌, ◌≤◌}
-use native.Mathlib.Omega.{arith}
-use lib.Dec.{ltb, eqb}
+use Prim.Native.Nat.{ℕ, zero, suc, ◌+◌, ◌-◌}
+use lib.Dec.{eqb}
 use borrow.Author.Tests.{ne_eqb}
 use lib.Ieee.{Float}
 use Rattle.ieee.specs.Double.{◌⊕◌, ◌⊗◌, nought}
@@ -15,12 +14,13 @@ use Rattle.family.specs.Family.{facts_of, kind}
 use Rattle.coefficients.specs.declared.Recurrence.{Recurrence}
 use Rattle.coefficients.specs.Rows.{recurrence, coefficients, next}
 use Rattle.workspace.specs.declared.Arguments.{Arguments}
-use Rattle.workspace.specs.Vectors.{Vector, Vectors, all_finite, first_derivative, last_derivative, derivative, previous_two, previous_one, next_stage}
-use Rattle.workspace.specs.Vectors.{eigenvector, perturbed_state, perturbed_derivative, state, candidate, older_state}
-use Rattle.workspace.specs.Kernel.{with_direction, perturbation_of, perturbed, turned, radius_of, ended, scaled, first_stage, with_row, exchanged}
-use Rattle.workspace.specs.Kernel.{with_candidate, with_last}
-use Rattle.driver.specs.declared.Need.{Need}
-use Rattle.driver.specs.declared.Need.TheVariants.{Met, Unmet}
+use Rattle.workspace.specs.declared.Vector.{Vector}
+use Rattle.workspace.specs.Vectors.{Vectors, all_finite, previous_one}
+use Rattle.workspace.specs.declared.Vector.TheVariants.{FirstDerivative, LastDerivative, Derivative, PreviousTwo, PreviousOne, NextStage, Eigenvector, PerturbedState, PerturbedDerivative, State, Candidate, OlderState}
+use Rattle.workspace.specs.Vectors.{eigenvector, perturbed_state, state, candidate}
+use Rattle.workspace.specs.Kernel.{with_direction, perturbation_of, perturbed, turned, radius_of, ended, scaled, first_stage, exchanged}
+use Rattle.workspace.specs.Kernel.{with_last}
+use Rattle.driver.specs.Calls.{Need, Met, Unmet}
 use Rattle.driver.specs.Calls.{stage_need}
 use Rattle.session.specs.Attempt.{for_candidate, Asking, done, stopped, ◌>>=◌, evaluate, stages_for, Radius, FinishedAttempt, iterate, spectral_radius}
 use Rattle.session.specs.Attempt.{stage_row, stage_loop, run_recurrence, finished_attempt, close, attempt_step, evaluated, end, fixed_at}
@@ -33,18 +33,18 @@ use Rattle.session.proofs.Agree.{Agree, ◌or◌, three, five, seven, nine, ten,
 use Rattle.session.proofs.Agree.{row_agrees, exchanged_agrees, candidate_agrees, ten_same, five_same, last_same, norm_same, five_three, nine_seven}
 
 start_agrees : (history : Bool) (v w : Vectors) → SameStart history v w → Agree (three history) v w
-start_agrees history v w p state e = p.state_same
-start_agrees history v w p first_derivative e = p.first_same
-start_agrees history v w p eigenvector e = p.eigenvector_same
-start_agrees history v w p last_derivative e = absurd (differ e)
-start_agrees history v w p derivative e = absurd (differ e)
-start_agrees history v w p previous_two e = absurd (differ e)
-start_agrees history v w p previous_one e = absurd (differ e)
-start_agrees history v w p next_stage e = absurd (differ e)
-start_agrees history v w p perturbed_state e = absurd (differ e)
-start_agrees history v w p perturbed_derivative e = absurd (differ e)
-start_agrees history v w p candidate e = absurd (differ e)
-start_agrees history v w p older_state e = p.older_same e
+start_agrees history v w p State e = p.state_same
+start_agrees history v w p FirstDerivative e = p.first_same
+start_agrees history v w p Eigenvector e = p.eigenvector_same
+start_agrees history v w p LastDerivative e = absurd (differ e)
+start_agrees history v w p Derivative e = absurd (differ e)
+start_agrees history v w p PreviousTwo e = absurd (differ e)
+start_agrees history v w p PreviousOne e = absurd (differ e)
+start_agrees history v w p NextStage e = absurd (differ e)
+start_agrees history v w p PerturbedState e = absurd (differ e)
+start_agrees history v w p PerturbedDerivative e = absurd (differ e)
+start_agrees history v w p Candidate e = absurd (differ e)
+start_agrees history v w p OlderState e = p.older_same e
 
 module _ (history : Bool) (under : Setting) (own : under.history ≡ history) (n : ℕ) (a : Arguments) where
   abbrev Radii : Radius → Radius → Type 0

@@ -10,19 +10,19 @@ use borrow.Author.Tests.{eqb-true}
 use lib.ListN.{length}
 use lib.Ieee.{Float}
 use Rattle.ieee.specs.Double.{◌⊕◌}
-use Rattle.family.specs.Family.{family_of}
 use Rattle.coefficients.specs.Rows.{coefficients, next}
 use Rattle.workspace.specs.declared.Arguments.{Arguments}
-use Rattle.workspace.specs.Vectors.{Vector, Vectors, number, unpack, all_finite, first_derivative, last_derivative, derivative, previous_two, previous_one}
-use Rattle.workspace.specs.Vectors.{next_stage, eigenvector, perturbed_state, perturbed_derivative, state, candidate, older_state}
+use Rattle.workspace.specs.declared.Vector.{Vector}
+use Rattle.workspace.specs.Vectors.{Vectors, number, unpack, all_finite, last_derivative}
+use Rattle.workspace.specs.declared.Vector.TheVariants.{FirstDerivative, LastDerivative, Derivative, PreviousTwo, PreviousOne, NextStage, Eigenvector, PerturbedState, PerturbedDerivative, State, Candidate, OlderState}
+use Rattle.workspace.specs.Vectors.{candidate, older_state}
 use Rattle.workspace.specs.Kernel.{turned, radius_of, ended, scaled, with_row, with_row_in, exchanged, with_candidate}
 use Rattle.workspace.proofs.Areas.{unpack_pack}
 use Rattle.driver.specs.declared.Phase.{Phase}
 use Rattle.driver.specs.declared.Phase.TheVariants as P
 use Rattle.driver.specs.declared.Record.{Record}
 use Rattle.driver.specs.declared.Counters.{Counters}
-use Rattle.driver.specs.declared.Need.{Need}
-use Rattle.driver.specs.declared.Need.TheVariants.{Met, Unmet}
+use Rattle.driver.specs.Calls.{Need, Met, Unmet}
 use Rattle.driver.specs.declared.Answer.{Answer}
 use Rattle.driver.specs.declared.Answer.TheVariants.{Evaluate, Refused}
 use Rattle.driver.specs.Answers.{SameAnswer}
@@ -59,18 +59,18 @@ Others v w = (b : Vector) → written_by_pass b ≡ false → w b ≡ v b
 
 turned_others : (n : ℕ) (v : Vectors) (d : List Float) → Others v (turned n v d)
 unfolding turned
-turned_others n v d first_derivative e = refl
-turned_others n v d last_derivative e = refl
-turned_others n v d derivative e = refl
-turned_others n v d previous_two e = refl
-turned_others n v d previous_one e = refl
-turned_others n v d next_stage e = refl
-turned_others n v d eigenvector e = absurd (differ (sym e))
-turned_others n v d perturbed_state e = refl
-turned_others n v d perturbed_derivative e = absurd (differ (sym e))
-turned_others n v d state e = refl
-turned_others n v d candidate e = refl
-turned_others n v d older_state e = refl
+turned_others n v d FirstDerivative e = refl
+turned_others n v d LastDerivative e = refl
+turned_others n v d Derivative e = refl
+turned_others n v d PreviousTwo e = refl
+turned_others n v d PreviousOne e = refl
+turned_others n v d NextStage e = refl
+turned_others n v d Eigenvector e = absurd (differ (sym e))
+turned_others n v d PerturbedState e = refl
+turned_others n v d PerturbedDerivative e = absurd (differ (sym e))
+turned_others n v d State e = refl
+turned_others n v d Candidate e = refl
+turned_others n v d OlderState e = refl
 
 -- refused, its derivative is finite and so the number is not 9, and of the record only the phase is changed; and of the vectors, where the need is refused,
 -- only those that a pass writes

@@ -8,7 +8,8 @@ use borrow.Author.Tests.{eqb-true, eq-eqb}
 use lib.ListN.{length, length-replicate, replicate}
 use lib.Ieee.{Float}
 use Rattle.ieee.specs.Double.{◌⊕◌, nought}
-use Rattle.family.specs.Family.{Family, family_of, facts_of, kind}
+use Rattle.family.specs.declared.Family.{Family}
+use Rattle.family.specs.Family.{family_of, facts_of, kind}
 use Rattle.coefficients.specs.Rows.{recurrence, coefficients, next}
 use Rattle.workspace.specs.Vectors.{Vectors, ◌with◌≔◌, number, vector_count, unpack, pack, all_finite, first_derivative, eigenvector, candidate}
 use Rattle.workspace.specs.Kernel.{turned, radius_of, ended, scaled, with_row, exchanged, with_candidate}
@@ -17,8 +18,7 @@ use Rattle.workspace.proofs.Areas.{long_candidate, long_last}
 use Rattle.driver.specs.declared.Phase.{Phase}
 use Rattle.driver.specs.declared.Phase.TheVariants as P
 use Rattle.driver.specs.declared.Record.{Record}
-use Rattle.driver.specs.declared.Need.{Need}
-use Rattle.driver.specs.declared.Need.TheVariants.{Met, Unmet}
+use Rattle.driver.specs.Calls.{Need, Met, Unmet}
 use Rattle.driver.specs.declared.Answer.TheVariants.{Evaluate, Refused}
 use Rattle.driver.specs.Calls.{step_to, in_phase, at_pass, at_stage, with_radius, take_first, take_callback, ask_pass, ask_stage, stage_need, by_need}
 use Rattle.driver.specs.Calls.{begin_stages, take_pass, ask_candidate, take_stage, take_candidate, replied, whole_area, setting_of, Step}

@@ -9,10 +9,13 @@ use lib.ListN.{length, length-replicate, replicate}
 use lib.Ieee.{Float}
 use lib.Ieee.Scale.{finite}
 use Rattle.ieee.specs.Double.{nought}
-use Rattle.family.specs.Family.{Family, family_of, keeps_older, facts_of}
+use Rattle.family.specs.declared.Family.{Family}
+use Rattle.family.specs.Family.{family_of, keeps_older, facts_of}
 use Rattle.family.proofs.Numbers.{seven_alone}
-use Rattle.workspace.specs.Vectors.{Vector, Vectors, ◌with◌≔◌, unpack, pack, all_finite, first_derivative, last_derivative, eigenvector, state, candidate}
-use Rattle.workspace.specs.Vectors.{number, derivative, previous_two, previous_one, next_stage, perturbed_state, perturbed_derivative, older_state}
+use Rattle.workspace.specs.declared.Vector.{Vector}
+use Rattle.workspace.specs.Vectors.{Vectors, ◌with◌≔◌, unpack, pack, all_finite, first_derivative, last_derivative, eigenvector, state, candidate}
+use Rattle.workspace.specs.declared.Vector.TheVariants.{FirstDerivative, LastDerivative, Derivative, PreviousTwo, PreviousOne, NextStage, Eigenvector, PerturbedState, PerturbedDerivative, State, Candidate, OlderState}
+use Rattle.workspace.specs.Vectors.{number, older_state}
 use Rattle.workspace.proofs.Areas.{unpack_pack, long_with}
 use Rattle.driver.specs.declared.Phase.TheVariants as P
 use Rattle.driver.specs.Calls.{Held, Called, in_phase, at_time, first_at, take_callback, replied, as_long, pending, in_range, awaiting, may_accept}
@@ -193,18 +196,18 @@ module _ (h : Held) (q : taken (accept h).answer ≡ true) where
           after_accept f = record { family = f; n = σ.n; doing = within (accept_step f x step o.vectors); counts = σ.counts }
 
           other : (b : Vector) → eqb (number older_state) (number b) ≡ false → eqb (number b) (number older_state) ≡ false
-          other first_derivative e = refl
-          other last_derivative e = refl
-          other derivative e = refl
-          other previous_two e = refl
-          other previous_one e = refl
-          other next_stage e = refl
-          other eigenvector e = refl
-          other perturbed_state e = refl
-          other perturbed_derivative e = refl
-          other state e = refl
-          other candidate e = refl
-          other older_state e = absurd (differ (sym e))
+          other FirstDerivative e = refl
+          other LastDerivative e = refl
+          other Derivative e = refl
+          other PreviousTwo e = refl
+          other PreviousOne e = refl
+          other NextStage e = refl
+          other Eigenvector e = refl
+          other PerturbedState e = refl
+          other PerturbedDerivative e = refl
+          other State e = refl
+          other Candidate e = refl
+          other OlderState e = absurd (differ (sym e))
 
           seen : (b : Vector) → eqb (number older_state) (number b) ≡ false → compared (is_some x) b ≡ true
           seen b e = rw (other b e)

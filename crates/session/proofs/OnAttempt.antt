@@ -3,7 +3,6 @@ use mathlib.Core.Path.{◌≡◌, refl, sym, ap, ◌∙◌, subst}
 use mathlib.Core.Bool.{Bool, true, false, ◌&&◌}
 use Prim.Native.Nat.{ℕ}
 use lib.ListN.{length}
-use Rattle.family.specs.Family.{family_of}
 use Rattle.workspace.specs.declared.Arguments.{Arguments}
 use Rattle.workspace.specs.Vectors.{Vectors, unpack, first_derivative, eigenvector, state, older_state}
 use Rattle.workspace.specs.Kernel.{with_direction, perturbation_of}

@@ -6,7 +6,9 @@ use lib.Dec.{T}
 use lib.Ieee.{Float, inf}
 use lib.Ieee.Scale.{finite}
 use mathlib.Core.Bool.{false}
-use Rattle.family.specs.Family.{Family, TSRKC2, Orthogonal, made_of, family_of, largest_count, stage_count}
+use Rattle.family.specs.declared.Family.{Family}
+use Rattle.family.specs.declared.Family.TheVariants.{TSRKC2}
+use Rattle.family.specs.Family.{Orthogonal, made_of, family_of, largest_count, stage_count}
 use Rattle.family.specs.Reach.{Serves}
 use Rattle.family.proofs.Counts.{serves}
 use Rattle.family.proofs.Special.{infinite_count}

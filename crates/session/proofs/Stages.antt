@@ -1,22 +1,24 @@
 -- The stages and the candidate: from stage j on the calls follow the loop of the rows, and after stage s the candidate's evaluation and the end.
 -- ⊕ ⊗ are operations on doubles: they round.
-use mathlib.Core.Path.{◌≡◌, refl, sym, ap, ◌∙◌, subst}
+use mathlib.Core.Path.{◌≡◌, refl, sym, ap, ◌∙◌}
 use mathlib.Core.Bool.{Bool, true, false, cond}
 use mathlib.Core.List.{List}
 use Prim.Native.Nat.{ℕ, zero, suc, ◌+◌, ◌-◌, ◌≤◌}
 use native.Mathlib.Omega.{arith}
-use lib.Dec.{ltb, eqb}
+use lib.Dec.{eqb}
 use borrow.Author.Tests.{lt-ltb, le-ltb, le-leb}
 use lib.ListN.{length}
 use lib.Ieee.{Float, lt}
 use Rattle.ieee.specs.Double.{◌⊕◌, ◌⊗◌, nought}
 use Rattle.family.specs.declared.Setting.{Setting}
-use Rattle.family.specs.Family.{RKMC2, TSRKC2, known, facts_of, kind}
+use Rattle.family.specs.declared.Family.TheVariants.{RKMC2, TSRKC2}
+use Rattle.family.specs.Family.{known, facts_of, kind}
 use Rattle.coefficients.specs.declared.Recurrence.{Recurrence}
 use Rattle.coefficients.specs.Rows.{coefficients, next, carried, candidate_weights}
 use Rattle.coefficients.proofs.Carried.{carried_next}
 use Rattle.workspace.specs.declared.Arguments.{Arguments}
-use Rattle.workspace.specs.Vectors.{Vector, Vectors, ◌with◌≔◌, number, each, all_finite, first_derivative, last_derivative}
+use Rattle.workspace.specs.declared.Vector.{Vector}
+use Rattle.workspace.specs.Vectors.{Vectors, ◌with◌≔◌, number, each, all_finite, first_derivative, last_derivative}
 use Rattle.workspace.specs.Vectors.{derivative, previous_two, previous_one, next_stage, state, candidate, older_state}
 use Rattle.workspace.specs.Kernel.{with_row, exchanged, combined_entry, mixed_entry, older_of, with_candidate, with_last, error}
 use Rattle.workspace.proofs.Areas.{long_last}
@@ -24,7 +26,7 @@ use Rattle.workspace.proofs.Candidate.{candidate_last, candidate_combined, candi
 use Rattle.driver.specs.declared.Phase.TheVariants as P
 use Rattle.driver.specs.declared.Iteration.{Iteration}
 use Rattle.driver.specs.declared.Staging.{Staging}
-use Rattle.driver.specs.declared.Need.TheVariants.{Met}
+use Rattle.driver.specs.Calls.{Met}
 use Rattle.driver.specs.declared.Counters.{Counters}
 use Rattle.driver.specs.declared.Answer.TheVariants.{Evaluate, Refused}
 use Rattle.driver.specs.Calls.{Held, step_to, in_phase, setting_for, permits, at_stage, ask_stage, stage_need, ask_candidate, take_stage, take_candidate}

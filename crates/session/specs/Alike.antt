@@ -1,7 +1,8 @@
 -- Two computations alike: they ask for the same on the same replies, and end alike. Of the older state, the last of the twelve vectors, that says something
 -- only where there is a history, an older state that an attempt may read: without one that part of the area stands, whatever it holds, and nothing reads it.
 use Rattle.std.specs.Prelude.{ℕ, ◌≡◌, Bool, true, cond, List, eqb, Float}
-use Rattle.workspace.specs.Vectors.{Vector, Vectors, number, first_derivative, eigenvector, state, older_state}
+use Rattle.workspace.specs.declared.Vector.{Vector}
+use Rattle.workspace.specs.Vectors.{Vectors, number, first_derivative, eigenvector, state, older_state}
 use Rattle.session.specs.Attempt.{Asking, done, stopped, ask, FinishedAttempt, fixed_at, End, reached, refused}
 
 -- stopped with the same number, and with 10 with the same vectors but for the last derivative

@@ -3,14 +3,16 @@
 use Rattle.std.specs.Prelude.{◌≡◌, Bool, true, false, List, [], ◌∷◌, ◌++◌, ℕ, zero, suc, ◌+◌, ◌-◌, ◌≤◌, ◌<◌, ◌^◌, length, take, Float}
 use Rattle.std.specs.Float.Ieee.{lt}
 use Rattle.ieee.specs.Double.{nought}
-use Rattle.family.specs.Family.{RKMC2, TSRKC2, known, family_of, kind, stage_count}
+use Rattle.family.specs.declared.Family.TheVariants.{RKMC2, TSRKC2}
+use Rattle.family.specs.Family.{known, family_of, stage_count}
 use Rattle.coefficients.specs.Rows.{candidate_weights, carried}
 use Rattle.workspace.specs.declared.Arguments.{Arguments}
-use Rattle.workspace.specs.Vectors.{Vector, Vectors, width, named, unpack, pack, each, all_finite, next_stage, state, candidate, older_state, first_derivative}
+use Rattle.workspace.specs.declared.Vector.{Vector}
+use Rattle.workspace.specs.Vectors.{Vectors, width, named, unpack, pack, each, all_finite, next_stage, state, candidate, older_state, first_derivative}
 use Rattle.workspace.specs.Vectors.{last_derivative}
 use Rattle.workspace.specs.Kernel.{combined_entry, mixed_entry, older_of}
 use Rattle.driver.specs.declared.Phase.TheVariants as P
-use Rattle.driver.specs.declared.Need.TheVariants.{Met}
+use Rattle.driver.specs.Calls.{Met}
 use Rattle.driver.specs.declared.Figures.{Figures}
 use Rattle.driver.specs.declared.Answer.{Answer}
 use Rattle.driver.specs.declared.Answer.TheVariants.{Evaluate, Finished, Ready, Refused, Empty}

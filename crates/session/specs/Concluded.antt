@@ -10,7 +10,8 @@ use Rattle.std.specs.Float.Ieee.{le, lt}
 use Rattle.std.specs.Float.Ieee.Scale.{finite}
 use Rattle.ieee.specs.Double.{nought, one}
 use Rattle.ieee.specs.Close.{Close}
-use Rattle.family.specs.Family.{RKC, RKMC2, TSRKC2, Orthogonal, made_of, family_of, kind, permitted, largest_count, stage_count, exceeds}
+use Rattle.family.specs.declared.Family.TheVariants.{RKC, RKMC2, TSRKC2}
+use Rattle.family.specs.Family.{Orthogonal, made_of, family_of, kind, permitted, largest_count, stage_count, exceeds}
 use Rattle.family.specs.declared.Setting.{Setting}
 use Rattle.family.specs.Reach.{Serves}
 use Rattle.coefficients.specs.declared.Recurrence.{Recurrence}

@@ -2,9 +2,11 @@
 -- CR 6.
 use Rattle.std.specs.Prelude.{ℕ, ◌+◌, ◌≡◌, ◌⊎◌, Bool, false, cond, not, ◌&&◌, ◌||◌, List, [], ◌∷◌, ltb, eqb, Float}
 use Rattle.std.specs.Float.Ieee.Scale.{finite}
-use Rattle.family.specs.Family.{TSRKC2, known, number_of_stages}
+use Rattle.family.specs.declared.Family.TheVariants.{TSRKC2}
+use Rattle.family.specs.Family.{known, number_of_stages}
 use Rattle.coefficients.specs.Rows.{coefficients}
-use Rattle.workspace.specs.Vectors.{Vector, Vectors, number, unpack, all_finite, last_derivative, eigenvector, perturbed_derivative, candidate, older_state}
+use Rattle.workspace.specs.declared.Vector.{Vector}
+use Rattle.workspace.specs.Vectors.{Vectors, number, unpack, all_finite, last_derivative, eigenvector, perturbed_derivative, candidate, older_state}
 use Rattle.workspace.specs.Kernel.{turned, radius_of, ended, scaled, with_row, with_candidate}
 use Rattle.driver.specs.declared.Phase.{Phase}
 use Rattle.driver.specs.declared.Phase.TheVariants as P

@@ -11,50 +11,48 @@ use lib.Ieee.{Float}
 use Rattle.ieee.proofs.Logic.{both}
 use Rattle.family.specs.Family.{known}
 use Rattle.heat_sink.specs.declared.Inverter.{Inverter}
-use Rattle.fields.specs.Fields.{word_field, after}
+use Rattle.fields.specs.Fields.{word_field, number_field, after}
 use Rattle.fields.specs.declared.Field.{Field}
-use Rattle.fields.specs.declared.Field.TheVariants.{Value, Bad}
-use Rattle.sheet.specs.declared.Head.{Head}
-use Rattle.sheet.specs.declared.Head.TheVariants.{Line, Malformed}
-use Rattle.sheet.specs.Text.{most_temperatures, line_end, double_of_bits, finite_constants, sound, if_sound, constants, first_line, Lined, Readings}
+use Rattle.std.specs.Prelude.{Option, Some, None}
+use Rattle.std.specs.Bool.{then_some}
+use Rattle.sheet.specs.Text.{Head, ◌>>=◌, number_places, space, inverter, most_temperatures, line_end, double_of_bits, finite_constants, sound, if_sound, constants, first_line, Lined, Readings}
 use Rattle.sheet.specs.Text.{BadAtLine, lines_from, minutes_a_day, Day, BadAt, to_the_end, after_head, parsed}
 
-unfoldable Sound : Head → Type 0
-Sound (Line m at) = sound m ≡ true
-Sound Malformed = Unit
+unfoldable Sound : Option Head → Type 0
+Sound (Some head) = sound head.inverter ≡ true
+Sound None = Unit
 
 -- ---- line 1
 
-after_sound : (f : Field) (go : ℕ → ℕ → Head) → ((value at : ℕ) → Sound (go value at)) → Sound (after Malformed f go)
-unfolding after Sound
-after_sound (Value value at) go h = h value at
-after_sound Bad go h = tt
-
-line : (m : Inverter) (at : ℕ) → sound m ≡ true → Sound (Line m at)
+after_sound : (f : Option Field) (go : Field → Option Head) → ((x : Field) → Sound (go x)) → Sound (f >>= go)
 unfolding Sound
-line m at e = e
-
-none : Sound Malformed
-unfolding Sound
-none = tt
+after_sound (Some x) go h = h x
+after_sound None go h = tt
 
 if_sound_sound : (m : Inverter) (at : ℕ) → Sound (if_sound m at)
-unfolding if_sound
+unfolding if_sound Sound
 if_sound_sound m at = go (sound m) refl
   where
-    go : (b : Bool) → sound m ≡ b → Sound (cond b (Line m at) Malformed)
-    go true e = line m at e
-    go false e = none
+    go : (b : Bool) → sound m ≡ b → Sound (then_some b (record { inverter = m; next = at }))
+    go true e = e
+    go false e = tt
 
 constants_sound : (text : List ℕ) (family n at : ℕ) → Sound (constants text family n at)
 unfolding constants
 constants_sound text family n at =
-    after_sound _ _ (λ a at. after_sound _ _ (λ b at. after_sound _ _
-    (λ c at. after_sound _ _ (λ d at. after_sound _ _ (λ e at. after_sound _ _ (λ f at. if_sound_sound _ at))))))
+    after_sound (word_field space text at) _ (λ initial.
+    after_sound (word_field space text initial.next) _ (λ ambient.
+    after_sound (word_field space text ambient.next) _ (λ conduct.
+    after_sound (word_field space text conduct.next) _ (λ cool.
+    after_sound (word_field space text cool.next) _ (λ heat.
+    after_sound (word_field line_end text heat.next) _ (λ rated.
+    if_sound_sound (inverter family n initial.value ambient.value conduct.value cool.value heat.value rated.value) rated.next))))))
 
 head_sound : (text : List ℕ) → Sound (first_line text)
 unfolding first_line
-head_sound text = after_sound _ _ (λ family at. after_sound _ _ (λ n at. constants_sound text family n at))
+head_sound text =
+    after_sound (number_field number_places space text 0) _ (λ family.
+    after_sound (number_field number_places space text family.next) _ (λ n. constants_sound text family.value n.value n.next))
 
 -- ---- the whole text
 
@@ -67,10 +65,10 @@ ended_sound text m' m xs (Readings ys at) e s = go (eqb at (length text)) e
     go false e = let z : ◌≡◌ {A = ℕ} 0 1 = cc in absurd (omega arith)
 ended_sound text m' m xs (BadAtLine line) e s = let z : ◌≡◌ {A = ℕ} 0 1 = cc in absurd (omega arith)
 
-read_sound : (text : List ℕ) (m : Inverter) (xs : List Float) (h : Head) → Sound h → after_head text h ≡ Day m xs → sound m ≡ true
+read_sound : (text : List ℕ) (m : Inverter) (xs : List Float) (h : Option Head) → Sound h → after_head text h ≡ Day m xs → sound m ≡ true
 unfolding after_head Sound
-read_sound text m xs (Line m' at) s e = ended_sound text m' m xs (lines_from text minutes_a_day at 2 []) e s
-read_sound text m xs Malformed s e = let z : ◌≡◌ {A = ℕ} 0 1 = cc in absurd (omega arith)
+read_sound text m xs (Some head) s e = ended_sound text head.inverter m xs (lines_from text minutes_a_day head.next 2 []) e s
+read_sound text m xs None s e = let z : ◌≡◌ {A = ℕ} 0 1 = cc in absurd (omega arith)
 
 sizes : (m : Inverter) → sound m ≡ true → (1 ≤ m.n) × (m.n ≤ most_temperatures)
 unfolding sound
@@ -96,14 +94,16 @@ unfolding lines_from Grown after
 lines_grow text zero at from xs = omega arith
 lines_grow text (suc k) at from xs = on (word_field line_end text at) (λ bits next. lines_grow text k next (from + 1) (xs ++ (double_of_bits bits ∷ [])))
   where
-    on : (f : Field) → ((bits next : ℕ) → Grown (length (xs ++ (double_of_bits bits ∷ [])) + k)
+    on : (f : Option Field) → ((bits next : ℕ) → Grown (length (xs ++ (double_of_bits bits ∷ [])) + k)
         (lines_from text k next (from + 1) (xs ++ (double_of_bits bits ∷ []))))
         → Grown (length xs + suc k) (after (BadAtLine from) f (λ bits next. lines_from text k next (from + 1) (xs ++ (double_of_bits bits ∷ []))))
-    on (Value bits next) h =
+    on (Some field) h =
+        let bits = field.value in
+        let next = field.next in
         let e = length-append xs (double_of_bits bits ∷ []) in
         let n : length (xs ++ (double_of_bits bits ∷ [])) + k ≡ length xs + suc k = omega (arith, e) in
         subst (λ (j : ℕ). Grown j (lines_from text k next (from + 1) (xs ++ (double_of_bits bits ∷ [])))) n (h bits next)
-    on Bad h = tt
+    on None h = tt
 
 ended_grown : (text : List ℕ) (m' m : Inverter) (n : ℕ) (xs : List Float) (l : Lined) → Grown n l → to_the_end text m' l ≡ Day m xs → length xs ≡ n
 unfolding to_the_end Grown
@@ -114,10 +114,11 @@ ended_grown text m' m n xs (Readings ys at) g e = go (eqb at (length text)) e
     go false e = let z : ◌≡◌ {A = ℕ} 0 1 = cc in absurd (omega arith)
 ended_grown text m' m n xs (BadAtLine line) g e = let z : ◌≡◌ {A = ℕ} 0 1 = cc in absurd (omega arith)
 
-read_minutes : (text : List ℕ) (m : Inverter) (xs : List Float) (h : Head) → after_head text h ≡ Day m xs → length xs ≡ minutes_a_day
+read_minutes : (text : List ℕ) (m : Inverter) (xs : List Float) (h : Option Head) → after_head text h ≡ Day m xs → length xs ≡ minutes_a_day
 unfolding after_head
-read_minutes text m xs (Line m' at) e = ended_grown text m' m minutes_a_day xs (lines_from text minutes_a_day at 2 []) (lines_grow text minutes_a_day at 2 []) e
-read_minutes text m xs Malformed e = let z : ◌≡◌ {A = ℕ} 0 1 = cc in absurd (omega arith)
+read_minutes text m xs (Some head) e =
+    ended_grown text head.inverter m minutes_a_day xs (lines_from text minutes_a_day head.next 2 []) (lines_grow text minutes_a_day head.next 2 []) e
+read_minutes text m xs None e = let z : ◌≡◌ {A = ℕ} 0 1 = cc in absurd (omega arith)
 
 pub day_minutes : (text : List ℕ) (m : Inverter) (xs : List Float) → parsed text ≡ Day m xs → length xs ≡ minutes_a_day
 unfolding parsed

@@ -1,20 +1,15 @@
 -- A day as text. Line 1: the family and the number of temperatures in decimal, then six doubles: the starting temperature, the ambient one,
 -- `conduct`, `cool`, `heat` and the rated junction temperature. Lines 2 to 1441: a reading each. A double is the 16 hexadecimal digits of its
 -- bits, A to F in capitals. One space stands between two fields, and each line ends in LF, the last included. Nothing else is a day.
-use Rattle.std.specs.Prelude.{ℕ, zero, suc, ◌+◌, Bool, cond, ◌&&◌, List, [], ◌∷◌, ◌++◌, ◌≡◌, leb, eqb, length, Float}
+use Rattle.std.specs.Prelude.{ℕ, zero, suc, ◌+◌, Bool, cond, ◌&&◌, List, [], ◌∷◌, ◌++◌, ◌≡◌, leb, eqb, length, Float, Option, Some, None, Result, Ok, Err, option_map, option_and_then}
+use Rattle.std.specs.Bool.{then_some}
 use Rattle.std.specs.Float.{binary64}
 use Rattle.std.specs.Float.Ieee.{of_bits}
 use Rattle.std.specs.Float.Ieee.Scale.{finite}
 use Rattle.family.specs.Family.{known}
-use Rattle.fields.specs.declared.Field.{Field}
 use Rattle.fields.specs.Fields.{word_field, number_field, after}
 use Rattle.heat_sink.specs.declared.Inverter.{Inverter}
-use Rattle.sheet.specs.declared.Head.{Head}
-use Rattle.sheet.specs.declared.Head.TheVariants.{Line, Malformed}
-use Rattle.sheet.specs.declared.Lines.{Lines}
-use Rattle.sheet.specs.declared.Lines.TheVariants.{Read, BadLine}
-use Rattle.sheet.specs.declared.Sheet.{Sheet}
-use Rattle.sheet.specs.declared.Sheet.TheVariants.{Whole, Broken}
+use Rattle.sheet.specs.declared.Malformed.{Malformed}
 
 abbrev pub minutes_a_day : ℕ
 minutes_a_day = 1440
@@ -34,8 +29,9 @@ line_end = 10
 
 -- ---- line 1
 
-abbrev pub then : Field → (ℕ → ℕ → Head) → Head
-then field go = after Malformed field go
+infixl 10 ◌>>=◌
+abbrev pub ◌>>=◌ : {A B : Type 0} → Option A → (A → Option B) → Option B
+o >>= f = option_and_then f o
 
 abbrev pub double_of_bits : ℕ → Float
 double_of_bits bits = of_bits binary64 bits
@@ -59,22 +55,33 @@ finite_constants m = finite m.initial && finite m.ambient && finite m.conduct &&
 unfoldable pub sound : Inverter → Bool
 sound m = known m.family && leb 1 m.n && leb m.n most_temperatures && finite_constants m
 
-unfoldable pub if_sound : Inverter → ℕ → Head
-if_sound m at = cond (sound m) (Line m at) Malformed
+-- what line 1 says, and the place after it
+pub record Head : Type 0 where
+  pub inverter : Inverter
+  pub next : ℕ
 
-unfoldable pub constants : List ℕ → ℕ → ℕ → ℕ → Head
-constants text family n at =
-    then (word_field space text at) (λ initial at.
-    then (word_field space text at) (λ ambient at.
-    then (word_field space text at) (λ conduct at.
-    then (word_field space text at) (λ cool at.
-    then (word_field space text at) (λ heat at.
-    then (word_field line_end text at) (λ rated at. if_sound (inverter family n initial ambient conduct cool heat rated) at))))))
+unfoldable pub if_sound : Inverter → ℕ → Option Head
+if_sound m at = then_some (sound m) (record { inverter = m; next = at })
 
-unfoldable pub first_line : List ℕ → Head
-first_line text =
-    then (number_field number_places space text 0) (λ family at.
-    then (number_field number_places space text at) (λ n at. constants text family n at))
+unfoldable pub constants : List ℕ → ℕ → ℕ → ℕ → Option Head
+constants text family n at = do
+  initial ← word_field space text at
+  ambient ← word_field space text initial.next
+  conduct ← word_field space text ambient.next
+  cool ← word_field space text conduct.next
+  heat ← word_field space text cool.next
+  rated ← word_field line_end text heat.next
+  if_sound (inverter family n initial.value ambient.value conduct.value cool.value heat.value rated.value) rated.next
+
+unfoldable pub first_line : List ℕ → Option Head
+first_line text = do
+  family ← number_field number_places space text 0
+  n ← number_field number_places space text family.next
+  constants text family.value n.value n.next
+
+-- an inverter that was read, if one was, and the place after it
+abbrev pub head_to : ℕ → Option Inverter → Option Head
+head_to next m = option_map (λ m. record { inverter = m; next = next }) m
 
 -- ---- lines 2 to 1441
 
@@ -89,10 +96,14 @@ lines_from text zero at line readings = Readings readings at
 lines_from text (suc k) at line readings =
     after (BadAtLine line) (word_field line_end text at) (λ bits next. lines_from text k next (line + 1) (readings ++ (double_of_bits bits ∷ [])))
 
--- a slice that is filled by them; after a bad line, what it holds is left open
-unfoldable pub Fills : Lined → Lines → List Float → Type 0
-Fills (Readings readings at) said filled = (said ≡ Read at) × (filled ≡ readings)
-Fills (BadAtLine line) said filled = said ≡ BadLine line
+-- the first line that is none
+abbrev pub malformed : ℕ → Malformed
+malformed line = record { line = line }
+
+-- a slice that is filled by them, and the place where they end; after a bad line, what both are is left open
+unfoldable pub Fills : Lined → Result (Unit {0}) Malformed → ℕ → List Float → Type 0
+Fills (Readings readings at) said to filled = (said ≡ Ok tt) × (to ≡ at) × (filled ≡ readings)
+Fills (BadAtLine line) said to filled = said ≡ Err (malformed line)
 
 -- ---- the whole text
 
@@ -105,14 +116,14 @@ unfoldable pub to_the_end : List ℕ → Inverter → Lined → Parsed
 to_the_end text m (Readings readings at) = cond (eqb at (length text)) (Day m readings) (BadAt (minutes_a_day + 2))
 to_the_end text m (BadAtLine line) = BadAt line
 
-unfoldable pub after_head : List ℕ → Head → Parsed
-after_head text (Line m at) = to_the_end text m (lines_from text minutes_a_day at 2 [])
-after_head text Malformed = BadAt 1
+unfoldable pub after_head : List ℕ → Option Head → Parsed
+after_head text (Some head) = to_the_end text head.inverter (lines_from text minutes_a_day head.next 2 [])
+after_head text None = BadAt 1
 
 unfoldable pub parsed : List ℕ → Parsed
 parsed text = after_head text (first_line text)
 
 -- what the code answers, and the slice that it fills
-unfoldable pub Reads : Parsed → Sheet → List Float → Type 0
-Reads (Day m readings) said filled = (said ≡ Whole m) × (filled ≡ readings)
-Reads (BadAt line) said filled = said ≡ Broken line
+unfoldable pub Reads : Parsed → Result Inverter Malformed → List Float → Type 0
+Reads (Day m readings) said filled = (said ≡ Ok m) × (filled ≡ readings)
+Reads (BadAt line) said filled = said ≡ Err (malformed line)

@@ -17,8 +17,5 @@ pub fn reply(record: Record, counters: &mut Counters, area: &mut [f64], derivati
 {
     let out = driver::reply(record, *counters, area, derivative);
     *counters = out.counters;
-    Next {
-        answer: out.answer,
-        record: out.record,
-    }
+    out.next()
 }

@@ -1,20 +1,15 @@
-// What the tables of doubles by count share. A table is rows of 16 doubles, and a read takes the row whole.
+// What the tables of doubles by count share: rows of 16, and the entry of a count.
 #![tactic(auto)]
 
-ghost use Rattle.std.specs.Prelude.{◌≡◌, ◌<◌, min};
-ghost use Rattle.table.specs.Rows.{NoneOf};
+ghost use Rattle.std.specs.Prelude.{◌≡◌, ◌/◌, ◌<◌, min, length};
+ghost use Rattle.table.specs.Rows.{entry_in};
 
-// For the last arm of a match that has an arm for each number below n: no k comes here.
-pub fn absent(k: u64, n: u64) -> [f64; 16]
-    requires { NoneOf k n × (k < n) }
-    ensures { ⊥ }
+// The entry of s, or that of the last count of the table where s is beyond it.
+#[inline]
+pub fn entry(rows: &[[f64; 16]], last: u64, s: u64) -> f64
+    requires { last / 16 < length rows.now }
+    ensures { result ≡ entry_in rows.now (min s last) }
 {
-    [0.0; 16]
-}
-
-// s, or the last count of a table.
-pub fn capped(s: u64, last: u64) -> u64
-    ensures { result ≡ min s last }
-{
-    if s < last { s } else { last }
+    let i = s.min(last);
+    rows[(i / 16) as usize][(i % 16) as usize]
 }

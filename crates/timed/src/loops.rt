@@ -1,5 +1,5 @@
 // The loops of `workspace` and `norm`, each behind the tests that its lengths want.
-ghost use Rattle.std.specs.Prelude.{◌≡◌, false};
+ghost use Rattle.std.specs.Prelude.{◌≡◌, ◌↔◌, IsTrue, false};
 ghost use Rattle.ieee.specs.Double.{nought};
 ghost use Rattle.ieee.specs.Sqrt.{sqrt};
 ghost use Rattle.family.specs.Family.{setting};
@@ -8,6 +8,21 @@ ghost use Rattle.workspace.specs.Kernel.{perturbed, perturbed_by, turned, with_r
 ghost use Rattle.timed.specs.Left.{weights, Holds, Takes, Steps};
 
 use coefficients::Coefficients;
+use family::{Family, Setting};
+
+// Whether the loops over n entries can run on this area.
+fn holds(area: &[f64], n: usize) -> bool
+    ensures { IsTrue result ↔ Holds n area.now }
+{
+    n <= 512 && 11 * n <= area.len()
+}
+
+// And take this derivative.
+fn takes(area: &[f64], n: usize, derivative: &[f64]) -> bool
+    ensures { IsTrue result ↔ Takes n area.now derivative.now }
+{
+    holds(area, n) && derivative.len() == n
+}
 
 // The row with the exchange after it.
 #[unsafe(no_mangle)]
@@ -26,25 +41,21 @@ pub extern "C" fn timed_row(
         (λ v. exchanged (with_row (setting family false nought) n step (weights mu nu mu_tilde gamma_tilde) v derivative.now)) }
 {
     let c = Coefficients {
-        mu: mu,
-        nu: nu,
-        mu_tilde: mu_tilde,
-        gamma_tilde: gamma_tilde,
+        mu,
+        nu,
+        mu_tilde,
+        gamma_tilde,
         theta: 0.0,
     };
-    if n <= 512 {
-        if 11 * n <= area.len() {
-            if derivative.len() == n {
-                workspace::row_and_exchange(
-                    area,
-                    n,
-                    family::without_history(family),
-                    c,
-                    step,
-                    derivative,
-                );
-            }
-        }
+    if takes(area, n, derivative) {
+        workspace::row_and_exchange(
+            area,
+            n,
+            Setting::without_history(Family::from(family)),
+            c,
+            step,
+            derivative,
+        );
     }
 }
 
@@ -75,11 +86,9 @@ pub extern "C" fn timed_root(x: f64) -> f64
 pub extern "C" fn timed_point(area: &mut [f64], n: usize, perturbation: f64)
     ensures { Steps (Holds n area.old) n area.old area.new (perturbed n perturbation) }
 {
-    if n <= 512 {
-        if 11 * n <= area.len() {
-            let norm = workspace::direction_norm(area, n);
-            workspace::perturb(area, n, perturbation, norm);
-        }
+    if holds(area, n) {
+        let norm = workspace::direction_norm(area, n);
+        workspace::perturb(area, n, perturbation, norm);
     }
 }
 
@@ -88,10 +97,8 @@ pub extern "C" fn timed_point(area: &mut [f64], n: usize, perturbation: f64)
 pub extern "C" fn timed_point_from(area: &mut [f64], n: usize, perturbation: f64, norm: f64)
     ensures { Steps (Holds n area.old) n area.old area.new (perturbed_by n perturbation norm) }
 {
-    if n <= 512 {
-        if 11 * n <= area.len() {
-            workspace::perturb(area, n, perturbation, norm);
-        }
+    if holds(area, n) {
+        workspace::perturb(area, n, perturbation, norm);
     }
 }
 
@@ -101,13 +108,9 @@ pub extern "C" fn timed_pass(area: &mut [f64], n: usize, perturbation: f64, deri
     ensures { Steps (Takes n area.old derivative.now) n area.old area.new
         (λ v. perturbed n perturbation (turned n v derivative.now)) }
 {
-    if n <= 512 {
-        if 11 * n <= area.len() {
-            if derivative.len() == n {
-                workspace::turn(area, n, derivative);
-                let norm = workspace::direction_norm(area, n);
-                workspace::perturb(area, n, perturbation, norm);
-            }
-        }
+    if takes(area, n, derivative) {
+        workspace::turn(area, n, derivative);
+        let norm = workspace::direction_norm(area, n);
+        workspace::perturb(area, n, perturbation, norm);
     }
 }

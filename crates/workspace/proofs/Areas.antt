@@ -2,7 +2,7 @@
 use mathlib.Core.Path.{◌≡◌, refl, sym, ap, ◌∙◌, fun_ext}
 use mathlib.Core.Bool.{Bool, true, false, cond}
 use mathlib.Core.List.{List, [], ◌∷◌, ◌++◌, append-nil}
-use Prim.Native.Nat.{ℕ, zero, suc, ◌+◌, ◌-◌, ◌*◌, ◌≤◌, ◌<◌}
+use Prim.Native.Nat.{ℕ, zero, suc, ◌+◌, ◌*◌, ◌≤◌, ◌<◌}
 use native.Mathlib.Nat.{mul-le-mul_right, suc-mul, zero-mul, not-suc-le-zero, le_of_suc-le-suc}
 use native.Mathlib.Omega.{arith}
 use lib.Dec.{eqb}
@@ -15,13 +15,17 @@ use Rattle.family.specs.declared.Setting.{Setting}
 use Rattle.family.specs.declared.RowForm.{RowForm}
 use Rattle.family.specs.declared.CandidateForm.{CandidateForm}
 use Rattle.family.specs.declared.CandidateForm.TheVariants.{LastStage, Combined, WithOlder}
-use Rattle.family.specs.Family.{Family, RKC, RKL1, RKL2, RKG1, RKG2, RKMC2, TSRKC2, keeps_older, facts_of, kind}
+use Rattle.family.specs.declared.Family.{Family}
+use Rattle.family.specs.declared.Family.TheVariants.{RKC, RKL1, RKL2, RKG1, RKG2, RKMC2, TSRKC2}
+use Rattle.family.specs.Family.{keeps_older, facts_of, kind}
 use Rattle.coefficients.specs.declared.Recurrence.{Recurrence}
 use Rattle.coefficients.specs.declared.Coefficients.{Coefficients}
 use Rattle.coefficients.specs.Rows.{candidate_weights}
 use Rattle.workspace.specs.declared.Arguments.{Arguments}
-use Rattle.workspace.specs.Vectors.{Vector, Vectors, ◌with◌≔◌, number, named, vector_count, width, unpack, Becomes, pack, join, in_order, tabulate, each}
+use Rattle.workspace.specs.declared.Vector.{Vector}
+use Rattle.workspace.specs.Vectors.{Vectors, ◌with◌≔◌, number, named, vector_count, width, unpack, Becomes, pack, join, in_order, tabulate, each}
 use Rattle.workspace.specs.Vectors.{vector_norm, first_derivative, last_derivative, derivative, previous_two, previous_one, next_stage, eigenvector}
+use Rattle.workspace.specs.declared.Vector.TheVariants.{FirstDerivative, LastDerivative, Derivative, PreviousTwo, PreviousOne, NextStage, Eigenvector, PerturbedState, PerturbedDerivative, State, Candidate, OlderState}
 use Rattle.workspace.specs.Vectors.{perturbed_state, perturbed_derivative, state, candidate, older_state}
 use Rattle.workspace.specs.Kernel.{with_direction, perturbed_by, perturbed, turned, first_stage, with_row_in, entry_in, exchanged, candidate_in}
 use Rattle.workspace.specs.Kernel.{combined_entry, older_of, mixed_entry, with_candidate, with_last, error}
@@ -33,18 +37,18 @@ Long f n v = (b : Vector) → length (v b) ≡ width f n b
 -- ---- numbers and names
 
 pub number_below : (b : Vector) → number b < 12
-number_below first_derivative = omega arith
-number_below last_derivative = omega arith
-number_below derivative = omega arith
-number_below previous_two = omega arith
-number_below previous_one = omega arith
-number_below next_stage = omega arith
-number_below eigenvector = omega arith
-number_below perturbed_state = omega arith
-number_below perturbed_derivative = omega arith
-number_below state = omega arith
-number_below candidate = omega arith
-number_below older_state = omega arith
+number_below FirstDerivative = omega arith
+number_below LastDerivative = omega arith
+number_below Derivative = omega arith
+number_below PreviousTwo = omega arith
+number_below PreviousOne = omega arith
+number_below NextStage = omega arith
+number_below Eigenvector = omega arith
+number_below PerturbedState = omega arith
+number_below PerturbedDerivative = omega arith
+number_below State = omega arith
+number_below Candidate = omega arith
+number_below OlderState = omega arith
 
 pub number_named : (k : ℕ) → k < 12 → number (named k) ≡ k
 number_named zero h = refl
@@ -62,18 +66,18 @@ number_named (suc (suc (suc (suc (suc (suc (suc (suc (suc (suc (suc zero))))))))
 number_named (suc (suc (suc (suc (suc (suc (suc (suc (suc (suc (suc (suc k)))))))))))) h = absurd (omega (arith, h))
 
 pub named_number : (b : Vector) → named (number b) ≡ b
-named_number first_derivative = refl
-named_number last_derivative = refl
-named_number derivative = refl
-named_number previous_two = refl
-named_number previous_one = refl
-named_number next_stage = refl
-named_number eigenvector = refl
-named_number perturbed_state = refl
-named_number perturbed_derivative = refl
-named_number state = refl
-named_number candidate = refl
-named_number older_state = refl
+named_number FirstDerivative = refl
+named_number LastDerivative = refl
+named_number Derivative = refl
+named_number PreviousTwo = refl
+named_number PreviousOne = refl
+named_number NextStage = refl
+named_number Eigenvector = refl
+named_number PerturbedState = refl
+named_number PerturbedDerivative = refl
+named_number State = refl
+named_number Candidate = refl
+named_number OlderState = refl
 
 -- vector k lies within the first m of n doubles each
 pub room : (m k n : ℕ) → k < m → k * n + n ≤ m * n
@@ -153,18 +157,18 @@ long_unpack f n area h = every
     last false e = simp (length-take, length-drop) (omega arith)
 
     every : Long f n (unpack n area)
-    every first_derivative = first first_derivative (omega arith)
-    every last_derivative = first last_derivative (omega arith)
-    every derivative = first derivative (omega arith)
-    every previous_two = first previous_two (omega arith)
-    every previous_one = first previous_one (omega arith)
-    every next_stage = first next_stage (omega arith)
-    every eigenvector = first eigenvector (omega arith)
-    every perturbed_state = first perturbed_state (omega arith)
-    every perturbed_derivative = first perturbed_derivative (omega arith)
-    every state = first state (omega arith)
-    every candidate = first candidate (omega arith)
-    every older_state = last (keeps_older f) h
+    every FirstDerivative = first first_derivative (omega arith)
+    every LastDerivative = first last_derivative (omega arith)
+    every Derivative = first derivative (omega arith)
+    every PreviousTwo = first previous_two (omega arith)
+    every PreviousOne = first previous_one (omega arith)
+    every NextStage = first next_stage (omega arith)
+    every Eigenvector = first eigenvector (omega arith)
+    every PerturbedState = first perturbed_state (omega arith)
+    every PerturbedDerivative = first perturbed_derivative (omega arith)
+    every State = first state (omega arith)
+    every Candidate = first candidate (omega arith)
+    every OlderState = last (keeps_older f) h
 
 -- ---- an area that becomes another
 
@@ -240,18 +244,18 @@ unfolding unpack pack
 unpack_pack f n v h = fun_ext go
   where
     go : (b : Vector) → unpack n (pack v) b ≡ v b
-    go first_derivative = part n 0 (all f n v h) (omega arith)
-    go last_derivative = part n 1 (all f n v h) (omega arith)
-    go derivative = part n 2 (all f n v h) (omega arith)
-    go previous_two = part n 3 (all f n v h) (omega arith)
-    go previous_one = part n 4 (all f n v h) (omega arith)
-    go next_stage = part n 5 (all f n v h) (omega arith)
-    go eigenvector = part n 6 (all f n v h) (omega arith)
-    go perturbed_state = part n 7 (all f n v h) (omega arith)
-    go perturbed_derivative = part n 8 (all f n v h) (omega arith)
-    go state = part n 9 (all f n v h) (omega arith)
-    go candidate = part n 10 (all f n v h) (omega arith)
-    go older_state = part n 11 (all f n v h) (omega arith)
+    go FirstDerivative = part n 0 (all f n v h) (omega arith)
+    go LastDerivative = part n 1 (all f n v h) (omega arith)
+    go Derivative = part n 2 (all f n v h) (omega arith)
+    go PreviousTwo = part n 3 (all f n v h) (omega arith)
+    go PreviousOne = part n 4 (all f n v h) (omega arith)
+    go NextStage = part n 5 (all f n v h) (omega arith)
+    go Eigenvector = part n 6 (all f n v h) (omega arith)
+    go PerturbedState = part n 7 (all f n v h) (omega arith)
+    go PerturbedDerivative = part n 8 (all f n v h) (omega arith)
+    go State = part n 9 (all f n v h) (omega arith)
+    go Candidate = part n 10 (all f n v h) (omega arith)
+    go OlderState = part n 11 (all f n v h) (omega arith)
 
 -- the lengths added up
 total : List (List Float) → ℕ

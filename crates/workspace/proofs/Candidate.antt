@@ -6,12 +6,15 @@ use mathlib.Core.Bool.{Bool, true, false, cond}
 use Prim.Native.Nat.{ℕ}
 use lib.Ieee.{Float}
 use Rattle.family.specs.declared.Setting.{Setting}
-use Rattle.family.specs.Family.{Family, RKC, RKL1, RKL2, RKG1, RKG2, RKMC2, TSRKC2, facts_of, kind}
+use Rattle.family.specs.declared.Family.{Family}
+use Rattle.family.specs.declared.Family.TheVariants.{RKC, RKL1, RKL2, RKG1, RKG2, RKMC2, TSRKC2}
+use Rattle.family.specs.Family.{facts_of, kind}
 use Rattle.coefficients.specs.declared.Recurrence.{Recurrence}
 use Rattle.coefficients.specs.declared.Coefficients.{Coefficients}
 use Rattle.coefficients.specs.declared.Weights.{Weights}
 use Rattle.coefficients.specs.Rows.{candidate_weights}
-use Rattle.workspace.specs.Vectors.{Vector, Vectors, each, first_derivative, previous_two, next_stage, state, candidate, older_state}
+use Rattle.workspace.specs.declared.Vector.{Vector}
+use Rattle.workspace.specs.Vectors.{Vectors, each, first_derivative, previous_two, next_stage, state, candidate, older_state}
 use Rattle.workspace.specs.Kernel.{candidate_in, combined_entry, older_of, mixed_entry, with_candidate}
 
 module _ (m : Setting) (n : ℕ) (step : Float) (s : ℕ) (c : Recurrence) (row : Coefficients) (v : Vectors) where

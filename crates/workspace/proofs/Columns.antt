@@ -14,7 +14,8 @@ use lib.ListN.{length, get_or, drop, set, length-set, length-take, length-drop}
 use lib.Seq.{get_or-set_same, get_or-set_other, drop-set-lt, ext_get_or, get_or-take, get_or-drop, length-take-le}
 use lib.Ieee.{Float, nan}
 use Rattle.ieee.proofs.Logic.{both, le_or_lt}
-use Rattle.workspace.specs.Vectors.{Vector, Vectors, ◌with◌≔◌, number, named, column, unpack, extent, beyond, Becomes, each}
+use Rattle.workspace.specs.declared.Vector.{Vector}
+use Rattle.workspace.specs.Vectors.{Vectors, ◌with◌≔◌, number, named, column, unpack, extent, beyond, Becomes, each}
 use Rattle.workspace.proofs.Areas.{number_below, named_number, room, length_each}
 use Rattle.workspace.proofs.Lists.{each_at}
 

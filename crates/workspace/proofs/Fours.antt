@@ -3,7 +3,7 @@
 use mathlib.Core.Path.{◌≡◌, refl, sym, ap, ◌∙◌, subst, fun_ext}
 use mathlib.Core.Logic.{◌⊎◌, inl, inr, ⊎_elim}
 use mathlib.Core.Bool.{Bool, cond}
-use mathlib.Core.List.{List}
+use mathlib.Core.List.{List, [], ◌∷◌}
 use Prim.Native.Nat.{ℕ, zero, suc, ◌+◌, ◌-◌, ◌*◌, ◌≤◌, ◌<◌}
 use native.Mathlib.Nat.{mul-le-mul_right, suc-mul}
 use native.Mathlib.Omega.{arith}
@@ -12,12 +12,15 @@ use lib.ListN.{length, get_or, set, length-set}
 use lib.Seq.{get_or-set_same, get_or-set_other}
 use lib.Ieee.{Float, nan}
 use Rattle.ieee.proofs.Logic.{le_or_lt}
-use Rattle.workspace.specs.declared.stages.Four.{Four}
-use Rattle.workspace.specs.Vectors.{Vector, number, column, first_derivative, derivative, previous_two, previous_one, next_stage, state}
-use Rattle.workspace.specs.Reads.{taking, Reads, moved, Moved, element, Holds, Put, picked}
+use Rattle.workspace.specs.declared.stages.Entries.{Entries}
+use Rattle.workspace.specs.declared.Vector.{Vector}
+use Rattle.workspace.specs.Vectors.{number, column, unpack, derivative, previous_two, previous_one, next_stage}
+use Rattle.workspace.specs.Kernel.{exchanged}
+use Rattle.workspace.specs.Reads.{taking, Reads, rowed, moved, Moved, Put}
 use Rattle.workspace.proofs.Columns.{Order, same, other, order, differ, with_at, set_here, set_there, written}
-use Rattle.workspace.proofs.Rows.{exchange_rules}
-use Rattle.workspace.proofs.Taking.{Taking}
+use Rattle.workspace.proofs.Areas.{long_at}
+use Rattle.workspace.proofs.Rows.{exchange_rules, exchange_law}
+use Rattle.workspace.proofs.Taking.{Taking, begin_taking, finish_taking}
 
 pub four_cases : (P : ℕ → Type 0) → P 0 → P 1 → P 2 → P 3 → (u : ℕ) → u < 4 → P u
 four_cases P a b c d zero h = a
@@ -28,83 +31,78 @@ four_cases P a b c d (suc (suc (suc (suc u)))) h = absurd (let z : ⊥ = omega a
 
 -- ---- four stores
 
-module _ (l : List Float) (p : ℕ) (x : Four) (fits : p + 4 ≤ length l) where
+module _ (l : List Float) (p : ℕ) (x : List Float) (fits : p + 4 ≤ length l) where
   abbrev l₁ : List Float
-  l₁ = set l p x.a
+  l₁ = set l p (get_or x 0 nan)
 
   abbrev l₂ : List Float
-  l₂ = set l₁ (p + 1) x.b
+  l₂ = set l₁ (p + 1) (get_or x 1 nan)
 
   abbrev l₃ : List Float
-  l₃ = set l₂ (p + 2) x.c
+  l₃ = set l₂ (p + 2) (get_or x 2 nan)
 
   abbrev l₄ : List Float
-  l₄ = set l₃ (p + 3) x.d
+  l₄ = set l₃ (p + 3) (get_or x 3 nan)
 
   apart₄ : (q : ℕ) → (q < p) ⊎ (p + 4 ≤ q) → get_or l₄ q nan ≡ get_or l q nan
   apart₄ q (inl h) =
-      get_or-set_other l₃ (p + 3) q x.d nan (λ (e : q ≡ p + 3). omega arith)
-      ∙ get_or-set_other l₂ (p + 2) q x.c nan (λ (e : q ≡ p + 2). omega arith)
-      ∙ get_or-set_other l₁ (p + 1) q x.b nan (λ (e : q ≡ p + 1). omega arith)
-      ∙ get_or-set_other l p q x.a nan (λ (e : q ≡ p). omega arith)
+      get_or-set_other l₃ (p + 3) q (get_or x 3 nan) nan (λ (e : q ≡ p + 3). omega arith)
+      ∙ get_or-set_other l₂ (p + 2) q (get_or x 2 nan) nan (λ (e : q ≡ p + 2). omega arith)
+      ∙ get_or-set_other l₁ (p + 1) q (get_or x 1 nan) nan (λ (e : q ≡ p + 1). omega arith)
+      ∙ get_or-set_other l p q (get_or x 0 nan) nan (λ (e : q ≡ p). omega arith)
   apart₄ q (inr h) =
-      get_or-set_other l₃ (p + 3) q x.d nan (λ (e : q ≡ p + 3). omega arith)
-      ∙ get_or-set_other l₂ (p + 2) q x.c nan (λ (e : q ≡ p + 2). omega arith)
-      ∙ get_or-set_other l₁ (p + 1) q x.b nan (λ (e : q ≡ p + 1). omega arith)
-      ∙ get_or-set_other l p q x.a nan (λ (e : q ≡ p). omega arith)
+      get_or-set_other l₃ (p + 3) q (get_or x 3 nan) nan (λ (e : q ≡ p + 3). omega arith)
+      ∙ get_or-set_other l₂ (p + 2) q (get_or x 2 nan) nan (λ (e : q ≡ p + 2). omega arith)
+      ∙ get_or-set_other l₁ (p + 1) q (get_or x 1 nan) nan (λ (e : q ≡ p + 1). omega arith)
+      ∙ get_or-set_other l p q (get_or x 0 nan) nan (λ (e : q ≡ p). omega arith)
 
-  at₀ : get_or l₄ (p + 0) nan ≡ x.a
+  at₀ : get_or l₄ (p + 0) nan ≡ get_or x 0 nan
   at₀ =
       ap (λ (q : ℕ). get_or l₄ q nan) (let e : p + 0 ≡ p = omega arith in e)
-      ∙ get_or-set_other l₃ (p + 3) p x.d nan (λ (e : p ≡ p + 3). omega arith)
-      ∙ get_or-set_other l₂ (p + 2) p x.c nan (λ (e : p ≡ p + 2). omega arith)
-      ∙ get_or-set_other l₁ (p + 1) p x.b nan (λ (e : p ≡ p + 1). omega arith)
-      ∙ get_or-set_same l p x.a nan (omega arith)
+      ∙ get_or-set_other l₃ (p + 3) p (get_or x 3 nan) nan (λ (e : p ≡ p + 3). omega arith)
+      ∙ get_or-set_other l₂ (p + 2) p (get_or x 2 nan) nan (λ (e : p ≡ p + 2). omega arith)
+      ∙ get_or-set_other l₁ (p + 1) p (get_or x 1 nan) nan (λ (e : p ≡ p + 1). omega arith)
+      ∙ get_or-set_same l p (get_or x 0 nan) nan (omega arith)
 
-  at₁ : get_or l₄ (p + 1) nan ≡ x.b
+  at₁ : get_or l₄ (p + 1) nan ≡ get_or x 1 nan
   at₁ =
-      get_or-set_other l₃ (p + 3) (p + 1) x.d nan (λ (e : p + 1 ≡ p + 3). omega arith)
-      ∙ get_or-set_other l₂ (p + 2) (p + 1) x.c nan (λ (e : p + 1 ≡ p + 2). omega arith)
-      ∙ get_or-set_same l₁ (p + 1) x.b nan (simp length-set (omega arith))
+      get_or-set_other l₃ (p + 3) (p + 1) (get_or x 3 nan) nan (λ (e : p + 1 ≡ p + 3). omega arith)
+      ∙ get_or-set_other l₂ (p + 2) (p + 1) (get_or x 2 nan) nan (λ (e : p + 1 ≡ p + 2). omega arith)
+      ∙ get_or-set_same l₁ (p + 1) (get_or x 1 nan) nan (simp length-set (omega arith))
 
-  at₂ : get_or l₄ (p + 2) nan ≡ x.c
+  at₂ : get_or l₄ (p + 2) nan ≡ get_or x 2 nan
   at₂ =
-      get_or-set_other l₃ (p + 3) (p + 2) x.d nan (λ (e : p + 2 ≡ p + 3). omega arith)
-      ∙ get_or-set_same l₂ (p + 2) x.c nan (simp length-set (omega arith))
+      get_or-set_other l₃ (p + 3) (p + 2) (get_or x 3 nan) nan (λ (e : p + 2 ≡ p + 3). omega arith)
+      ∙ get_or-set_same l₂ (p + 2) (get_or x 2 nan) nan (simp length-set (omega arith))
 
-  at₃ : get_or l₄ (p + 3) nan ≡ x.d
-  at₃ = get_or-set_same l₃ (p + 3) x.d nan (simp length-set (omega arith))
+  at₃ : get_or l₄ (p + 3) nan ≡ get_or x 3 nan
+  at₃ = get_or-set_same l₃ (p + 3) (get_or x 3 nan) nan (simp length-set (omega arith))
 
   pub put_law : Put p x l l₄
   unfolding Put
-  put_law = (simp length-set refl, four_cases (λ u. get_or l₄ (p + u) nan ≡ element x u) at₀ at₁ at₂ at₃, apart₄)
+  put_law = (simp length-set refl, four_cases (λ u. get_or l₄ (p + u) nan ≡ get_or x u nan) at₀ at₁ at₂ at₃, apart₄)
 
 -- ---- and by columns
 
--- an element of a vector
-pub held : (b : Vector) (n i : ℕ) (x : Four) (l : List Float) → Holds l (number b * n + i) x → (u : ℕ) → u < 4 → element x u ≡ column n l (i + u) b
-unfolding Holds
-held b n i x l h u p = h u p ∙ ap (λ (q : ℕ). get_or l q nan) (let e : number b * n + i + u ≡ number b * n + (i + u) = omega arith in e)
-
-module _ (k : Vector) (n i : ℕ) (x : Four) (l m : List Float) (put : Put (number k * n + i) x l m) (fits : i + 4 ≤ n) where
+module _ (k : Vector) (n i : ℕ) (x l m : List Float) (put : Put (number k * n + i) x l m) (fits : i + 4 ≤ n) where
   -- an element of another vector is not among the four
   beyond : (b j : ℕ) → j < n → (number k < b) ⊎ (b < number k) → (b * n + j < number k * n + i) ⊎ (number k * n + i + 4 ≤ b * n + j)
   beyond b j h (inl p) = inr (omega (arith, mul-le-mul_right n p, suc-mul (number k) n))
   beyond b j h (inr p) = inl (omega (arith, mul-le-mul_right n p, suc-mul b n))
 
-  pub put_here : (u : ℕ) → u < 4 → column n m (i + u) ≡ with_at k (element x u) (column n l (i + u))
+  pub put_here : (u : ℕ) → u < 4 → column n m (i + u) ≡ with_at k (get_or x u nan) (column n l (i + u))
   unfolding Put
   put_here u h = fun_ext (λ b. go b (order (number b) (number k)))
     where
-      go : (b : Vector) → Order (number b) (number k) → column n m (i + u) b ≡ with_at k (element x u) (column n l (i + u)) b
+      go : (b : Vector) → Order (number b) (number k) → column n m (i + u) b ≡ with_at k (get_or x u nan) (column n l (i + u)) b
       go b (same e) =
           ap (λ (q : ℕ). get_or m (q * n + (i + u)) nan) e
           ∙ ap (λ (q : ℕ). get_or m q nan) (let f : number k * n + (i + u) ≡ number k * n + i + u = omega arith in f)
           ∙ put.1 u h
-          ∙ sym (ap (λ (t : Bool). cond t (element x u) (column n l (i + u) b)) (eq-eqb (number k) (number b) (sym e)))
+          ∙ sym (ap (λ (t : Bool). cond t (get_or x u nan) (column n l (i + u) b)) (eq-eqb (number k) (number b) (sym e)))
       go b (other d) =
           put.2 (number b * n + (i + u)) (beyond (number b) (i + u) (omega arith) d)
-          ∙ sym (ap (λ (t : Bool). cond t (element x u) (column n l (i + u) b)) (ne_eqb (number k) (number b) (differ d)))
+          ∙ sym (ap (λ (t : Bool). cond t (get_or x u nan) (column n l (i + u) b)) (ne_eqb (number k) (number b) (differ d)))
 
   pub put_there : (j : ℕ) → j < n → (j < i) ⊎ (i + 4 ≤ j) → column n m j ≡ column n l j
   unfolding Put
@@ -171,39 +169,61 @@ module _ (n i : ℕ) (g : (Vector → Float) → Float) (d l : List Float) (s t 
       outside j h (inl p) = there j h (λ (e : j ≡ i). omega arith)
       outside j h (inr p) = there j h (λ (e : j ≡ i). omega arith)
 
--- four columns
-module _ (n i : ℕ) (g : (Vector → Float) → Float) (d l m₁ m₂ m₃ m₄ : List Float) (one two initial slope first next : Four) (fits : i + 4 ≤ n) where
-  pub moved_four : Holds d i slope → Holds l (number previous_one * n + i) one → Holds l (number previous_two * n + i) two
-      → Holds l (number state * n + i) initial → Holds l (number first_derivative * n + i) first
-      → Put (number derivative * n + i) slope l m₁ → Put (number next_stage * n + i) two m₁ m₂ → Put (number previous_two * n + i) one m₂ m₃
-      → Put (number previous_one * n + i) next m₃ m₄
-      → ((u : ℕ) → u < 4 → (v : Vector → Float) → Reads (picked one two initial slope first u) v → element next u ≡ g v) → Moved n g d i 4 l m₄
-  unfolding Moved Put Holds Reads
-  moved_four hs ho ht hi hf p₁ p₂ p₃ p₄ made = (p₄.0 ∙ p₃.0 ∙ p₂.0 ∙ p₁.0, within, outside)
-    where
-      here : (u : ℕ) → u < 4 → column n m₄ (i + u) ≡ moved g (taking (get_or d (i + u) nan) (column n l (i + u)))
-      here u h =
-          let w = column n l (i + u) in
-          let y = get_or d (i + u) nan in
-          let o = held previous_one n i one l ho u h in
-          let t = held previous_two n i two l ht u h in
-          moves g y w (column n m₁ (i + u)) (column n m₂ (i + u)) (column n m₃ (i + u)) (column n m₄ (i + u))
-          (put_here derivative n i slope l m₁ p₁ fits u h)
-          (put_here next_stage n i two m₁ m₂ p₂ fits u h)
-          (put_here previous_two n i one m₂ m₃ p₃ fits u h)
-          (put_here previous_one n i next m₃ m₄ p₄ fits u h)
-          (hs u h) t o (made u h (taking y w) (o, t, held state n i initial l hi u h, hs u h, held first_derivative n i first l hf u h))
+-- four columns, of which a, b, c and e are read, and y₀ to y₃ worked out
+module _ (n i : ℕ) (g : (Vector → Float) → Float) (d l m₁ m₂ m₃ m₄ : List Float) (a b c e : Entries) (y₀ y₁ y₂ y₃ : Float) (fits : i + 4 ≤ n) where
+  abbrev seen : ℕ → Vector → Float
+  seen j = taking (get_or d j nan) (column n l j)
 
-      within : (j : ℕ) → i ≤ j → j < i + 4 → column n m₄ j ≡ moved g (taking (get_or d j nan) (column n l j))
-      within j p q = subst (λ (r : ℕ). column n m₄ r ≡ moved g (taking (get_or d r nan) (column n l r))) (let e : i + (j - i) ≡ j = omega arith in
-          e) (here (j - i) (omega arith))
+  pub moved_four : Reads a (seen i) → Reads b (seen (i + 1)) → Reads c (seen (i + 2)) → Reads e (seen (i + 3))
+      → y₀ ≡ g (seen i) → y₁ ≡ g (seen (i + 1)) → y₂ ≡ g (seen (i + 2)) → y₃ ≡ g (seen (i + 3))
+      → Put (number derivative * n + i) (a.slope ∷ b.slope ∷ c.slope ∷ e.slope ∷ []) l m₁
+      → Put (number next_stage * n + i) (a.two ∷ b.two ∷ c.two ∷ e.two ∷ []) m₁ m₂
+      → Put (number previous_two * n + i) (a.one ∷ b.one ∷ c.one ∷ e.one ∷ []) m₂ m₃
+      → Put (number previous_one * n + i) (y₀ ∷ y₁ ∷ y₂ ∷ y₃ ∷ []) m₃ m₄ → Moved n g d i 4 l m₄
+  unfolding Moved Put Reads
+  moved_four ra rb rc re e₀ e₁ e₂ e₃ p₁ p₂ p₃ p₄ = (p₄.0 ∙ p₃.0 ∙ p₂.0 ∙ p₁.0, within, outside)
+    where
+      ss : List Float
+      ss = a.slope ∷ b.slope ∷ c.slope ∷ e.slope ∷ []
+
+      ts : List Float
+      ts = a.two ∷ b.two ∷ c.two ∷ e.two ∷ []
+
+      os : List Float
+      os = a.one ∷ b.one ∷ c.one ∷ e.one ∷ []
+
+      ys : List Float
+      ys = y₀ ∷ y₁ ∷ y₂ ∷ y₃ ∷ []
+
+      at : (u : ℕ) → u < 4 → (x : Entries) (y : Float) → Reads x (seen (i + u)) → y ≡ g (seen (i + u)) → get_or ss u nan ≡ x.slope → get_or ts u nan ≡ x.two
+          → get_or os u nan ≡ x.one → get_or ys u nan ≡ y → column n m₄ (i + u) ≡ moved g (seen (i + u))
+      at u h x y r f es et eo ey =
+          moves g (get_or d (i + u) nan) (column n l (i + u)) (column n m₁ (i + u)) (column n m₂ (i + u)) (column n m₃ (i + u)) (column n m₄ (i + u))
+          (put_here derivative n i ss l m₁ p₁ fits u h)
+          (put_here next_stage n i ts m₁ m₂ p₂ fits u h)
+          (put_here previous_two n i os m₂ m₃ p₃ fits u h)
+          (put_here previous_one n i ys m₃ m₄ p₄ fits u h)
+          (es ∙ r.3) (et ∙ r.1) (eo ∙ r.0) (ey ∙ f)
+
+      first : i ≡ i + 0
+      first = omega arith
+
+      here : (u : ℕ) → u < 4 → column n m₄ (i + u) ≡ moved g (seen (i + u))
+      here = four_cases (λ u. column n m₄ (i + u) ≡ moved g (seen (i + u)))
+          (at 0 (omega arith) a y₀ (subst (λ (j : ℕ). Reads a (seen j)) first ra) (subst (λ (j : ℕ). y₀ ≡ g (seen j)) first e₀) refl refl refl refl)
+          (at 1 (omega arith) b y₁ rb e₁ refl refl refl refl)
+          (at 2 (omega arith) c y₂ rc e₂ refl refl refl refl)
+          (at 3 (omega arith) e y₃ re e₃ refl refl refl refl)
+
+      within : (j : ℕ) → i ≤ j → j < i + 4 → column n m₄ j ≡ moved g (seen j)
+      within j p q = subst (λ (r : ℕ). column n m₄ r ≡ moved g (seen r)) (let f : i + (j - i) ≡ j = omega arith in f) (here (j - i) (omega arith))
 
       outside : (j : ℕ) → j < n → (j < i) ⊎ (i + 4 ≤ j) → column n m₄ j ≡ column n l j
-      outside j h e =
-          put_there previous_one n i next m₃ m₄ p₄ fits j h e
-          ∙ put_there previous_two n i one m₂ m₃ p₃ fits j h e
-          ∙ put_there next_stage n i two m₁ m₂ p₂ fits j h e
-          ∙ put_there derivative n i slope l m₁ p₁ fits j h e
+      outside j h f =
+          put_there previous_one n i ys m₃ m₄ p₄ fits j h f
+          ∙ put_there previous_two n i os m₂ m₃ p₃ fits j h f
+          ∙ put_there next_stage n i ts m₁ m₂ p₂ fits j h f
+          ∙ put_there derivative n i ss l m₁ p₁ fits j h f
 
 -- ---- columns that are moved, one part after the other
 
@@ -230,18 +250,15 @@ module _ (n : ℕ) (g : (Vector → Float) → Float) (d : List Float) where
       outside j h (inl r) = O.2 j h (inl (omega arith)) ∙ M.2 j h (inl r)
       outside j h (inr r) = O.2 j h (inr (omega arith)) ∙ M.2 j h (inr (omega arith))
 
-  -- the loop from `from` on: at its start, by one column, and at its end
+  -- the loop from `from` on: at its start, and by k more columns
   pub moved_start : (from : ℕ) (l : List Float) → Moved n g d from (from - from) l l
   moved_start from l = subst (λ (k : ℕ). Moved n g d from k l l) (let e : 0 ≡ from - from = omega arith in e) (moved_none from l)
 
-  pub moved_next : (from i : ℕ) (l m o : List Float) → from ≤ i → i < n → Moved n g d from (i - from) l m → Moved n g d i 1 m o
-      → Moved n g d from (i + 1 - from) l o
-  moved_next from i l m o h p M O =
-      subst (λ (k : ℕ). Moved n g d from k l o) (let e : i - from + 1 ≡ i + 1 - from = omega arith in e)
-      (moved_on from (i - from) 1 l m o (omega arith) M (subst (λ (k : ℕ). Moved n g d k 1 m o) (let e : i ≡ from + (i - from) = omega arith in e) O))
-
-  pub moved_end : (from i : ℕ) (l m : List Float) → i ≤ n → n ≤ i → Moved n g d from (i - from) l m → Moved n g d from (n - from) l m
-  moved_end from i l m h p M = subst (λ (k : ℕ). Moved n g d from (k - from) l m) (let e : i ≡ n = omega arith in e) M
+  pub moved_next : (from i k : ℕ) (l m o : List Float) → from ≤ i → i + k ≤ n → Moved n g d from (i - from) l m → Moved n g d i k m o
+      → Moved n g d from (i + k - from) l o
+  moved_next from i k l m o h p M O =
+      subst (λ (j : ℕ). Moved n g d from j l o) (let e : i - from + k ≡ i + k - from = omega arith in e)
+      (moved_on from (i - from) k l m o (omega arith) M (subst (λ (j : ℕ). Moved n g d j k m o) (let e : i ≡ from + (i - from) = omega arith in e) O))
 
 -- ---- the loop goes on
 
@@ -258,3 +275,15 @@ goes_on d n a g area later i k W h M = record {
       (le_or_lt i j);
   ahead = λ j p q. M.2 j q (inr p) ∙ W.ahead j (omega arith) q;
 }
+
+-- ---- all columns are moved, in two parts
+
+pub all_moved : (n k : ℕ) (g : (Vector → Float) → Float) (d l m o : List Float) → length l ≡ 10 * n → length d ≡ n → k ≤ n
+    → Moved n g d 0 (k - 0) l m → Moved n g d k (n - k) m o → unpack n o ≡ exchanged (rowed n g (unpack n l) d)
+all_moved n k g d l m o long wide h M O =
+    finish_taking derivative d n l wide
+    (goes_on d n l g m o k (n - k)
+    (subst (λ (j : ℕ). Taking derivative d n l (exchange_rules g) m j) (let e : 0 + (k - 0) ≡ k = omega arith in e)
+    (goes_on d n l g l m 0 (k - 0) (begin_taking derivative d n l 10 (exchange_rules g) refl (omega arith)) (omega arith) M))
+    (omega arith) O) (omega arith)
+    ∙ exchange_law n g _ (long_at n l previous_two (omega arith)) (long_at n l previous_one (omega arith))

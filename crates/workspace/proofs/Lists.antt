@@ -6,7 +6,8 @@ use native.Mathlib.Omega.{arith}
 use lib.ListN.{length, get_or}
 use lib.Seq.{ext_get_or}
 use lib.Ieee.{Float, nan}
-use Rattle.workspace.specs.Vectors.{Vector, Vectors, tabulate, each}
+use Rattle.workspace.specs.declared.Vector.{Vector}
+use Rattle.workspace.specs.Vectors.{Vectors, tabulate, each}
 use Rattle.workspace.proofs.Areas.{length_each}
 
 pub get_d_tabulate : (f : ℕ → Float) (i n j : ℕ) → j < n → get_or (tabulate f i n) j nan ≡ f (i + j)

@@ -7,14 +7,19 @@ use Prim.Native.Nat.{ℕ, zero, suc, ◌+◌, ◌-◌, ◌*◌, ◌≤◌, ◌<�
 use native.Mathlib.Nat.{suc-add, zero-add, suc-mul, mul-le-mul_right, eq-or-lt_of_le, le_refl}
 use native.Mathlib.Omega.{arith}
 use borrow.Author.Tests.{eq-eqb, ne_eqb, ltb-true, ltb-false}
+use Rattle.std.proofs.Common.{append_assoc}
 use borrow.Rule.Slice.PartMut.{put_mid, take_put, drop_put}
 use lib.Dec.{eqb, ltb}
 use lib.ListN.{length, take, drop, length-drop}
-use lib.Seq.{take-nil, take-take, drop-drop, take_at, drop_at, length-take-le, drop-append-le, take-append-le}
+use lib.Seq.{paste, take-nil, take-take, drop-drop, take_at, drop_at, length-take-le, drop-append-le, take-append-le}
 use lib.Ieee.{Float}
 use Rattle.ieee.proofs.Logic.{le_or_lt}
-use Rattle.workspace.specs.Vectors.{Vector, Vectors, ◌with◌≔◌, number, named, unpack, extent, beyond, Becomes}
-use Rattle.workspace.proofs.Areas.{number_named, room, long_at}
+use Rattle.workspace.specs.declared.Vector.{Vector}
+use Rattle.workspace.specs.Vectors.{Vectors, ◌with◌≔◌, number, unpack, extent, beyond, Becomes}
+use Rattle.workspace.specs.declared.Vector.TheVariants.{FirstDerivative, LastDerivative, Derivative, PreviousTwo, PreviousOne, NextStage, Eigenvector, PerturbedState, PerturbedDerivative, State, Candidate, OlderState}
+use Rattle.workspace.specs.contracts.Vector.{the_type}
+use denote.Enum.Declared.{tag_of}
+use Rattle.workspace.proofs.Areas.{number_below, room, long_at}
 
 -- ---- what stands from p on in two lists that are the same there, and n elements of it
 
@@ -48,13 +53,29 @@ beyond_part p e n a ys h within fits long = drop_later e (extent n) (put_mid p (
 width : (k n : ℕ) → k * n + n - k * n ≡ n
 width k n = omega arith
 
--- what is read
-pub read_part : (k n : ℕ) (a : List Float) → k < 11 → take (k * n + n - k * n) (drop (k * n) a) ≡ unpack n a (named k)
-unfolding unpack
-read_part k n a h = ap (λ (m : ℕ). take m (drop (k * n) a)) (width k n) ∙ ap (λ (q : ℕ). take n (drop (q * n) a)) (sym (number_named k (omega arith)))
+-- the code's number of a vector
+pub cast : (v : Vector) → tag_of the_type v ≡ number v
+cast FirstDerivative = refl
+cast LastDerivative = refl
+cast Derivative = refl
+cast PreviousTwo = refl
+cast PreviousOne = refl
+cast NextStage = refl
+cast Eigenvector = refl
+cast PerturbedState = refl
+cast PerturbedDerivative = refl
+cast State = refl
+cast Candidate = refl
+cast OlderState = refl
 
-pub length_part : (k n : ℕ) (a : List Float) → 11 * n ≤ length a → k < 11 → length (take (k * n + n - k * n) (drop (k * n) a)) ≡ n
-length_part k n a h l = ap length (read_part k n a l) ∙ long_at n a (named k) (rw (number_named k (omega arith)) (omega (arith, room 11 k n l)))
+-- what is read
+pub read_part : (v : Vector) (k n : ℕ) (a : List Float) → k ≡ number v → take (k * n + n - k * n) (drop (k * n) a) ≡ unpack n a v
+unfolding unpack
+read_part v k n a e = ap (λ (m : ℕ). take m (drop (k * n) a)) (width k n) ∙ ap (λ (q : ℕ). take n (drop (q * n) a)) e
+
+pub length_part : (v : Vector) (k n : ℕ) (a : List Float) → k ≡ number v → 11 * n ≤ length a → number v < 11
+    → length (take (k * n + n - k * n) (drop (k * n) a)) ≡ n
+length_part v k n a e h l = ap length (read_part v k n a e) ∙ long_at n a v (omega (arith, room 11 (number v) n l))
 
 -- what is written
 module _ (b : Vector) (n : ℕ) (a x : List Float) (long : length x ≡ n) (fits : number b * n + n ≤ length a) where
@@ -95,19 +116,43 @@ module _ (b : Vector) (n : ℕ) (a x : List Float) (long : length x ≡ n) (fits
       go c (inr l) = apart c (inl l) (λ (e : number b ≡ number c). omega arith)
       go c (inl l) = ⊎_elim (λ e. same c e) (λ (m : number b < number c). apart c (inr m) (λ (e : number b ≡ number c). omega arith)) (eq-or-lt_of_le l)
 
-pub written_part : (k n : ℕ) (a : List Float) {ys x : List Float} → 11 * n ≤ length a → k < 11 → length x ≡ n → ys ≡ x
-    → Becomes n a (put_mid (k * n) (k * n + n - k * n) a ys) (λ v. v with named k ≔ x)
+pub written_part : (v : Vector) (k n : ℕ) (a : List Float) {ys x : List Float} → k ≡ number v → 11 * n ≤ length a → number v < 11 → length x ≡ n → ys ≡ x
+    → Becomes n a (put_mid (k * n) (k * n + n - k * n) a ys) (λ w. w with v ≔ x)
 unfolding back
-written_part k n a {ys} {x} h l long e =
-    let q : number (named k) ≡ k = number_named k (omega arith) in
+written_part v k n a {ys} {x} q h l long e =
+    let r : k * n + n ≤ 11 * n = room 11 k n (rw q l) in
     record {
       vectors =
           ap (λ (y : List Float). unpack n (put_mid (k * n) (k * n + n - k * n) a y)) e
-          ∙ ap (λ (m : ℕ). unpack n (put_mid (m * n) (m * n + n - m * n) a x)) (sym q)
-          ∙ unpack_back (named k) n a x long (rw q (omega (arith, room 11 k n l)));
-      rest = beyond_part (k * n) (k * n + n) n a ys (omega arith) (omega (arith, room 11 k n l)) (omega (arith, room 11 k n l)) (ap length e ∙ long
-          ∙ sym (width k n));
+          ∙ ap (λ (m : ℕ). unpack n (put_mid (m * n) (m * n + n - m * n) a x)) q
+          ∙ unpack_back v n a x long (omega (arith, room 11 (number v) n l));
+      rest = beyond_part (k * n) (k * n + n) n a ys (omega arith) (omega arith) (omega arith) (ap length e ∙ long ∙ sym (width k n));
     }
+
+-- a vector copied onto another
+pasted_part : (p k : ℕ) (a s : List Float) → paste a p s k ≡ put_mid p k a (take k s)
+pasted_part p k a s = append_assoc (take p a) (take k s) (drop (p + k) a) ∙ ap (λ (r : List Float). take p a ++ (take k s ++ r)) (sym (drop-drop k p a))
+
+pub copied_part : (from to : Vector) (j k n : ℕ) (a : List Float) {m : List Float} → j ≡ number from → k ≡ number to
+    → number from * n + n ≤ length a → number to * n + n ≤ length a
+    → m ≡ paste a (k * n) (drop (j * n) a) (j * n + n - j * n) → Becomes n a m (λ v. v with to ≔ v from)
+unfolding back unpack
+copied_part from to j k n a {m} p q lf lt e = record {
+  vectors = ap (unpack n) shape ∙ unpack_back to n a (unpack n a from) (long_at n a from lf) lt;
+  rest =
+      ap (beyond n) shape
+      ∙ beyond_part (number to * n) (number to * n + n) n a (unpack n a from) (omega arith) (omega (arith, room 12 (number to) n (number_below to))) lt
+      (long_at n a from lf ∙ sym (width (number to) n));
+}
+  where
+    shape : m ≡ put_mid (number to * n) (number to * n + n - number to * n) a (unpack n a from)
+    shape =
+        e
+        ∙ ap (λ (i : ℕ). paste a (k * n) (drop (j * n) a) i) (width j n)
+        ∙ pasted_part (k * n) n a (drop (j * n) a)
+        ∙ ap (λ (i : ℕ). put_mid (k * n) n a (take n (drop (i * n) a))) p
+        ∙ ap (λ (i : ℕ). put_mid (i * n) n a (unpack n a from)) q
+        ∙ ap (λ (i : ℕ). put_mid (number to * n) i a (unpack n a from)) (sym (width (number to) n))
 
 -- ---- the first ten vectors: the area up to the candidate
 
@@ -118,40 +163,43 @@ abbrev pub ◌beside◌ : Vectors → Vectors → Vectors
 
 module _ (n : ℕ) (a : List Float) (fits : 11 * n ≤ length a) where
   -- what is lent
-  ten_lent : (unpack n (take (10 * n - 0) a) beside unpack n a) ≡ unpack n a
+  ten_lent : (unpack n (take (10 * n) a) beside unpack n a) ≡ unpack n a
   unfolding unpack
   ten_lent = fun_ext (λ b. go b (ltb (number b) 10) refl)
     where
-      go : (b : Vector) (t : Bool) → ltb (number b) 10 ≡ t → cond t (take n (drop (number b * n) (take (10 * n - 0) a))) (take n (drop (number b * n) a))
+      go : (b : Vector) (t : Bool) → ltb (number b) 10 ≡ t → cond t (take n (drop (number b * n) (take (10 * n) a))) (take n (drop (number b * n) a))
           ≡ take n (drop (number b * n) a)
-      go b true e = same_before (number b * n) n (take (10 * n - 0) a) a (10 * n - 0) (omega (arith, room 10 (number b) n (ltb-true (number b) 10 e)))
-          (take-take (10 * n - 0) (10 * n - 0) a (le_refl (10 * n - 0)))
+      go b true e = same_before (number b * n) n (take (10 * n) a) a (10 * n) (room 10 (number b) n (ltb-true (number b) 10 e))
+          (take-take (10 * n) (10 * n) a (le_refl (10 * n)))
       go b false e = refl
 
   -- and what comes back
-  ten_back : (ys : List Float) → length ys ≡ 10 * n → unpack n (put_mid 0 (10 * n - 0) a ys) ≡ (unpack n ys beside unpack n a)
-  unfolding unpack
-  ten_back ys long = fun_ext (λ b. go b (ltb (number b) 10) refl)
-    where
-      go : (b : Vector) (t : Bool) → ltb (number b) 10 ≡ t → take n (drop (number b * n) (put_mid 0 (10 * n - 0) a ys))
-          ≡ cond t (take n (drop (number b * n) ys)) (take n (drop (number b * n) a))
-      go b true e =
-          let h : number b * n + n ≤ 10 * n = room 10 (number b) n (ltb-true (number b) 10 e) in
-          ap (take n) (drop-append-le (number b * n) ys (drop (10 * n - 0) a) (omega arith))
-          ∙ take-append-le n (drop (number b * n) ys) (drop (10 * n - 0) a) (omega (arith, length-drop (number b * n) ys))
-      go b false e =
-          let h : 10 ≤ number b = ltb-false (number b) 10 e in
-          same_after (number b * n) n (put_mid 0 (10 * n - 0) a ys) a (10 * n) (mul-le-mul_right n h)
-          (drop_put 0 (10 * n) a ys (omega arith) (omega arith) (omega arith))
+  module _ (ys : List Float) (long : length ys ≡ 10 * n) where
+    joined : drop (10 * n) (ys ++ drop (10 * n) a) ≡ drop (10 * n) a
+    joined = drop_at ys (drop (10 * n) a) (10 * n) long
 
-  -- a step that is done to the ten vectors lent, and leaves the others, is done to all
-  pub ten : (f : Vectors → Vectors) → ((v w : Vectors) → f (v beside w) ≡ (f v beside w)) → (ys : List Float) → length ys ≡ 10 * n
-      → unpack n ys ≡ f (unpack n (take (10 * n - 0) a)) → Becomes n a (put_mid 0 (10 * n - 0) a ys) f
-  ten f apart ys long e = record {
-    vectors =
-        ten_back ys long
-        ∙ ap (λ (v : Vectors). v beside unpack n a) e
-        ∙ sym (apart (unpack n (take (10 * n - 0) a)) (unpack n a))
-        ∙ ap f ten_lent;
-    rest = beyond_part 0 (10 * n) n a ys (omega arith) (omega arith) (omega arith) (omega arith);
-  }
+    ten_back : unpack n (ys ++ drop (10 * n) a) ≡ (unpack n ys beside unpack n a)
+    unfolding unpack
+    ten_back = fun_ext (λ b. go b (ltb (number b) 10) refl)
+      where
+        go : (b : Vector) (t : Bool) → ltb (number b) 10 ≡ t → take n (drop (number b * n) (ys ++ drop (10 * n) a))
+            ≡ cond t (take n (drop (number b * n) ys)) (take n (drop (number b * n) a))
+        go b true e =
+            let h : number b * n + n ≤ 10 * n = room 10 (number b) n (ltb-true (number b) 10 e) in
+            ap (take n) (drop-append-le (number b * n) ys (drop (10 * n) a) (omega arith))
+            ∙ take-append-le n (drop (number b * n) ys) (drop (10 * n) a) (omega (arith, length-drop (number b * n) ys))
+        go b false e =
+            let h : 10 ≤ number b = ltb-false (number b) 10 e in
+            same_after (number b * n) n (ys ++ drop (10 * n) a) a (10 * n) (mul-le-mul_right n h) joined
+
+    -- a step that is done to the ten vectors lent, and leaves the others, is done to all
+    pub ten : (f : Vectors → Vectors) → ((v w : Vectors) → f (v beside w) ≡ (f v beside w)) → unpack n ys ≡ f (unpack n (take (10 * n) a))
+        → Becomes n a (ys ++ drop (10 * n) a) f
+    ten f apart e = record {
+      vectors =
+          ten_back
+          ∙ ap (λ (v : Vectors). v beside unpack n a) e
+          ∙ sym (apart (unpack n (take (10 * n) a)) (unpack n a))
+          ∙ ap f ten_lent;
+      rest = drop_later (10 * n) (extent n) (ys ++ drop (10 * n) a) a (omega arith) joined;
+    }

@@ -1,5 +1,5 @@
 -- The rows: what the loops' rules come to, and that the candidate has no part in them. Assumes nothing.
-use mathlib.Core.Path.{◌≡◌, refl, sym, ap, ◌∙◌, fun_ext}
+use mathlib.Core.Path.{◌≡◌, refl, ap, ◌∙◌, fun_ext}
 use mathlib.Core.Bool.{Bool, true, false, cond}
 use mathlib.Core.List.{List, [], ◌∷◌}
 use Prim.Native.Nat.{ℕ, ◌<◌}
@@ -11,40 +11,38 @@ use lib.Ieee.{Float}
 use Rattle.family.specs.declared.RowForm.{RowForm}
 use Rattle.family.specs.declared.RowForm.TheVariants.{ChebyshevRow, OrthogonalRow, InitialFirstRow, PlainRow}
 use Rattle.coefficients.specs.declared.Coefficients.{Coefficients}
-use Rattle.workspace.specs.Vectors.{Vector, Vectors, number, ◌with◌≔◌, each, first_derivative, last_derivative, derivative, previous_two, previous_one}
-use Rattle.workspace.specs.Vectors.{next_stage, eigenvector, perturbed_state, perturbed_derivative, state, candidate, older_state}
+use Rattle.workspace.specs.declared.Vector.{Vector}
+use Rattle.workspace.specs.Vectors.{Vectors, number, ◌with◌≔◌, each, derivative, previous_two, previous_one}
+use Rattle.workspace.specs.declared.Vector.TheVariants.{FirstDerivative, LastDerivative, Derivative, PreviousTwo, PreviousOne, NextStage, Eigenvector, PerturbedState, PerturbedDerivative, State, Candidate, OlderState}
+use Rattle.workspace.specs.Vectors.{next_stage}
 use Rattle.workspace.specs.Kernel.{entry_in, chebyshev_entry, orthogonal_entry, initial_first_entry, plain_entry, with_row_in, exchanged}
 use Rattle.workspace.proofs.Lists.{each_same}
 use Rattle.workspace.proofs.Parts.{◌beside◌}
 use Rattle.workspace.proofs.Columns.{Rules, written_by}
 
--- ---- the row, by the rule g of an element
+-- ---- the row, by the rule g of an element, and the exchange in one pass
 
-abbrev pub rowed : ℕ → ((Vector → Float) → Float) → Vectors → Vectors
-rowed n g v = v with next_stage ≔ each n v g
-
--- the row and the exchange in one pass
 abbrev pub exchange_rules : ((Vector → Float) → Float) → Rules
 exchange_rules g = (next_stage, λ x. x previous_two) ∷ (previous_two, λ x. x previous_one) ∷ (previous_one, g) ∷ []
 
 cycled : (v : Vectors) (x : List Float) (b : Vector)
     → (v with next_stage ≔ v previous_two with previous_two ≔ v previous_one with previous_one ≔ x) b ≡ exchanged (v with next_stage ≔ x) b
 unfolding exchanged
-cycled v x first_derivative = refl
-cycled v x last_derivative = refl
-cycled v x derivative = refl
-cycled v x previous_two = refl
-cycled v x previous_one = refl
-cycled v x next_stage = refl
-cycled v x eigenvector = refl
-cycled v x perturbed_state = refl
-cycled v x perturbed_derivative = refl
-cycled v x state = refl
-cycled v x candidate = refl
-cycled v x older_state = refl
+cycled v x FirstDerivative = refl
+cycled v x LastDerivative = refl
+cycled v x Derivative = refl
+cycled v x PreviousTwo = refl
+cycled v x PreviousOne = refl
+cycled v x NextStage = refl
+cycled v x Eigenvector = refl
+cycled v x PerturbedState = refl
+cycled v x PerturbedDerivative = refl
+cycled v x State = refl
+cycled v x Candidate = refl
+cycled v x OlderState = refl
 
 pub exchange_law : (n : ℕ) (g : (Vector → Float) → Float) (v : Vectors) → length (v previous_two) ≡ n → length (v previous_one) ≡ n
-    → written_by n (exchange_rules g) v v ≡ exchanged (rowed n g v)
+    → written_by n (exchange_rules g) v v ≡ exchanged (v with next_stage ≔ each n v g)
 exchange_law n g v long-two long-one =
     ap (λ (x : List Float). v with next_stage ≔ x with previous_two ≔ each n v (λ x. x previous_one) with previous_one ≔ each n v g)
     (each_same n v previous_two long-two)
@@ -72,18 +70,18 @@ with_beside k h v w x = fun_ext (λ b. go b (eqb (number k) (number b)) (ltb (nu
 
 exchanged_beside : (v w : Vectors) (b : Vector) → exchanged (v beside w) b ≡ (exchanged v beside w) b
 unfolding exchanged
-exchanged_beside v w first_derivative = refl
-exchanged_beside v w last_derivative = refl
-exchanged_beside v w derivative = refl
-exchanged_beside v w previous_two = refl
-exchanged_beside v w previous_one = refl
-exchanged_beside v w next_stage = refl
-exchanged_beside v w eigenvector = refl
-exchanged_beside v w perturbed_state = refl
-exchanged_beside v w perturbed_derivative = refl
-exchanged_beside v w state = refl
-exchanged_beside v w candidate = refl
-exchanged_beside v w older_state = refl
+exchanged_beside v w FirstDerivative = refl
+exchanged_beside v w LastDerivative = refl
+exchanged_beside v w Derivative = refl
+exchanged_beside v w PreviousTwo = refl
+exchanged_beside v w PreviousOne = refl
+exchanged_beside v w NextStage = refl
+exchanged_beside v w Eigenvector = refl
+exchanged_beside v w PerturbedState = refl
+exchanged_beside v w PerturbedDerivative = refl
+exchanged_beside v w State = refl
+exchanged_beside v w Candidate = refl
+exchanged_beside v w OlderState = refl
 
 module _ (f : RowForm) (n : ℕ) (h : Float) (c : Coefficients) (d : List Float) (v w : Vectors) where
   pub row_beside : with_row_in f n h c (v beside w) d ≡ (with_row_in f n h c v d beside w)

@@ -11,7 +11,8 @@ use native.Mathlib.Omega.{arith}
 use lib.ListN.{length, get_or}
 use lib.Seq.{ext_get_or}
 use lib.Ieee.{Float, nan}
-use Rattle.workspace.specs.Vectors.{Vector, Vectors, ◌with◌≔◌, column, unpack}
+use Rattle.workspace.specs.declared.Vector.{Vector}
+use Rattle.workspace.specs.Vectors.{Vectors, ◌with◌≔◌, column, unpack}
 use Rattle.workspace.proofs.Columns.{Rules, written_by, with_at, stores, written, among, Room, roomy, length_stores, stores_here, stores_there, at}
 use Rattle.workspace.proofs.Columns.{with_column, written_column, Before, length_with, still, written_length, unpack_column, unpack_length, unpack_short}
 use Rattle.workspace.proofs.Columns.{roomy_before, Made, sent, sent_made}

@@ -19,7 +19,8 @@ use Rattle.coefficients.specs.declared.Recurrence.{Recurrence}
 use Rattle.coefficients.specs.declared.Weights.{Weights}
 use Rattle.coefficients.specs.Rows.{candidate_weights}
 use Rattle.workspace.specs.declared.Arguments.{Arguments}
-use Rattle.workspace.specs.Vectors.{Vector, Vectors, ◌with◌≔◌, each, root_of_squares, vector_norm, first_derivative, last_derivative, derivative}
+use Rattle.workspace.specs.declared.Vector.{Vector}
+use Rattle.workspace.specs.Vectors.{Vectors, ◌with◌≔◌, each, root_of_squares, vector_norm, first_derivative, last_derivative, derivative}
 use Rattle.workspace.specs.Vectors.{previous_two, previous_one, next_stage, eigenvector, perturbed_state, perturbed_derivative, state, candidate}
 use Rattle.workspace.specs.Vectors.{older_state}
 

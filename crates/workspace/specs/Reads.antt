@@ -1,14 +1,13 @@
 -- What the private functions of the rows promise of single columns and of four at a time. No public contract cites this. ⊕ ⊖ ⊗ are operations on doubles: they
 -- round.
-use Rattle.std.specs.Prelude.{◌≡◌, ◌⊎◌, Bool, true, false, cond, List, ℕ, zero, suc, ◌+◌, ◌≤◌, ◌<◌, eqb, length, get_or, Float}
+use Rattle.std.specs.Prelude.{◌≡◌, ◌⊎◌, cond, List, ℕ, ◌+◌, ◌≤◌, ◌<◌, eqb, length, get_or, Float}
 use Rattle.std.specs.Float.{nan}
 use Rattle.ieee.specs.Double.{◌⊕◌, ◌⊖◌, ◌⊗◌, one}
-use Rattle.family.specs.declared.RowForm.{RowForm}
-use Rattle.family.specs.declared.RowForm.TheVariants.{ChebyshevRow, OrthogonalRow, InitialFirstRow, PlainRow}
 use Rattle.coefficients.specs.declared.Coefficients.{Coefficients}
 use Rattle.workspace.specs.declared.stages.Entries.{Entries}
-use Rattle.workspace.specs.declared.stages.Four.{Four}
-use Rattle.workspace.specs.Vectors.{Vector, number, column, first_derivative, derivative, previous_two, previous_one, next_stage, state}
+use Rattle.workspace.specs.declared.Vector.{Vector}
+use Rattle.workspace.specs.Vectors.{Vectors, ◌with◌≔◌, each, number, column, first_derivative, derivative, previous_two, previous_one}
+use Rattle.workspace.specs.Vectors.{next_stage, state}
 
 -- a column with this element of the derivative, which the row takes in as it goes
 abbrev pub taking : Float → (Vector → Float) → Vector → Float
@@ -19,29 +18,18 @@ unfoldable pub Reads : Entries → (Vector → Float) → Type 0
 Reads r x =
     (r.one ≡ x previous_one) × (r.two ≡ x previous_two) × (r.initial ≡ x state) × (r.slope ≡ x derivative) × (r.first ≡ x first_derivative)
 
--- the choices that a form of rows is: without the state and the first derivative, or else the place of the state's term, and how the derivatives are weighed
-unfoldable pub plain : RowForm → Bool
-plain ChebyshevRow = false
-plain OrthogonalRow = false
-plain InitialFirstRow = false
-plain PlainRow = true
-
-unfoldable pub state_first : RowForm → Bool
-state_first ChebyshevRow = false
-state_first OrthogonalRow = false
-state_first InitialFirstRow = true
-state_first PlainRow = false
-
-unfoldable pub two_products : RowForm → Bool
-two_products ChebyshevRow = false
-two_products OrthogonalRow = true
-two_products InitialFirstRow = false
-two_products PlainRow = false
+-- what works an element out from what is read of a column, and does what g does of the column
+abbrev pub Makes : (Entries → Float → Type 0) → ((Vector → Float) → Float) → Type 0
+Makes gives g = (x : Entries) (y : Float) (v : Vector → Float) → gives x y → Reads x v → y ≡ g v
 
 -- the terms of a row without the derivatives'
-unfoldable pub weighted_in : RowForm → Coefficients → (Vector → Float) → Float
-weighted_in form c x = let initial = (one ⊖ c.mu ⊖ c.nu) ⊗ x state in
-    cond (state_first form) (initial ⊕ c.mu ⊗ x previous_one ⊕ c.nu ⊗ x previous_two) (c.mu ⊗ x previous_one ⊕ c.nu ⊗ x previous_two ⊕ initial)
+abbrev pub weighted : Coefficients → (Vector → Float) → Float
+weighted c x = c.mu ⊗ x previous_one ⊕ c.nu ⊗ x previous_two ⊕ (one ⊖ c.mu ⊖ c.nu) ⊗ x state
+
+-- the derivative d taken, and the row whose element is g of the column
+abbrev pub rowed : ℕ → ((Vector → Float) → Float) → Vectors → List Float → Vectors
+rowed n g v d = let w = v with derivative ≔ d in
+    w with next_stage ≔ each n w g
 
 -- a column after the row, whose element is g of it, and the exchange
 abbrev pub moved : ((Vector → Float) → Float) → (Vector → Float) → Vector → Float
@@ -57,31 +45,9 @@ Moved n g d i k l m =
     × ((j : ℕ) → i ≤ j → j < i + k → column n m j ≡ moved g (taking (get_or d j nan) (column n l j)))
     × ((j : ℕ) → j < n → (j < i) ⊎ (i + k ≤ j) → column n m j ≡ column n l j)
 
--- ---- four elements
-
-abbrev pub element : Four → ℕ → Float
-element x zero = x.a
-element x (suc zero) = x.b
-element x (suc (suc zero)) = x.c
-element x (suc (suc (suc u))) = x.d
-
--- x is the four of l from p on
-unfoldable pub Holds : List Float → ℕ → Four → Type 0
-Holds l p x = (u : ℕ) → u < 4 → element x u ≡ get_or l (p + u) nan
-
 -- from l to m: the four from p on become x, and the others stand
-unfoldable pub Put : ℕ → Four → List Float → List Float → Type 0
+unfoldable pub Put : ℕ → List Float → List Float → List Float → Type 0
 Put p x l m =
     (length m ≡ length l)
-    × ((u : ℕ) → u < 4 → get_or m (p + u) nan ≡ element x u)
+    × ((u : ℕ) → u < 4 → get_or m (p + u) nan ≡ get_or x u nan)
     × ((q : ℕ) → (q < p) ⊎ (p + 4 ≤ q) → get_or m q nan ≡ get_or l q nan)
-
--- what a row reads at one of four columns
-abbrev pub picked : Four → Four → Four → Four → Four → ℕ → Entries
-picked one two initial slope first u = record {
-  one = element one u;
-  two = element two u;
-  initial = element initial u;
-  slope = element slope u;
-  first = element first u;
-}

@@ -2,26 +2,62 @@
 -- family keeps it (TSRKC2: document 02, CR 6), the older state, accepted before the present one.
 use Rattle.std.specs.Prelude.{◌≡◌, ℕ, zero, suc, ◌+◌, ◌*◌, cond, List, [], ◌∷◌, ◌++◌, eqb, take, drop, get_or, Float}
 use Rattle.std.specs.Float.{nan}
-use Rattle.family.specs.Family.{Family, keeps_older}
+use Rattle.family.specs.declared.Family.{Family}
+use Rattle.family.specs.Family.{keeps_older}
+use Rattle.workspace.specs.declared.Vector.{Vector}
+use Rattle.workspace.specs.declared.Vector.TheVariants.{FirstDerivative, LastDerivative, Derivative, PreviousTwo, PreviousOne, NextStage, Eigenvector, PerturbedState, PerturbedDerivative, State, Candidate, OlderState}
 unfoldable pub use Rattle.norm.specs.Norm.{sum_of_squares, all_finite, root_of_squares, vector_norm}
 
-pub data Vector : Type 0 where
-  first_derivative last_derivative derivative previous_two previous_one next_stage : Vector
-  eigenvector perturbed_state perturbed_derivative state candidate older_state : Vector
+-- the code's vectors, by the names that definitions and theorems have for them
+abbrev pub first_derivative : Vector
+first_derivative = FirstDerivative
+
+abbrev pub last_derivative : Vector
+last_derivative = LastDerivative
+
+abbrev pub derivative : Vector
+derivative = Derivative
+
+abbrev pub previous_two : Vector
+previous_two = PreviousTwo
+
+abbrev pub previous_one : Vector
+previous_one = PreviousOne
+
+abbrev pub next_stage : Vector
+next_stage = NextStage
+
+abbrev pub eigenvector : Vector
+eigenvector = Eigenvector
+
+abbrev pub perturbed_state : Vector
+perturbed_state = PerturbedState
+
+abbrev pub perturbed_derivative : Vector
+perturbed_derivative = PerturbedDerivative
+
+abbrev pub state : Vector
+state = State
+
+abbrev pub candidate : Vector
+candidate = Candidate
+
+abbrev pub older_state : Vector
+older_state = OlderState
 
 abbrev pub number : Vector → ℕ
-number first_derivative = 0
-number last_derivative = 1
-number derivative = 2
-number previous_two = 3
-number previous_one = 4
-number next_stage = 5
-number eigenvector = 6
-number perturbed_state = 7
-number perturbed_derivative = 8
-number state = 9
-number candidate = 10
-number older_state = 11
+number FirstDerivative = 0
+number LastDerivative = 1
+number Derivative = 2
+number PreviousTwo = 3
+number PreviousOne = 4
+number NextStage = 5
+number Eigenvector = 6
+number PerturbedState = 7
+number PerturbedDerivative = 8
+number State = 9
+number Candidate = 10
+number OlderState = 11
 
 -- and the name of a number below 12
 abbrev pub named : ℕ → Vector

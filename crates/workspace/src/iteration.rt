@@ -1,25 +1,21 @@
-// workspace.rs: what `spectral_radius` does before, between and after its evaluations.
+// workspace.rs: what `spectral_radius` does before, between and after its evaluations. The loops go by index, as those of stages.
 ghost use Rattle.std.specs.Prelude.{◌≡◌, ◌*◌, ◌≤◌, ◌<◌, length};
-ghost use Rattle.workspace.specs.Vectors.{named, unpack, Becomes, eigenvector, vector_norm};
+ghost use Rattle.workspace.specs.Vectors.{number, unpack, Becomes, eigenvector, vector_norm};
 ghost use Rattle.workspace.specs.Kernel.{with_direction, perturbation_of, perturbed_by, turned, ended, scaled};
 
-use crate::area::{copy_vector, fill_vector, put_vector};
-use crate::{EIGENVECTOR, FIRST_DERIVATIVE, PERTURBED_DERIVATIVE, PERTURBED_STATE, STATE};
+use crate::Vector;
+use crate::area::{copy_vector, fill_vector, put_vector, vector};
 
-// f64::MIN_POSITIVE and the root of f64::EPSILON: 2^-1022 and 2^-26.
-const MIN_POSITIVE: f64 = 2.2250738585072014e-308;
-
+// The root of f64::EPSILON: 2^-26.
 const ROOT_EPSILON: f64 = 1.4901161193847656e-8;
 
-// The norm of vector k.
-fn norm_of(area: &[f64], n: usize, k: usize) -> f64
+// The norm of vector v.
+fn norm_of(area: &[f64], n: usize, v: Vector) -> f64
     requires n_in_bounds { 11 * n ≤ length area.now }
-    requires k_bound { k < 11 }
-    ensures { result ≡ vector_norm (unpack n area.now (named k)) }
+    requires v_bound { number v < 11 }
+    ensures { result ≡ vector_norm (unpack n area.now v) }
 {
-    let a = k * n;
-    let b = a + n;
-    norm::vector_norm(&area[a..b])
+    norm::vector_norm(vector(area, n, v))
 }
 
 // The norm of the direction.
@@ -27,7 +23,7 @@ pub fn direction_norm(area: &[f64], n: usize) -> f64
     requires { 11 * n ≤ length area.now }
     ensures { result ≡ vector_norm (unpack n area.now eigenvector) }
 {
-    norm_of(area, n, EIGENVECTOR)
+    norm_of(area, n, Vector::Eigenvector)
 }
 
 // The kept eigenvector, else the first derivative, else all ones; and its norm, for the first pass.
@@ -36,13 +32,13 @@ pub fn choose_direction(area: &mut [f64], n: usize) -> f64
     ensures { Becomes n area.old area.new (with_direction n) × (result ≡ vector_norm (unpack n area.new eigenvector)) }
 {
     let kept = direction_norm(area, n);
-    if kept <= MIN_POSITIVE {
-        let first = norm_of(area, n, FIRST_DERIVATIVE);
-        if first <= MIN_POSITIVE {
-            fill_vector(area, n, EIGENVECTOR, 1.0);
+    if kept <= f64::MIN_POSITIVE {
+        let first = norm_of(area, n, Vector::FirstDerivative);
+        if first <= f64::MIN_POSITIVE {
+            fill_vector(area, n, Vector::Eigenvector, 1.0);
             return direction_norm(area, n);
         }
-        copy_vector(area, n, FIRST_DERIVATIVE, EIGENVECTOR);
+        copy_vector(area, n, Vector::FirstDerivative, Vector::Eigenvector);
         return first;
     }
     kept
@@ -52,7 +48,7 @@ pub fn perturbation(area: &[f64], n: usize) -> f64
     requires { 11 * n ≤ length area.now }
     ensures { result ≡ perturbation_of (unpack n area.now) }
 {
-    ROOT_EPSILON * ieee::max(norm_of(area, n, STATE), 1.0)
+    ROOT_EPSILON * ieee::max(norm_of(area, n, Vector::State), 1.0)
 }
 
 // The point of a pass. Its caller has the direction's norm at hand, which the Rust works out a second time.
@@ -60,11 +56,10 @@ pub fn perturb(area: &mut [f64], n: usize, perturbation: f64, norm: f64)
     requires { 11 * n ≤ length area.old }
     ensures { Becomes n area.old area.new (perturbed_by n perturbation norm) }
 {
-    let scale = perturbation / ieee::max(norm, MIN_POSITIVE);
-    let mut i = 0;
-    while i < n {
-        area[PERTURBED_STATE * n + i] = area[STATE * n + i] + scale * area[EIGENVECTOR * n + i];
-        i += 1;
+    let scale = perturbation / ieee::max(norm, f64::MIN_POSITIVE);
+    for i in 0..n {
+        area[Vector::PerturbedState as usize * n + i] = area[Vector::State as usize * n + i]
+            + scale * area[Vector::Eigenvector as usize * n + i];
     }
 }
 
@@ -74,12 +69,11 @@ pub fn turn(area: &mut [f64], n: usize, derivative: &[f64])
     requires derivative_len { length derivative.now ≡ n }
     ensures { Becomes n area.old area.new (λ w. turned n w derivative.now) }
 {
-    put_vector(area, n, PERTURBED_DERIVATIVE, derivative);
-    let mut i = 0;
-    while i < n {
-        area[EIGENVECTOR * n + i] = area[PERTURBED_DERIVATIVE * n + i]
-            - area[FIRST_DERIVATIVE * n + i];
-        i += 1;
+    put_vector(area, n, Vector::PerturbedDerivative, derivative);
+    for i in 0..n {
+        let perturbed = area[Vector::PerturbedDerivative as usize * n + i];
+        let first = area[Vector::FirstDerivative as usize * n + i];
+        area[Vector::Eigenvector as usize * n + i] = perturbed - first;
     }
 }
 
@@ -87,13 +81,8 @@ pub fn turn(area: &mut [f64], n: usize, derivative: &[f64])
 pub fn iteration_ended(pass: u64, previous: f64, radius: f64) -> bool
     ensures { result ≡ ended pass previous radius }
 {
-    if radius == 0.0 {
-        return true;
-    }
-    if pass <= 1 {
-        return false;
-    }
-    ieee::abs(radius - previous) <= 0.01 * ieee::max(radius, 1.0)
+    let repeated = pass > 1;
+    radius == 0.0 || repeated && ieee::abs(radius - previous) <= 0.01 * ieee::max(radius, 1.0)
 }
 
 // |step| times the radius with its safety factor.

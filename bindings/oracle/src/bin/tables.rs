@@ -7,7 +7,7 @@ use oracle::{RKMC2, Rows, TSRKC2};
 use std::fs;
 use std::path::{Path, PathBuf};
 
-/// How many counts a row holds: a read of a row copies it, and a match has an arm a row.
+/// How many counts a row holds.
 const WIDTH: usize = 16;
 
 /// A table by count, and the rule that is proved of it.
@@ -109,7 +109,7 @@ impl Table {
             fs::write(&path, text).unwrap_or_else(|error| panic!("{}: {error}", path.display()));
         };
         let declared = |name: &str| format!("pub mod {name}\n");
-        let proof = Path::new("proofs").join(self.name).join("Proof.antt");
+        let proof = Path::new("proofs").join(self.name).join("Answers.antt");
         let rule = Path::new("proofs")
             .join(self.rule.file)
             .with_extension("antt");
@@ -152,21 +152,21 @@ impl Table {
             .replace("<title>", self.title)
             .replace("<request>", self.request)
             .replace("<name>", self.name)
-            .replace("<arms>", &self.arms())
+            .replace("<doubles>", &self.doubles_by_row())
             .replace("<bits>", &self.bits());
         numbers.into_iter().fold(named, |text, (place, number)| {
             text.replace(place, &number.to_string())
         })
     }
 
-    /// The arms of the code's match, an entry a line.
-    fn arms(&self) -> String {
-        let entry = |value: &f64| format!("            {},\n", decimal(*value));
-        let arm = |(k, row): (usize, &Vec<f64>)| {
+    /// The rows of the code, an entry a line.
+    fn doubles_by_row(&self) -> String {
+        let entry = |value: &f64| format!("        {},\n", decimal(*value));
+        let row = |row: &Vec<f64>| {
             let entries: String = row.iter().map(entry).collect();
-            format!("        {k} => [\n{entries}        ],\n")
+            format!("    [\n{entries}    ],\n")
         };
-        self.rows().iter().enumerate().map(arm).collect()
+        self.rows().iter().map(row).collect()
     }
 
     /// The rows of the definition, four bit patterns a line, each row below its first count.
@@ -196,27 +196,17 @@ const CODE: &str = "\
 // <title>, by count. A count outside <first> to <last> reads the nearest entry. Written by bindings/oracle (docs/VECTORS.md).
 #![tactic(auto)]
 
-ghost use Rattle.std.specs.Prelude.{◌≡◌, ◌<◌};
-ghost use Rattle.table.specs.Rows.{row};
+ghost use Rattle.std.specs.Prelude.{◌≡◌};
 ghost use Rattle.<crate>.specs.Table as spec;
 
-// The counts <width> k to <width> k + <width-1>. No number below <rows> is left for the last arm.
-fn row_of(k: u64) -> [f64; <width>]
-    requires { k < <rows> }
-    ensures { result ≡ row spec.bits k }
-{
-    match k {
-<arms>        _ => table::absent(k, <rows>),
-    }
-}
+// Row k has the counts <width> k to <width> k + <width-1>.
+static ROWS: [[f64; <width>]; <rows>] = [
+<doubles>];
 
 pub fn <name>(s: u64) -> f64
     ensures { result ≡ spec.<name> s }
 {
-    let i = table::capped(s, <last>);
-    let row = row_of(i / <width>);
-    let j = (i % <width>) as usize;
-    row[j]
+    table::entry(&ROWS, <last>, s)
 }
 ";
 
@@ -235,37 +225,23 @@ unfoldable pub <name> : ℕ → Float
 ";
 
 const PROOF: &str = "\
--- `<name>` meets its contract: the row is that of the count, and so is the place in it. Assumes nothing.
-use borrow.Author.Rules.{rules}
-use Rattle.<crate>.specs.Table.{<name>}
-use Rattle.<crate>.proofs.<name>.Statement.{statement}
-use Rattle.<crate>.proofs.<name>.Tie as tie
+-- The rows of the code are those of the bits, by computation.
+use Rattle.std.specs.Prelude.{min}
+use Rattle.std.proofs.Common.{◌∙◌}
+use Rattle.table.proofs.Rows.{read_by_bits}
+use Rattle.<crate>.specs.Table.{bits, <name>}
+use Rattle.<crate>.proofs.<name>.Goals as goal
 
-capped-requires : tie.Need-capped-i-requires
-capped-requires c κs = search rules
-
-row-of-requires : tie.Need-row_of-row-requires
-row-of-requires c κs = search rules
-
-mul-result : tie.Need-offset_bounds-row-j
-mul-result c = search rules
-
-array-read-result : tie.Need-bounds-row-j
-array-read-result c = search rules
-
-returns : tie.Need-returns
+pub returns : goal.returns
 unfolding <name>
-returns c = rw (c.row_of-row.ensures, c.before.capped-i.ensures)
-
-pub <name>_spec : {M : Type 1} → statement M
-<name>_spec = tie.close (tie.spec capped-requires row-of-requires mul-result array-read-result returns)
+returns c = c.entry.ensures ∙ read_by_bits bits (min c.args.s <last>)
 ";
 
 const AT_LEAST_ONE: Rule = Rule {
     file: "AtLeastOne",
     text: "\
 -- Every entry is at least 1. Computed once for the whole table. Assumes nothing.
-use Prim.Native.Nat.{ℕ, ◌+◌, ◌≤◌, ◌<◌}
+use Prim.Native.Nat.{ℕ, ◌≤◌}
 use mathlib.Core.Bool.{Bool}
 use native.Mathlib.Omega.{arith}
 use lib.Dec.{T}
@@ -291,7 +267,7 @@ const ABOVE_ZERO: Rule = Rule {
     file: "AboveZero",
     text: "\
 -- Every entry is above 0. Computed once for the whole table. Assumes nothing.
-use Prim.Native.Nat.{ℕ, ◌+◌, ◌≤◌, ◌<◌}
+use Prim.Native.Nat.{ℕ, ◌≤◌}
 use mathlib.Core.Bool.{Bool}
 use native.Mathlib.Omega.{arith}
 use lib.Dec.{T}
@@ -317,9 +293,9 @@ const RISING: Rule = Rule {
     file: "Rising",
     text: "\
 -- The entries rise strictly, and are above 0. Computed once for the whole table. Assumes nothing.
-use mathlib.Core.Path.{◌≡◌, sym, subst}
+use mathlib.Core.Path.{sym, subst}
 use mathlib.Core.Logic.{inl, inr}
-use Prim.Native.Nat.{ℕ, suc, ◌+◌, ◌≤◌, ◌<◌}
+use Prim.Native.Nat.{ℕ, suc, ◌≤◌}
 use native.Mathlib.Nat.{eq-or-lt_of_le}
 use mathlib.Core.Bool.{Bool, ◌&&◌}
 use native.Mathlib.Omega.{arith}

@@ -1,20 +1,13 @@
--- `daily::minutes_page` meets its contract, by those of `inverter::day` and of what is put. Assumes nothing.
-use Rattle.std.proofs.Common.{ap, ◌∙◌}
-use Rattle.daily.specs.Written.{minute_lines, minutes_text}
-use Rattle.daily.proofs.Pages.{blank_lists, minutes_written, entries}
+-- What is put is the definition's of the report, of which the lists begin blank.
+use Rattle.std.proofs.Common.{◌∙◌}
+use Rattle.daily.specs.Written.{minutes_text}
+use Rattle.daily.proofs.Pages.{blank, minutes_written}
 use Rattle.daily.proofs.minutes_page.Goals as goal
 
-pub returns-in-Day-clause-out_after : goal.returns-in-Day-clause-out_after
+pub returns-in-Ok : goal.returns-in-Ok
 unfolding minutes_text
-returns-in-Day-clause-out_after c =
-    let e = entries _ _ c.in-Day.is c.day.ensures in
-    let blank = blank_lists c.no_numbers-refusals.ensures c.no_doubles-junctions.ensures c.no_numbers-stages.ensures c.no_numbers-passes.ensures
-    c.no_doubles-scaled_radii.ensures in
-    c.put_minutes.ensures.bytes ∙ ap (minute_lines _ _ _ _) e.a_junction_each ∙ minutes_written _ _ blank c.in-Day.is c.day.ensures
+returns-in-Ok c = c.of_minutes.ensures ∙ minutes_written _ _ (blank c.default-minutes.result c.default-minutes.ensures) c.in-Ok.is c.day.ensures
 
-pub returns-in-Malformed-clause-out_after : goal.returns-in-Malformed-clause-out_after
+pub returns-in-Err : goal.returns-in-Err
 unfolding minutes_text
-returns-in-Malformed-clause-out_after c =
-    let blank = blank_lists c.no_numbers-refusals.ensures c.no_doubles-junctions.ensures c.no_numbers-stages.ensures c.no_numbers-passes.ensures
-    c.no_doubles-scaled_radii.ensures in
-    c.put_malformed.ensures.bytes ∙ minutes_written _ _ blank c.in-Malformed.is c.day.ensures
+returns-in-Err c = c.of_malformed.ensures ∙ minutes_written _ _ (blank c.default-minutes.result c.default-minutes.ensures) c.in-Err.is c.day.ensures

@@ -1,17 +1,10 @@
--- Beside the loop over the minutes: the lines of those so far are put, and there is room for the others.
-use Rattle.std.proofs.Common.{◌≡◌, ◌+◌, ◌-◌, ◌*◌, ◌≤◌, length, take}
-use Rattle.page.specs.Page.{Puts}
-use Rattle.accounts.specs.Accounts.{listed}
-use Rattle.daily.specs.Written.{refusal_lines}
+-- Over the minutes: the lines of those so far that are refused stand on the page, each of at most 62 bytes.
+use Rattle.std.proofs.Common.{◌≡◌, ◌+◌, ◌*◌, ◌≤◌, ◌++◌, length}
+use Rattle.daily.proofs.Writing.{refused_told}
 use Rattle.daily.proofs.lines.put_refusals.Given as goal
 
 abbrev pub invariant-loop-i : goal.invariant-loop-i
 invariant-loop-i l = record {
-  within : l.i ≤ length l.refusals;
-  long : length l.out ≡ length l.fn.out;
-  room : l.place + 62 * (length l.refusals - l.i) ≤ length l.fn.out;
-  lines : Puts l.fn.out l.at (refusal_lines (listed 0 (take l.i l.refusals))) l.out l.place;
+  text : l.page ≡ l.fn.page ++ refused_told l.minutes l.i;
+  room : length l.page ≤ length l.fn.page + 62 * l.i;
 }
-
-abbrev pub decreases-loop-i : goal.decreases-loop-i
-decreases-loop-i l = length l.refusals - l.i

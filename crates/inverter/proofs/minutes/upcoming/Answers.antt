@@ -1,29 +1,27 @@
--- `inverter::minutes::upcoming` meets its contract, by the invariant. Assumes nothing.
-use Rattle.std.proofs.Common.{sym, ◌∙◌, get_or, arith}
+-- `inverter::minutes::upcoming` meets its contract, by that of `find`. Assumes nothing.
+use Rattle.std.proofs.Common.{◌+◌, ◌-◌, length, drop, get_or, sym, ap, ◌∙◌, rules, tests, arith, length-drop, Iter}
 use Rattle.std.specs.Float.{nan}
-use Rattle.inverter.proofs.Run.{upcoming_here, upcoming_later, upcoming_none}
+use Rattle.std.specs.Prelude.{Option}
+use Rattle.std.specs.Option.{unwrap_or}
+use Rattle.std.specs.Slice.Iter.{iter_rest}
+use Rattle.std.proofs.lemmas.Iterator.{YieldsList-from_slice}
+use Rattle.std.proofs.lemmas.Iterator.Consumers.{YieldsList-from_copied}
+use Rattle.std.proofs.lemmas.Iterator.Search.{find_from_yields_List}
+use Rattle.std.proofs.lemmas.Iterator.Adapters.{option_map_id}
+use lib.Seq.{take_all}
+use lib.Ieee.{Float}
+use lib.Ieee.Scale.{finite}
+use Rattle.inverter.proofs.Run.{upcoming_found}
 use Rattle.inverter.proofs.minutes.upcoming.Goals as goal
-
-pub returns-then-is_finite : goal.returns-then-is_finite
-returns-then-is_finite c =
-    let a = c.args in
-    let l = c.loop-j in
-    let here = sym c.is_finite.ensures ∙ c.if-is_finite.true in
-    sym (l.invariant.rest ∙ upcoming_here (get_or a.readings.now a.i nan) a.readings.now l.j c.loop-j-test.true here)
-
-pub loop-j-preserved : goal.loop-j-preserved
-loop-j-preserved c =
-    let a = c.args in
-    let l = c.loop-j in
-    let later = sym c.is_finite.ensures ∙ c.if-is_finite.false in
-    let some = c.loop-j-test.true in
-    record {
-      within = omega arith;
-      rest = l.invariant.rest ∙ upcoming_later (get_or a.readings.now a.i nan) a.readings.now l.j some later;
-    }
 
 pub returns : goal.returns
 returns c =
     let a = c.args in
-    let l = c.loop-j in
-    sym (l.invariant.rest ∙ upcoming_none (get_or a.readings.now a.i nan) a.readings.now l.j c.loop-j-test.false)
+    let r = get_or a.readings.now a.i nan in
+    let xs = drop (a.i + 1) a.readings.now in
+    let n = length a.readings.now - (a.i + 1) in
+    let rest = ap (λ (s : Iter Float). iter_rest s) c.copied.ensures.source ∙ c.iter.ensures.rest ∙ take_all n xs (omega (arith, length-drop {A = Float})) in
+    let found = find_from_yields_List finite _ _ c.find.result c.find.ensures.ran (YieldsList-from_copied (YieldsList-from_slice xs rest)) (λ x b q k. search (rules, tests)) in
+    c.unwrap_or.ensures
+    ∙ ap (λ (o : Option Float). unwrap_or o r) (sym (option_map_id _) ∙ found)
+    ∙ upcoming_found r xs

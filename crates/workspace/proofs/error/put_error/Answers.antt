@@ -1,0 +1,12 @@
+use Rattle.std.proofs.Common.{refl, [], ◌∷◌, arith}
+use Rattle.workspace.proofs.Columns.{begin, turn, finish}
+use Rattle.workspace.proofs.error.put_error.Goals as goal
+
+pub loop-i-init : goal.loop-i-init
+loop-i-init c = begin _ _ _ refl (omega arith)
+
+pub loop-i-preserved : goal.loop-i-preserved
+loop-i-preserved c = turn (_ ∷ []) c.loop-i.invariant (omega arith) (c.error_at.ensures, tt)
+
+pub returns : goal.returns
+returns c = finish c.loop-i.invariant (omega arith)
