@@ -24,7 +24,8 @@ use Rattle.driver.specs.declared.Phase.TheVariants as P
 use Rattle.driver.specs.declared.Answer.{Answer}
 use Rattle.driver.specs.declared.Answer.TheVariants.{Evaluate, Finished, Ready, Refused, Empty}
 use Rattle.driver.specs.declared.Record.{Record}
-use Rattle.driver.specs.Calls.{Need, Met, Unmet}
+use Rattle.driver.specs.declared.Need.{Need}
+use Rattle.driver.specs.declared.Need.TheVariants.{Met, Unmet}
 use Rattle.driver.specs.Calls as calls
 use Rattle.driver.specs.Calls.{Held, Called, Step, Test, admitted, first_failing, guarded}
 use Rattle.driver.specs.Promises.{holding}

@@ -1,3 +1,4 @@
+mod Bits
 mod Stars
 mod Late
 mod Doubles

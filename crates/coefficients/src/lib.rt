@@ -232,10 +232,7 @@ pub fn row_and_recurrence(setting: Setting, s: u64, j: u64, c: Recurrence) -> Ad
         Family::RKL2 => c.advance(orthogonal::legendre_two(s, j, c), c.polynomials),
         Family::RKG1 => c.advance(orthogonal::gegenbauer_one(s, j, c), c.polynomials),
         Family::RKG2 => c.advance(orthogonal::gegenbauer_two(s, j, c), c.polynomials),
-        Family::RKMC2 => {
-            let on = rkmc2::next_polynomials(c.polynomials);
-            c.advance(rkmc2::row(on.b_previous, c), on)
-        }
+        Family::RKMC2 => rkmc2::advance(c),
         Family::TSRKC2 => {
             let on = c.polynomials.with_next_value();
             c.advance(tsrkc2::row(on.value_previous, c), on)

@@ -1,19 +1,20 @@
 // `run_rkmc2` of chebyshev.rs: the recurrence of the Chebyshev polynomials, and the weights of the candidate. omega_zero and
 // omega_one are tables by s, read only when the stages begin.
 ghost use Rattle.std.specs.Prelude.{◌≡◌};
+ghost use Rattle.family.specs.declared.Family.TheVariants.{RKMC2};
 ghost use Rattle.coefficients.specs.Rows as rows;
 
-use crate::{Coefficients, Polynomials, Recurrence, Weights};
+use crate::{Advance, Coefficients, Polynomials, Recurrence, Weights};
 
 #[tactic(auto, using(family::proofs::Constants::constants), unfolding(crate::specs::Rows::rkmc2_b_first))]
-pub(crate) fn first_b(s: u64) -> f64
+pub fn first_b(s: u64) -> f64
     ensures { result ≡ rows.rkmc2_b_first s }
 {
     1.0 / (1.0 + rkmc2_omega_zero::omega_zero(s))
 }
 
 #[tactic(auto, using(family::proofs::Constants::constants), unfolding(crate::specs::Rows::rkmc2_first_polynomials))]
-pub(crate) fn first_polynomials(omega: f64, s: u64) -> Polynomials
+pub fn first_polynomials(omega: f64, s: u64) -> Polynomials
     ensures { result ≡ rows.rkmc2_first_polynomials omega s }
 {
     Polynomials {
@@ -25,7 +26,7 @@ pub(crate) fn first_polynomials(omega: f64, s: u64) -> Polynomials
 
 // The polynomial of this stage, from those of the two before, and b.
 #[tactic(auto, using(family::proofs::Constants::constants), unfolding(crate::specs::Rows::rkmc2_polynomials_on, crate::specs::Rows::tsrkc2_polynomials_on, crate::specs::Rows::rkmc2_b_of))]
-pub(crate) fn next_polynomials(p: Polynomials) -> Polynomials
+pub fn next_polynomials(p: Polynomials) -> Polynomials
     ensures { result ≡ rows.rkmc2_polynomials_on p }
 {
     let on = p.with_next_value();
@@ -38,7 +39,7 @@ pub(crate) fn next_polynomials(p: Polynomials) -> Polynomials
 
 // The row, from b of its stage and what is carried.
 #[tactic(auto, using(family::proofs::Constants::constants), unfolding(crate::specs::Rows::rkmc2_row))]
-pub(crate) fn row(b: f64, c: Recurrence) -> Coefficients
+fn row_from(b: f64, c: Recurrence) -> Coefficients
     requires { b ≡ rows.rkmc2_b_of c.polynomials }
     ensures { result ≡ rows.rkmc2_row c }
 {
@@ -53,6 +54,24 @@ pub(crate) fn row(b: f64, c: Recurrence) -> Coefficients
         gamma_tilde: p.b_previous,
         theta: c.theta(mu, nu, mu_tilde * (1.0 - p.b_previous)),
     }
+}
+
+// The row, from what is carried.
+#[tactic(auto, unfolding(crate::specs::Rows::rkmc2_polynomials_on, crate::specs::Rows::tsrkc2_polynomials_on, crate::specs::Rows::rkmc2_b_of))]
+pub fn row(c: Recurrence) -> Coefficients
+    ensures { result ≡ rows.rkmc2_row c }
+{
+    row_from(next_polynomials(c.polynomials).b_previous, c)
+}
+
+// The row and what is carried on from it, with the polynomials worked out once.
+#[tactic(auto, unfolding(crate::specs::Rows::next_of, crate::specs::Rows::next_polynomials, crate::specs::Rows::polynomials_on, crate::specs::Rows::rkmc2_polynomials_on, crate::specs::Rows::tsrkc2_polynomials_on, crate::specs::Rows::rkmc2_b_of, family::specs::Family::facts_of))]
+pub fn advance(c: Recurrence) -> Advance
+    ensures row_value { result.row ≡ rows.rkmc2_row c }
+    ensures after_value { result.after ≡ rows.next_of RKMC2 c result.row }
+{
+    let on = next_polynomials(c.polynomials);
+    c.advance(row_from(on.b_previous, c), on)
 }
 
 // The candidate's weights after stage s, into which c was carried.

@@ -24,7 +24,8 @@ use Rattle.workspace.specs.Kernel.{with_direction, perturbed, perturbed_by, turn
 use Rattle.workspace.specs.Kernel.{with_candidate, with_last, error}
 use Rattle.driver.specs.declared.Phase.{Phase}
 use Rattle.driver.specs.declared.Phase.TheVariants as P
-use Rattle.driver.specs.Calls.{Need, Met, Unmet}
+use Rattle.driver.specs.declared.Need.{Need}
+use Rattle.driver.specs.declared.Need.TheVariants.{Met, Unmet}
 use Rattle.driver.specs.declared.Record.{Record}
 use Rattle.driver.specs.declared.Answer.TheVariants.{Evaluate, Refused}
 use Rattle.driver.specs.Calls.{Held, Called, Step, step_to, admitted, first_failing, start_tests, abandon_tests, start, start_vectors, abandon, first_at}

@@ -13,7 +13,8 @@ use Rattle.family.proofs.Range.{permitted_range}
 use Rattle.family.proofs.Counts.{stage_count_permitted}
 use Rattle.driver.specs.declared.Phase.TheVariants as P
 use Rattle.driver.specs.declared.Record.{Record}
-use Rattle.driver.specs.Calls.{Need, Met, Unmet}
+use Rattle.driver.specs.declared.Need.{Need}
+use Rattle.driver.specs.declared.Need.TheVariants.{Met, Unmet}
 use Rattle.driver.specs.Calls.{setting_of, permits, in_range, stage_need}
 use Rattle.driver.proofs.Sizes.{both}
 

@@ -25,7 +25,8 @@ use Rattle.driver.specs.declared.Phase.{Phase}
 use Rattle.driver.specs.declared.Phase.TheVariants as P
 use Rattle.driver.specs.declared.Record.{Record}
 use Rattle.driver.specs.declared.Next.{Next}
-use Rattle.driver.specs.Calls.{Met, Step, going_on, with_radius, at_pass, at_stage, ask_pass, ask_stage, by_need, begin_stages, take_first, take_pass}
+use Rattle.driver.specs.declared.Need.TheVariants.{Met}
+use Rattle.driver.specs.Calls.{Step, going_on, with_radius, at_pass, at_stage, ask_pass, ask_stage, by_need, begin_stages, take_first, take_pass}
 use Rattle.driver.specs.Calls.{ask_candidate, take_stage, replied, setting_of}
 use Rattle.driver.specs.declared.Staging.{Staging}
 use Rattle.driver.specs.declared.Staged.TheVariants.{On, OnByTheta, Ended, NotFinite}

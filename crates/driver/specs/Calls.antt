@@ -24,6 +24,8 @@ use Rattle.driver.specs.declared.Counters.{Counters}
 use Rattle.driver.specs.declared.Figures.{Figures}
 use Rattle.driver.specs.declared.Answer.{Answer}
 use Rattle.driver.specs.declared.Answer.TheVariants.{Evaluate, Finished, Ready, Refused, Empty}
+use Rattle.driver.specs.declared.Need.{Need}
+use Rattle.driver.specs.declared.Need.TheVariants.{Met, Unmet}
 use Rattle.driver.specs.Numbers.{one_of, standing_numbers}
 
 -- what the caller holds between two calls
@@ -156,11 +158,6 @@ ask_pass r v = step_to (Evaluate r.arguments.time (number perturbed_state)) r (p
 unfoldable pub ask_stage : Record → Vectors → Step
 ask_stage r v = let a = r.arguments in
     step_to (Evaluate (a.time ⊕ a.step ⊗ r.staging.recurrence.theta_previous) (number previous_one)) r v
-
--- how many stages an attempt runs, or the number that its need of stages is refused with
-pub data Need : Type 0 where
-  Met : ℕ → Need
-  Unmet : ℕ → Need
 
 -- how many stages this scaled radius takes; 11 where TSRKC2 would need more than 1000
 unfoldable pub stage_need : Setting → Float → Need

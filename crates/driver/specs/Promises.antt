@@ -23,7 +23,9 @@ use Rattle.driver.specs.Answers.{SameAnswer}
 use Rattle.driver.specs.declared.refusals.Refusal.{Refusal}
 use Rattle.driver.specs.Numbers.{refusal_number}
 use Rattle.driver.specs.Calls.{Held, Called, Step, same_phase, in_phase, at_stage, sized, whole_area, as_long, good_stage, room, one_more, setting_of}
-use Rattle.driver.specs.Calls.{Test, ◌∶◌, Verdict, admitted, refused_with, Need, Met, Unmet}
+use Rattle.driver.specs.declared.Need.{Need}
+use Rattle.driver.specs.declared.Need.TheVariants.{Met, Unmet}
+use Rattle.driver.specs.Calls.{Test, ◌∶◌, Verdict, admitted, refused_with}
 
 -- what a call is handed
 abbrev pub holding : Record → Counters → List Float → Held

@@ -131,6 +131,14 @@ pub enum Staged {
     NotFinite,
 }
 
+// How many stages an attempt runs, or the number that its stage need is refused with: what the definition `stage_need` gives,
+// where the code has a Result.
+#[derive(Clone, Copy)]
+pub enum Need {
+    Met(u64),
+    Unmet(u64),
+}
+
 // A record that was never started: in the empty phase, of no family.
 pub fn new_record() -> Record
     ensures { result ≡ new_record }

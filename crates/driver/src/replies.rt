@@ -7,6 +7,7 @@ ghost use Rattle.workspace.specs.Kernel.{ended};
 ghost use Rattle.coefficients.specs.declared.Coefficients.{Coefficients};
 ghost use Rattle.coefficients.specs.Rows.{next};
 ghost use Rattle.driver.specs.declared.Record.{Record};
+ghost use Rattle.driver.specs.declared.Need.TheVariants.{Met};
 ghost use Rattle.driver.specs.declared.Staged.TheVariants.{On};
 ghost use Rattle.driver.specs.Calls as calls;
 ghost use Rattle.driver.specs.Promises.{Steps, need, in_stages, outcome_of};
@@ -79,7 +80,7 @@ fn stage_need(setting: Setting, scaled_radius: f64) -> Result<u64, Refusal>
 
 fn first_stage(record: Record, area: &mut [f64], scaled_radius: f64, stages: u64) -> Next
     requires { 11 * «record».n ≤ length area.old }
-    ensures { Steps (calls.by_need (calls.Met stages) «record» (unpack «record».n area.old) scaled_radius) result
+    ensures { Steps (calls.by_need (Met stages) «record» (unpack «record».n area.old) scaled_radius) result
         (unpack «record».n area.new) }
 {
     let n = record.n;

@@ -318,3 +318,52 @@ impl Family {
         own.refuses_more && own.largest < self.number_of_stages(q, scaled_radius)
     }
 }
+
+// ---- the same by a family's number, of which any but 1 to 7 is taken as 5
+
+// What an attempt of the family of this number runs under.
+pub fn setting_of(family: u64, history: bool, quotient: f64) -> Setting
+    ensures { result ≡ spec.setting family history quotient }
+{
+    Setting {
+        family: Family::from(family),
+        history,
+        quotient,
+    }
+}
+
+pub fn without_history(family: u64) -> Setting
+    ensures { result ≡ spec.setting family false nought }
+{
+    Setting::without_history(Family::from(family))
+}
+
+pub fn facts_of(family: u64) -> Facts
+    ensures { result ≡ spec.facts_of (family_of family) }
+{
+    Family::from(family).facts()
+}
+
+pub fn keeps_older(family: u64) -> bool
+    ensures { result ≡ spec.keeps_older (family_of family) }
+{
+    Family::from(family).keeps_older()
+}
+
+pub fn permitted(family: u64, s: u64) -> bool
+    ensures { result ≡ spec.permitted (family_of family) s }
+{
+    Family::from(family).permits(s)
+}
+
+pub fn stages(family: u64, q: f64, scaled_radius: f64) -> u64
+    ensures { result ≡ spec.stage_count (family_of family) q scaled_radius }
+{
+    Family::from(family).stages(q, scaled_radius)
+}
+
+pub fn exceeds(family: u64, q: f64, scaled_radius: f64) -> bool
+    ensures { result ≡ spec.exceeds (family_of family) q scaled_radius }
+{
+    Family::from(family).exceeds(q, scaled_radius)
+}

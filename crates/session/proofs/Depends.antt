@@ -20,7 +20,8 @@ use Rattle.workspace.specs.declared.Vector.TheVariants.{FirstDerivative, LastDer
 use Rattle.workspace.specs.Vectors.{eigenvector, perturbed_state, state, candidate}
 use Rattle.workspace.specs.Kernel.{with_direction, perturbation_of, perturbed, turned, radius_of, ended, scaled, first_stage, exchanged}
 use Rattle.workspace.specs.Kernel.{with_last}
-use Rattle.driver.specs.Calls.{Need, Met, Unmet}
+use Rattle.driver.specs.declared.Need.{Need}
+use Rattle.driver.specs.declared.Need.TheVariants.{Met, Unmet}
 use Rattle.driver.specs.Calls.{stage_need}
 use Rattle.session.specs.Attempt.{for_candidate, Asking, done, stopped, ◌>>=◌, evaluate, stages_for, Radius, FinishedAttempt, iterate, spectral_radius}
 use Rattle.session.specs.Attempt.{stage_row, stage_loop, run_recurrence, finished_attempt, close, attempt_step, evaluated, end, fixed_at}

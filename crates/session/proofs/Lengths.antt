@@ -18,7 +18,8 @@ use Rattle.workspace.proofs.Areas.{long_candidate, long_last}
 use Rattle.driver.specs.declared.Phase.{Phase}
 use Rattle.driver.specs.declared.Phase.TheVariants as P
 use Rattle.driver.specs.declared.Record.{Record}
-use Rattle.driver.specs.Calls.{Need, Met, Unmet}
+use Rattle.driver.specs.declared.Need.{Need}
+use Rattle.driver.specs.declared.Need.TheVariants.{Met, Unmet}
 use Rattle.driver.specs.declared.Answer.TheVariants.{Evaluate, Refused}
 use Rattle.driver.specs.Calls.{step_to, in_phase, at_pass, at_stage, with_radius, take_first, take_callback, ask_pass, ask_stage, stage_need, by_need}
 use Rattle.driver.specs.Calls.{begin_stages, take_pass, ask_candidate, take_stage, take_candidate, replied, whole_area, setting_of, Step}

@@ -11,7 +11,8 @@ use Rattle.family.specs.declared.Setting.{Setting}
 use Rattle.family.specs.Family.{kind, stage_count, exceeds, permitted}
 use Rattle.family.proofs.Range.{permitted_range}
 use Rattle.family.proofs.Counts.{stage_count_permitted}
-use Rattle.driver.specs.Calls.{Need, Met, Unmet}
+use Rattle.driver.specs.declared.Need.{Need}
+use Rattle.driver.specs.declared.Need.TheVariants.{Met, Unmet}
 use Rattle.driver.specs.Numbers.{need_numbers}
 use Rattle.driver.specs.Calls.{permits, stage_need}
 use Rattle.session.specs.Refusals.{◌∈◌, here}

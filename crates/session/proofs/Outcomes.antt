@@ -27,7 +27,7 @@ use Rattle.driver.specs.declared.Record.{Record}
 use Rattle.driver.specs.declared.Counters.{Counters}
 use Rattle.driver.specs.declared.Answer.{Answer}
 use Rattle.driver.specs.declared.Answer.TheVariants.{Evaluate, Finished, Ready, Refused, Empty}
-use Rattle.driver.specs.Calls.{Met, Unmet}
+use Rattle.driver.specs.declared.Need.TheVariants.{Met, Unmet}
 use Rattle.driver.specs.Calls.{Held, Called, step_to, in_phase, first_at, at_pass, with_radius, at_stage, taken, setting_of, permits, figures_after}
 use Rattle.driver.specs.Calls.{with_history, without_history, history_after}
 use Rattle.driver.specs.Calls.{take_first, take_callback, ask_pass, ask_stage, stage_need, by_need, begin_stages, take_pass, ask_candidate, take_stage}

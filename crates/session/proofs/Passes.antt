@@ -18,7 +18,8 @@ use Rattle.workspace.specs.Vectors.{Vectors, unpack, perturbed_state}
 use Rattle.workspace.specs.Kernel.{with_direction, perturbation_of, perturbed, turned, radius_of, ended, scaled, first_stage}
 use Rattle.driver.specs.declared.Phase.TheVariants as P
 use Rattle.driver.specs.declared.Staging.{Staging}
-use Rattle.driver.specs.Calls.{Need, Met, Unmet}
+use Rattle.driver.specs.declared.Need.{Need}
+use Rattle.driver.specs.declared.Need.TheVariants.{Met, Unmet}
 use Rattle.driver.specs.declared.Counters.{Counters}
 use Rattle.driver.specs.Calls.{Held, Called, in_phase, at_pass, with_radius, at_stage, ask_pass, ask_stage, stage_need, by_need, begin_stages, take_pass}
 use Rattle.driver.specs.Calls.{setting_for}

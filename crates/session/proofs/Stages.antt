@@ -26,7 +26,7 @@ use Rattle.workspace.proofs.Candidate.{candidate_last, candidate_combined, candi
 use Rattle.driver.specs.declared.Phase.TheVariants as P
 use Rattle.driver.specs.declared.Iteration.{Iteration}
 use Rattle.driver.specs.declared.Staging.{Staging}
-use Rattle.driver.specs.Calls.{Met}
+use Rattle.driver.specs.declared.Need.TheVariants.{Met}
 use Rattle.driver.specs.declared.Counters.{Counters}
 use Rattle.driver.specs.declared.Answer.TheVariants.{Evaluate, Refused}
 use Rattle.driver.specs.Calls.{Held, step_to, in_phase, setting_for, permits, at_stage, ask_stage, stage_need, ask_candidate, take_stage, take_candidate}

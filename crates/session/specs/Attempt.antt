@@ -14,7 +14,8 @@ use Rattle.workspace.specs.Vectors.{Vectors, all_finite, first_derivative, deriv
 use Rattle.workspace.specs.Vectors.{perturbed_derivative, state, candidate}
 use Rattle.workspace.specs.Kernel.{with_direction, perturbation_of, perturbed, turned, radius_of, ended, scaled, first_stage, with_row, exchanged}
 use Rattle.workspace.specs.Kernel.{with_candidate, with_last, error_norm}
-use Rattle.driver.specs.Calls.{Need, Met, Unmet}
+use Rattle.driver.specs.declared.Need.{Need}
+use Rattle.driver.specs.declared.Need.TheVariants.{Met, Unmet}
 use Rattle.driver.specs.Calls.{stage_need}
 
 -- ---- a computation that asks for derivatives

@@ -12,7 +12,7 @@ use Rattle.workspace.specs.Vectors.{Vectors, width, named, unpack, pack, each, a
 use Rattle.workspace.specs.Vectors.{last_derivative}
 use Rattle.workspace.specs.Kernel.{combined_entry, mixed_entry, older_of}
 use Rattle.driver.specs.declared.Phase.TheVariants as P
-use Rattle.driver.specs.Calls.{Met}
+use Rattle.driver.specs.declared.Need.TheVariants.{Met}
 use Rattle.driver.specs.declared.Figures.{Figures}
 use Rattle.driver.specs.declared.Answer.{Answer}
 use Rattle.driver.specs.declared.Answer.TheVariants.{Evaluate, Finished, Ready, Refused, Empty}
