@@ -1,7 +1,7 @@
 // What is written of the text of a day: the bytes, each an equation with a definition, and their handing to the output.
 #![tactic(auto)]
 
-ghost use Rattle.std.specs.Prelude.{◌≡◌, OnOk};
+ghost use Rattle.std.specs.Prelude.{◌≡◌, ◌≤◌, length, OnOk};
 ghost use Rattle.std.specs.Io.KnownBytes.{Appends};
 ghost use Rattle.daily.specs.Written as spec;
 
@@ -19,25 +19,27 @@ pub type Page = page::Page<110000>;
 
 // The total and each refused minute, or the line that makes the text no day.
 pub fn day_page(text: &[u8]) -> Page
-    ensures { result ≡ spec.day_page text.now }
+    ensures text { result ≡ spec.day_page text.now }
+    ensures len { length result ≤ spec.room }
 {
     let mut minutes = [Minute::default(); 1440];
-    match inverter::day(text, &mut minutes) {
-        Ok(total) => lines::of_day(total, &minutes),
-        Err(malformed) => lines::of_malformed(malformed),
-    }
+    let mut page = Page::new();
+    let day = inverter::day(text, &mut minutes);
+    lines::put_day(&mut page, day, &minutes);
+    page
 }
 
 // Of each minute the junction temperature at its end, s, k and r, a line each; or the line that makes the text no day.
 // Beside day_page: a closure for what is put would need a contract longer than the lines that it saves.
 pub fn minutes_page(text: &[u8]) -> Page
-    ensures { result ≡ spec.minutes_page text.now }
+    ensures text { result ≡ spec.minutes_page text.now }
+    ensures len { length result ≤ spec.room }
 {
     let mut minutes = [Minute::default(); 1440];
-    match inverter::day(text, &mut minutes) {
-        Ok(_) => lines::of_minutes(&minutes),
-        Err(malformed) => lines::of_malformed(malformed),
-    }
+    let mut page = Page::new();
+    let day = inverter::day(text, &mut minutes);
+    lines::put_minutes(&mut page, day, &minutes);
+    page
 }
 
 // Writes the first of these, all of it at once.

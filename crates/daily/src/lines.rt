@@ -1,6 +1,6 @@
 // The lines that are written of a day, put on a page. Each function says what it adds and how long that is at most, and asks for
 // so much room: the numbers differ, so that no type could hold them.
-ghost use Rattle.std.specs.Prelude.{◌≡◌, ◌+◌, ◌*◌, ◌≤◌, ◌++◌, length};
+ghost use Rattle.std.specs.Prelude.{◌≡◌, ◌+◌, ◌*◌, ◌≤◌, [], ◌++◌, length};
 ghost use Rattle.accounts.specs.Accounts.{refused_minute, listed};
 ghost use Rattle.inverter.specs.Day.{columns};
 ghost use Rattle.daily.specs.Written as spec;
@@ -93,33 +93,40 @@ fn put_if_refused(page: &mut Page, minute: u64, number: u64)
 #[tactic(auto, using(crate::proofs::Writing::refused_none_yet, crate::proofs::Writing::refused_more, crate::proofs::Writing::refused_all))]
 fn put_refusals(page: &mut Page, minutes: &[Minute])
     requires { length page.old + 62 * length minutes.now ≤ spec.room }
-    ensures { page.new ≡ page.old ++ spec.refusal_lines (listed 0 (columns minutes.now).refusals) }
+    ensures text { page.new ≡ page.old ++ spec.refusal_lines (listed 0 (columns minutes.now).refusals) }
+    ensures len { length page.new ≤ length page.old + 62 * length minutes.now }
 {
     for (i, minute) in minutes.iter().enumerate() {
         put_if_refused(page, i as u64, minute.refusal);
     }
 }
 
-pub fn of_day(total: Total, minutes: &[Minute; 1440]) -> Page
-    ensures { result ≡ spec.heading total ++ spec.counts total
-        ++ spec.refusal_lines (listed 0 (columns minutes.now).refusals) }
-{
-    let mut page = Page::new();
-    put_heading(&mut page, total);
-    put_counts(&mut page, total);
-    put_refusals(&mut page, minutes);
-    page
-}
-
 #[tactic(auto, unfolding(crate::specs::Written::malformed_line))]
-pub fn of_malformed(malformed: Malformed) -> Page
-    ensures { result ≡ spec.malformed_line malformed.line }
+fn put_malformed(page: &mut Page, malformed: Malformed)
+    requires { length page.old + 49 ≤ spec.room }
+    ensures text { page.new ≡ page.old ++ spec.malformed_line malformed.line }
+    ensures len { length page.new ≤ length page.old + 49 }
 {
-    let mut page = Page::new();
     page.put(b"malformed at line ");
     page.put_decimal(malformed.line as u64);
     page.put(b", no total\n");
-    page
+}
+
+// The total and each refused minute, or the line that makes the text no day.
+#[tactic(auto, unfolding(crate::specs::Written::day_text))]
+pub fn put_day(page: &mut Page, day: Result<Total, Malformed>, minutes: &[Minute; 1440])
+    requires { page.old ≡ [] }
+    ensures text { page.new ≡ spec.day_text day (columns minutes.now).refusals }
+    ensures len { length page.new ≤ spec.room }
+{
+    match day {
+        Ok(total) => {
+            put_heading(page, total);
+            put_counts(page, total);
+            put_refusals(page, minutes);
+        }
+        Err(malformed) => put_malformed(page, malformed),
+    }
 }
 
 // A number after a space.
@@ -150,13 +157,26 @@ fn put_minute(page: &mut Page, minute: &Minute)
 
 // A line for each minute.
 #[tactic(auto, using(crate::proofs::Writing::told_none, crate::proofs::Writing::told_more), unfolding(crate::proofs::Writing::told_lines))]
-pub fn of_minutes(minutes: &[Minute; 1440]) -> Page
-    ensures { let told = columns minutes.now in
-        result ≡ spec.minute_lines told.junctions told.stages told.passes told.scaled_radii 1440 }
+fn put_each_minute(page: &mut Page, minutes: &[Minute; 1440])
+    requires { page.old ≡ [] }
+    ensures text { let told = columns minutes.now in
+        page.new ≡ spec.minute_lines told.junctions told.stages told.passes told.scaled_radii 1440 }
+    ensures len { length page.new ≤ spec.room }
 {
-    let mut page = Page::new();
     for minute in minutes {
-        put_minute(&mut page, minute);
+        put_minute(page, minute);
     }
-    page
+}
+
+// A line for each minute, or the line that makes the text no day.
+#[tactic(auto, unfolding(crate::specs::Written::minutes_text))]
+pub fn put_minutes(page: &mut Page, day: Result<Total, Malformed>, minutes: &[Minute; 1440])
+    requires { page.old ≡ [] }
+    ensures text { page.new ≡ spec.minutes_text day (columns minutes.now) }
+    ensures len { length page.new ≤ spec.room }
+{
+    match day {
+        Ok(_) => put_each_minute(page, minutes),
+        Err(malformed) => put_malformed(page, malformed),
+    }
 }

@@ -2,6 +2,8 @@
 // them, the first, the fourth, the fifth and the sixth.
 #![tactic(auto)]
 
+ghost use Rattle.std.specs.Prelude.{◌≤◌, length};
+
 use std::env::{Env, FillError};
 use std::fs::File;
 use std::io::{Eprint, Stdout, Write};
@@ -18,7 +20,9 @@ fn arg_count(rt: &HostRuntime) -> usize {
 }
 
 // An argument, in this buffer; empty where it is missing or longer.
-fn arg<'a>(rt: &HostRuntime, argument: usize, buffer: &'a mut [u8; 4096]) -> &'a [u8] {
+fn arg<'a>(rt: &HostRuntime, argument: usize, buffer: &'a mut [u8; 4096]) -> &'a [u8]
+    ensures { length result.now ≤ 4096 }
+{
     let length = rt.arg(argument, buffer).unwrap_or(0);
     &buffer[..length]
 }

@@ -1,3 +1,4 @@
+pub mod FromTheBack
 pub mod Digits
 pub mod OneText
 pub mod ReadBack

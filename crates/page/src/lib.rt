@@ -70,20 +70,20 @@ impl<const N: usize> Page<N> {
         self.end += 1;
     }
 
-    // The last k digits of n in a base up to 16, the highest first. Not by write!: it promises its text with an Ok alone, and
-    // nothing promises the Ok.
-    #[tactic(auto, unfolding(crate::specs::Page::digits))]
+    // The last k digits of n in a base up to 16, the highest first: put from the last one on, since a call for each digit would
+    // take stack for each. Not by write!: it promises its text with an Ok alone, and nothing promises the Ok.
     pub fn put_digits(&mut self, base: u64, k: usize, n: u64)
         requires base_nonzero { (0 < base) × (base ≤ 16) }
         requires room { length self.old + k ≤ N }
         ensures text { self.new ≡ self.old ++ spec.digits base k n }
         ensures len { length self.new ≡ length self.old + k }
     {
-        if k == 0 {
-            return;
+        let mut rest = n;
+        for i in (0..k).rev() {
+            self.bytes[self.end + i] = glyph((rest % base) as u8);
+            rest /= base;
         }
-        self.put_digits(base, k - 1, n / base);
-        self.push(glyph((n % base) as u8));
+        self.end += k;
     }
 
     // A number in decimal, without leading zeros.

@@ -1,4 +1,6 @@
 // A call read from the trace and made.
+ghost use Rattle.std.specs.Prelude.{◌≤◌, length};
+
 use crate::trace::Words;
 use driver::{Counters, Record, Replied};
 use workspace::Arguments;
@@ -24,7 +26,9 @@ pub enum Call<'a> {
 }
 
 // Reads a vector, whose length stands before it.
-fn bring<'a>(words: &mut Words<'_>, brought: &'a mut [f64]) -> &'a [f64] {
+fn bring<'a>(words: &mut Words<'_>, brought: &'a mut [f64]) -> &'a [f64]
+    ensures { length result.now ≤ length brought.old }
+{
     let length = (words.word() as usize).min(brought.len());
     words.doubles(&mut brought[..length]);
     &brought[..length]

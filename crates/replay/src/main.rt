@@ -76,10 +76,9 @@ impl<'a> Replay<'a> {
         self.comparison.count_session();
     }
 
-    // Makes the call of this number, in the area that it is lent, and compares.
-    fn call(&mut self, number: u64) {
-        let mut brought = [0.0; 513];
-        let call = Call::read(number, &mut self.words, &mut brought);
+    // Makes the call of this number, in the area that it is lent, and compares. What it brings is put into `brought`.
+    fn call(&mut self, number: u64, brought: &mut [f64]) {
+        let call = Call::read(number, &mut self.words, brought);
         let family = call.family(&self.session.engine);
         let end = workspace::vector_count(family)
             .saturating_mul(self.session.n)
@@ -117,13 +116,14 @@ impl<'a> Replay<'a> {
 
     // All sessions. Each turn takes at least one word.
     fn run(&mut self) {
+        let mut brought = [0.0; 513];
         for _ in 0..self.words.count() {
             if self.words.at_end() {
                 break;
             }
             match self.words.word() {
                 0 => self.begin(),
-                number => self.call(number),
+                number => self.call(number, &mut brought),
             }
         }
     }

@@ -2,12 +2,19 @@
 // The file stdout beside this was written by the Rust (bindings/oracle/src/bin/digests.rs).
 #![tactic(auto)]
 
-ghost use Rattle.std.specs.Prelude.{◌+◌, ◌-◌, ◌^◌, ◌<◌, ◌≤◌};
+ghost use Rattle.std.specs.Prelude.{◌≡◌, ◌+◌, ◌-◌, ◌*◌, ◌%◌, ◌^◌, ◌<◌, ◌≤◌};
 ghost use Rattle.std.specs.Iterator.{at_most};
 
 use coefficients::{Coefficients, Recurrence};
 use family::{Family, Setting};
 use std::io;
+
+// FNV-1a's product, to 64 bits: by 2 ^ 40 + 0x1b3.
+fn times_prime(h: u64) -> u64
+    ensures { result ≡ h * 1099511628211 % 2 ^ 64 }
+{
+    h.wrapping_mul(0x100_0000_01b3)
+}
 
 // FNV-1a over doubles: over the eight bytes of each, the lowest first.
 #[derive(Drop)]
@@ -20,7 +27,7 @@ impl Digest {
 
     fn add(&mut self, x: f64) {
         for byte in ieee::bits_of(x).to_le_bytes() {
-            self.0 = (self.0 ^ u64::from(byte)).wrapping_mul(0x100_0000_01b3);
+            self.0 = times_prime(self.0 ^ u64::from(byte));
         }
     }
 

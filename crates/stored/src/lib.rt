@@ -65,6 +65,14 @@ impl Tally {
     }
 }
 
+// How many were compared, what stands between, as bytes, and how many differ.
+pub fn print_tally(rt: &impl Print, tally: Tally, what: &[u8]) -> io::Result<()> {
+    rt.print(tally.seen)?;
+    rt.write_all(what)?;
+    rt.print(tally.differ)?;
+    rt.write_all(b" differ\n")
+}
+
 // Tells on the error stream what failed, as the caller names it, and why.
 pub fn fail(rt: &impl Eprint, what: &str, error: io::Error) -> io::Result<()> {
     eprintln!(rt; "{what}: {error}")

@@ -1,13 +1,7 @@
 -- What is put is the definition's of the report, of which the lists begin blank.
-use Rattle.std.proofs.Common.{◌∙◌}
-use Rattle.daily.specs.Written.{minutes_text}
+use Rattle.std.proofs.Common.{refl, ◌∙◌}
 use Rattle.daily.proofs.Pages.{blank, minutes_written}
 use Rattle.daily.proofs.minutes_page.Goals as goal
 
-pub returns-in-Ok : goal.returns-in-Ok
-unfolding minutes_text
-returns-in-Ok c = c.of_minutes.ensures ∙ minutes_written _ _ (blank c.default-minutes.result c.default-minutes.ensures) c.in-Ok.is c.day.ensures
-
-pub returns-in-Err : goal.returns-in-Err
-unfolding minutes_text
-returns-in-Err c = c.of_malformed.ensures ∙ minutes_written _ _ (blank c.default-minutes.result c.default-minutes.ensures) c.in-Err.is c.day.ensures
+pub returns-clause-text : goal.returns-clause-text
+returns-clause-text c = c.put_minutes.ensures.text ∙ minutes_written _ _ (blank c.default-minutes.result c.default-minutes.ensures) refl c.day-day.ensures
