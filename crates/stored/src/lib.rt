@@ -65,7 +65,7 @@ impl Tally {
     }
 }
 
-// How many were compared, what stands between, as bytes, and how many differ.
+// The same with any bytes between the two numbers, which need be no text.
 pub fn print_tally(rt: &impl Print, tally: Tally, what: &[u8]) -> io::Result<()> {
     rt.print(tally.seen)?;
     rt.write_all(what)?;
